@@ -4,6 +4,7 @@ use mathlib.Core.List.{List, [], _∷_, map}
 use Prim.Native.Nat.{ℕ, zero, suc, _+_, _*_, _-_, _/_, _%_, _^_}
 use lib.Dec.{leb, ltb, eqb}
 use Rattle.slices.specs.Lists.{range}
+use Rattle.codes.specs.Tables.{when}
 
 abbrev pub deepest : ℕ
 deepest = 16
@@ -55,19 +56,15 @@ ancestors d k = upwards (levelOf k) d k
 abbrev pub under : ℕ → ℕ → ℕ → Bool
 under d k j = leb (levelOf k) (levelOf j) && eqb (above d (levelOf j - levelOf k) (codeOf j)) (codeOf k)
 
--- Each number of axes has three figures of its own, 0 where it is not 1 to 3
-abbrev pub forAxes : Bool → ℕ → ℕ
-forAxes true n = n
-forAxes false n = 0
-
+-- Each number of axes has three figures of its own; 0 where it is not 1 to 3.
 -- 2, 4, 8
 abbrev pub childrenRoom : ℕ → ℕ
-childrenRoom d = forAxes (axesKnown d) (2 ^ d)
+childrenRoom d = when (axesKnown d) (2 ^ d)
 
 -- 2, 8, 26
 abbrev pub neighboursRoom : ℕ → ℕ
-neighboursRoom d = forAxes (axesKnown d) (3 ^ d - 1)
+neighboursRoom d = when (axesKnown d) (3 ^ d - 1)
 
 -- 3, 27, 189
 abbrev pub farRoom : ℕ → ℕ
-farRoom d = forAxes (axesKnown d) (6 ^ d - 3 ^ d)
+farRoom d = when (axesKnown d) (6 ^ d - 3 ^ d)

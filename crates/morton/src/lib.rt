@@ -1,4 +1,4 @@
-// Keys of cells.
+// Keys of cells: document 01's key algebra, from `morton_constants.rs` and the whole-number half of `morton.rs`.
 ghost use mathlib.Core.Path.{_≡_};
 ghost use Rattle.morton.specs.Keys.{levelOf};
 
