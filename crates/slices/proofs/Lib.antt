@@ -1,3 +1,6 @@
 pub mod Tests
 pub mod Counts
+pub mod Sorted
 pub mod Rows
+pub mod Parts
+pub mod Zeros

@@ -1,6 +1,9 @@
 // What is done with any lent slice of numbers.
 ghost use mathlib.Core.Path.{_≡_};
-ghost use lib.ListN.{length, replicate};
+ghost use Prim.Native.Nat.{_-_};
+ghost use mathlib.Core.List.{_++_};
+ghost use lib.ListN.{length, take, replicate};
+ghost use Rattle.slices.specs.Order.{LowerBound, InRange};
 
 // Sets every element to 0.
 pub fn clear(s: &mut [u64])
@@ -11,4 +14,60 @@ pub fn clear(s: &mut [u64])
         s[i] = 0;
         i += 1;
     }
+}
+
+// Sets every element from place `from` on to 0.
+pub fn clear_from(s: &mut [u64], from: usize)
+    ensures { λ _. ⌜ now (s .exit) ≡ take from (now (s .entry)) ++ replicate (length (now (s .entry)) - from) 0 ⌝ }
+{
+    if from < s.len() {
+        clear(&mut s[from..]);
+    }
+}
+
+// Sets every element to 0.
+pub fn clear_usize(s: &mut [usize])
+    ensures { λ _. ⌜ now (s .exit) ≡ replicate (length (now (s .entry))) 0 ⌝ }
+{
+    let mut i = 0;
+    while i < s.len() {
+        s[i] = 0;
+        i += 1;
+    }
+}
+
+// Sets every element from place `from` on to 0.
+pub fn clear_from_usize(s: &mut [usize], from: usize)
+    ensures { λ _. ⌜ now (s .exit) ≡ take from (now (s .entry)) ++ replicate (length (now (s .entry)) - from) 0 ⌝ }
+{
+    if from < s.len() {
+        clear_usize(&mut s[from..]);
+    }
+}
+
+// In a sorted slice: how many elements are below x, which is the first place of one that is not.
+// The answer is always from lo to lo + n. A turn takes half of n away with no jump that depends on the element.
+pub fn lower_bound(s: &[u64], x: u64) -> usize
+    ensures { λ r. ⌜ LowerBound (now (s .entry)) x r ⌝ }
+{
+    let mut lo: usize = 0;
+    let mut n = s.len();
+    while 0 < n {
+        let half = n >> 1;
+        let step = n - half;
+        n = half;
+        if s[lo + half] < x {
+            lo += step;
+        }
+    }
+    lo
+}
+
+// In a sorted slice: how many elements c have lo <= c < hi.
+pub fn count_in(s: &[u64], lo: u64, hi: u64) -> usize
+    ensures { λ r. ⌜ InRange (now (s .entry)) lo hi r ⌝ }
+{
+    let a = lower_bound(s, lo);
+    let b = lower_bound(s, hi);
+    if a < b { b - a } else { 0 }
 }
