@@ -4,3 +4,6 @@ pub mod Sorted
 pub mod Rows
 pub mod Parts
 pub mod Zeros
+pub mod Order
+mod Steps
+pub mod Rises

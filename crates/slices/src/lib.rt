@@ -3,7 +3,9 @@ ghost use mathlib.Core.Path.{_≡_};
 ghost use Prim.Native.Nat.{_-_};
 ghost use mathlib.Core.List.{_++_};
 ghost use lib.ListN.{length, take, replicate};
-ghost use Rattle.slices.specs.Order.{LowerBound, InRange};
+ghost use Rattle.slices.specs.Order.{ascending, rises, LowerBound, InRange};
+
+mod sorting;
 
 // Sets every element to 0.
 pub fn clear(s: &mut [u64])
@@ -70,4 +72,34 @@ pub fn count_in(s: &[u64], lo: u64, hi: u64) -> usize
     let a = lower_bound(s, lo);
     let b = lower_bound(s, hi);
     if a < b { b - a } else { 0 }
+}
+
+// Whether no element is below the one before it.
+pub fn is_ascending(s: &[u64]) -> bool
+    ensures { λ r. ⌜ r ≡ rises (now (s .entry)) ⌝ }
+{
+    if s.len() == 0 {
+        return true;
+    }
+    let mut x = s[0];
+    let mut i: usize = 1;
+    while i < s.len() {
+        let y = s[i];
+        if y < x {
+            return false;
+        }
+        x = y;
+        i += 1;
+    }
+    true
+}
+
+// Puts the elements in ascending order. A slice that is in order is read once.
+pub fn sort(s: &mut [u64])
+    ensures { λ _. ⌜ now (s .exit) ≡ ascending (now (s .entry)) ⌝ }
+{
+    if !is_ascending(s) {
+        let r = sorting::span(s);
+        sorting::sort_range(s, r.least, r.greatest);
+    }
 }
