@@ -1,8 +1,11 @@
 -- Tests as facts: `search (and-l, and-r)` takes a chain of && apart.
 use mathlib.Core.Path.{_≡_, refl}
 use mathlib.Core.Bool.{Bool, true, false, _&&_}
-use Prim.Native.Nat.{ℕ}
+use mathlib.Core.Logic.{_⊎_, inl, inr, ⊎-elim, _≢_}
+use Prim.Native.Nat.{ℕ, _≤_, _<_}
 use native.Mathlib.Omega.{arith}
+use lib.Dec.{ltb}
+use borrow.Author.Tests.{ltb-true, ltb-false}
 
 pub and-l : (a b : Bool) → (a && b) ≡ true → a ≡ true
 and-l true b h = refl
@@ -21,3 +24,14 @@ clash p q = let z : _≡_ {A = ℕ} 0 1 = cc in omega arith
 pub refute : {a : Bool} → (a ≡ true → ⊥) → a ≡ false
 refute {a = true} h = absurd (h refl)
 refute {a = false} h = refl
+
+-- which of two numbers is less, and whether they are the same
+pub lt-or-le : (a b : ℕ) → (a < b) ⊎ (b ≤ a)
+lt-or-le a b = go (ltb a b) refl
+  where
+    go : (t : Bool) → ltb a b ≡ t → (a < b) ⊎ (b ≤ a)
+    go true e = inl (ltb-true a b e)
+    go false e = inr (ltb-false a b e)
+
+pub same-or-not : (a b : ℕ) → (a ≡ b) ⊎ (a ≢ b)
+same-or-not a b = ⊎-elim (λ h. inr (omega arith)) (λ h. ⊎-elim (λ g. inr (omega arith)) (λ g. inl (omega arith)) (lt-or-le b a)) (lt-or-le a b)
