@@ -1,16 +1,16 @@
 -- Document 01, "Keys": the anchors of a cell, and which cells touch.
 use mathlib.Core.Bool.{Bool, true, false, _&&_}
-use mathlib.Core.List.{List, map}
+use mathlib.Core.List.{List}
 use Prim.Native.Nat.{ℕ, zero, suc, _+_, _*_, _-_, _/_, _%_, _^_, min}
 use lib.Dec.{leb, ltb, eqb}
 use lib.ListN.{getD}
-use Rattle.slices.specs.Lists.{range}
-pub use Rattle.codes.specs.Codes.{anchor, spread, encode}
+unfoldable pub use Rattle.codes.specs.Codes.{anchor, spread, encode}
+pub use Rattle.codes.specs.Codes.{anchorsOf}
 use Rattle.morton.specs.Keys.{key, levelOf, codeOf, above}
 
 -- a cell's anchors, one an axis
 abbrev pub anchors : ℕ → ℕ → List ℕ
-anchors d k = map (λ a. anchor d a (levelOf k) (codeOf k)) (range 0 d)
+anchors d k = anchorsOf d (levelOf k) (codeOf k)
 
 -- the key of the cell with the anchors xs
 abbrev pub keyAt : ℕ → ℕ → List ℕ → ℕ

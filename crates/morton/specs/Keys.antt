@@ -1,7 +1,7 @@
 -- Document 01, "Keys". A cell is a level and a code, and its key holds both; d is the number of axes.
 use mathlib.Core.Bool.{Bool, true, false, _&&_}
 use mathlib.Core.List.{List, [], _∷_, map}
-use Prim.Native.Nat.{ℕ, zero, suc, _+_, _*_, _-_, _/_, _%_, _^_}
+use Prim.Native.Nat.{ℕ, zero, suc, _+_, _*_, _-_, _/_, _%_, _^_, _≤_, _<_}
 use lib.Dec.{leb, ltb, eqb}
 use Rattle.slices.specs.Lists.{range}
 use Rattle.codes.specs.Tables.{when}
@@ -24,6 +24,13 @@ axesKnown d = leb 1 d && leb d 3
 
 abbrev pub valid : ℕ → ℕ → Bool
 valid d k = leb (levelOf k) deepest && ltb (codeOf k) (2 ^ (d * levelOf k))
+
+-- the same as facts: 1 to 3 axes and a valid key
+pub record ValidKey (d k : ℕ) : Type 0 where
+  pub some : 1 ≤ d
+  pub most : d ≤ 3
+  pub level : levelOf k ≤ 16
+  pub code : codeOf k < 2 ^ (d * levelOf k)
 
 -- the code of the cell n levels above one with this code
 abbrev pub above : ℕ → ℕ → ℕ → ℕ
