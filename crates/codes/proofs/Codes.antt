@@ -108,7 +108,15 @@ pub encode-cut : (n d m : ℕ) (xs los : List ℕ) → ((a : ℕ) → a < n → 
 unfolding encode
 encode-cut zero d m xs los lo = refl
 encode-cut (suc n) d m xs los lo =
-    ap₂ (λ (p q : ℕ). p + 2 ^ n * q) (encode-cut n d m xs los (λ a h. lo a (omega arith))) (ap (spread d m) (lo n (omega arith)) ∙ spread-cut d m (getD xs n 0))
+    ap₂ (λ (p q : ℕ). p + 2 ^ n * q) (encode-cut n d m xs los (λ a h. lo a (omega arith)))
+    (ap (spread d m) (lo n (omega arith)) ∙ spread-cut d m (getD xs n 0))
+
+-- the code of the first n axes reads no more than their anchors
+pub encode-same : (n d m : ℕ) (xs ys : List ℕ) → ((a : ℕ) → a < n → getD ys a 0 ≡ getD xs a 0) → encode n d m ys ≡ encode n d m xs
+unfolding encode
+encode-same zero d m xs ys same = refl
+encode-same (suc n) d m xs ys same =
+    ap₂ (λ (p q : ℕ). p + 2 ^ n * spread d m q) (encode-same n d m xs ys (λ a h. same a (omega arith))) (same n (omega arith))
 
 -- anchors that end below bit m have the same code at every level from m on
 pub encode-ends : (n d m k : ℕ) (xs : List ℕ) → ((a : ℕ) → a < n → getD xs a 0 < 2 ^ m) → encode n d (m + k) xs ≡ encode n d m xs
