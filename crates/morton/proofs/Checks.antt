@@ -16,7 +16,8 @@ use Rattle.refusal.specs.Chain.{unless}
 use Rattle.refusal.proofs.Chain.{passed, later}
 use Rattle.slices.proofs.Tests.{and-l, and-r, both}
 use Rattle.morton.specs.Keys.{axesKnown, valid, ValidKey, levelOf, codeOf}
-use Rattle.morton.specs.Answers.{keyCheck}
+use Rattle.morton.specs.Anchors.{onLevel}
+use Rattle.morton.specs.Answers.{keyCheck, anchorCheck}
 
 pub axes-known : (d : ℕ) → 1 ≤ d → d ≤ 3 → axesKnown d ≡ true
 axes-known d l h = both (le-leb 1 d l) (le-leb d 3 h)
@@ -90,3 +91,10 @@ check-first d k o r e = go (axesKnown d) (valid d k) e
     go true true e = let z : _≡_ {A = ℕ} 0 1 = cc in absurd (omega arith)
     go true false e = e
     go false v e = e
+
+-- anchors that are not refused are on a valid level
+pub anchor-checked : (d level : ℕ) (xs : List ℕ) → anchorCheck d level xs ≡ Done → (1 ≤ d) × (d ≤ 3) × (level ≤ 16) × (onLevel d level xs ≡ true)
+anchor-checked d level xs e =
+    let f = axes-facts d (passed _ _ _ e) in
+    let g = passed (leb level 16 && onLevel d level xs) Key Done (later (axesKnown d) _ _ e) in
+    (f .0, f .1, leb-true level 16 (and-l _ _ g), and-r (leb level 16) _ g)

@@ -1,7 +1,8 @@
 pub mod Cells
-pub mod Touching
+pub mod Nearness
 pub mod Checks
 pub mod Answers
 pub mod Arithmetic
+pub mod Placing
 pub mod Runs
 pub mod ProvedTable

@@ -4,9 +4,10 @@ use mathlib.Core.Bool.{Bool, true, false}
 use mathlib.Core.List.{List, [], _∷_, map}
 use Prim.Native.Nat.{ℕ, zero, suc}
 use Rattle.slices.specs.Lists.{range, filter}
+use Rattle.slices.specs.Every.{every}
 use Rattle.morton.specs.Keys.{valid, parent, children, childIndex, levelOf, codeOf, ancestors}
 use Rattle.morton.specs.Anchors.{keyAt, encode, spread, anchor}
-use Rattle.morton.specs.Directions.{neighbours, directions, stays, moved, step}
+use Rattle.morton.specs.Directions.{neighbours}
 use Rattle.morton.specs.Depth.{referenceDepth, depthFrom}
 
 pub proved-table :
@@ -23,5 +24,5 @@ pub proved-table :
     × (referenceDepth 3 0 ≡ 1) × (referenceDepth 3 8 ≡ 1) × (referenceDepth 3 9 ≡ 2)
     × (referenceDepth 2 16 ≡ 2) × (referenceDepth 2 17 ≡ 3)
     × (referenceDepth 1 65537 ≡ 16)
-unfolding encode spread anchor range filter stays moved step depthFrom
+unfolding encode spread anchor range filter every depthFrom
 proved-table = (refl, refl, refl, refl, refl, refl, refl, refl, refl, refl, refl, refl, refl, refl, refl, refl, refl, refl)

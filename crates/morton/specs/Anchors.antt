@@ -1,9 +1,11 @@
 -- Document 01, "Keys": the anchors of a cell, and which cells touch.
 use mathlib.Core.Bool.{Bool, true, false, _&&_}
 use mathlib.Core.List.{List}
-use Prim.Native.Nat.{ℕ, zero, suc, _+_, _*_, _-_, _/_, _%_, _^_, min}
+use mathlib.Core.Path.{_≡_}
+use Prim.Native.Nat.{ℕ, zero, suc, _+_, _*_, _-_, _/_, _%_, _^_, _≤_, _<_, min}
 use lib.Dec.{leb, ltb, eqb}
 use lib.ListN.{getD}
+use Rattle.slices.specs.Every.{every}
 unfoldable pub use Rattle.codes.specs.Codes.{anchor, spread, encode}
 pub use Rattle.codes.specs.Codes.{anchorsOf}
 use Rattle.morton.specs.Keys.{key, levelOf, codeOf, above}
@@ -16,10 +18,9 @@ anchors d k = anchorsOf d (levelOf k) (codeOf k)
 abbrev pub keyAt : ℕ → ℕ → List ℕ → ℕ
 keyAt d level xs = key level (encode d d level xs)
 
--- on each of the first n axes the anchor is one of its level, 0 to 2 ^ level - 1
-unfoldable pub onLevel : ℕ → ℕ → List ℕ → Bool
-onLevel zero level xs = true
-onLevel (suc n) level xs = ltb (getD xs n 0) (2 ^ level) && onLevel n level xs
+-- on each axis the anchor is one of its level, 0 to 2 ^ level - 1
+abbrev pub onLevel : ℕ → ℕ → List ℕ → Bool
+onLevel d level xs = every d (λ a. ltb (getD xs a 0) (2 ^ level))
 
 -- two numbers differ by at most 1
 abbrev pub within1 : ℕ → ℕ → Bool
@@ -27,9 +28,8 @@ within1 x y = leb x (y + 1) && leb y (x + 1)
 
 -- two codes of one level: on each of the first n axes their anchors differ by at most 1
 unfoldable pub near : ℕ → ℕ → ℕ → ℕ → ℕ → Bool
-unfolding anchor
-near zero d level x y = true
-near (suc n) d level x y = within1 (anchor d n level x) (anchor d n level y) && near n d level x y
+unfolding every anchor
+near n d level x y = every n (λ a. within1 (anchor d a level x) (anchor d a level y))
 
 -- touching: same level, anchors differing by at most 1 on every axis
 abbrev pub touching : ℕ → ℕ → ℕ → Bool
@@ -38,3 +38,8 @@ touching d j k = eqb (levelOf j) (levelOf k) && near d d (levelOf j) (codeOf j) 
 -- cells j and k, both taken at the coarser one's level, coincide or touch
 abbrev pub close : ℕ → ℕ → ℕ → Bool
 close d j k = let l = min (levelOf j) (levelOf k) in near d d l (above d (levelOf j - l) (codeOf j)) (above d (levelOf k - l) (codeOf k))
+
+-- ys has the anchors of xs on the axes, and 0 past them
+pub record OnAxes (d : ℕ) (xs ys : List ℕ) : Type 0 where
+  pub same : (a : ℕ) → a < d → getD ys a 0 ≡ getD xs a 0
+  pub past : (a : ℕ) → d ≤ a → getD ys a 0 ≡ 0

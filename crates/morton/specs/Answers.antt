@@ -51,6 +51,14 @@ belowRoot k = unless (ltb 0 (levelOf k)) Root Done
 abbrev pub aboveDeepest : ℕ → Outcome
 aboveDeepest k = unless (ltb (levelOf k) deepest) Deep Done
 
+-- a level not valid, or an anchor off its level, is 9 too
+abbrev pub anchorCheck : ℕ → ℕ → List ℕ → Outcome
+anchorCheck d level xs = unless (axesKnown d) Dims (unless (leb level deepest && onLevel d level xs) Key Done)
+
+-- and so is either of two keys
+abbrev pub pairCheck : ℕ → ℕ → ℕ → Outcome
+pairCheck d j k = keyCheck d j (keyCheck d k Done)
+
 -- ---- the calls
 
 abbrev pub levelAnswer : ℕ → ℕ → NumberAnswer
@@ -77,9 +85,8 @@ neighboursAnswer d k = listed (keyCheck d k Done) (neighbours d k)
 abbrev pub decodeAnswer : ℕ → ℕ → AnchorAnswer
 decodeAnswer d k = placed (keyCheck d k Done) (anchors d k) (levelOf k)
 
--- a level not valid, or an anchor off its level, is 9 too
 abbrev pub encodeAnswer : ℕ → ℕ → List ℕ → NumberAnswer
-encodeAnswer d level xs = numbered (unless (axesKnown d) Dims (unless (leb level deepest && onLevel d level xs) Key Done)) (keyAt d level xs)
+encodeAnswer d level xs = numbered (anchorCheck d level xs) (keyAt d level xs)
 
 abbrev pub touchingAnswer : ℕ → ℕ → ℕ → TouchAnswer
-touchingAnswer d j k = truth (keyCheck d j (unless (valid d k) Key Done)) (touching d j k)
+touchingAnswer d j k = truth (pairCheck d j k) (touching d j k)

@@ -6,13 +6,14 @@ use lib.Dec.{leb, ltb, eqb}
 use lib.IntN.{ℤ, pos, negsuc}
 use lib.ListN.{length, getD}
 use Rattle.slices.specs.Lists.{filter, range}
-use Rattle.morton.specs.Keys.{key, levelOf, codeOf}
-use Rattle.morton.specs.Anchors.{anchor, encode, keyAt}
+use Rattle.slices.specs.Every.{every}
+use Rattle.morton.specs.Keys.{levelOf}
+use Rattle.morton.specs.Anchors.{anchors, keyAt}
 
 abbrev minus : ℤ
 minus = negsuc 0
 
-abbrev none : ℤ
+abbrev pub none : ℤ
 none = pos 0
 
 abbrev plus : ℤ
@@ -42,26 +43,28 @@ raised (negsuc n) = 0
 raised (pos zero) = 1
 raised (pos (suc n)) = 2
 
--- row i's step on axis a, raised
-unfoldable pub step : ℕ → ℕ → ℕ → ℕ
-step d i a = raised (getD (getD (directions d) i []) a none)
+-- one more than the anchor on axis a, one step along a row from the anchors xs
+abbrev pub ahead : List ℕ → List ℤ → ℕ → ℕ
+ahead xs steps a = getD xs a 0 + raised (getD steps a none)
 
--- row i from code at a level stays in the box on each of the first n axes
-unfoldable pub stays : ℕ → ℕ → ℕ → ℕ → ℕ → Bool
-unfolding step
-stays zero d level code i = true
-stays (suc n) d level code i = (ltb 0 (anchor d n level code + step d i n) && leb (anchor d n level code + step d i n) (2 ^ level)) && stays n d level code i
+-- on each axis that anchor is one of the level, 0 to 2 ^ level - 1
+abbrev pub stays : ℕ → ℕ → List ℕ → List ℤ → Bool
+stays d level xs steps = every d (λ a. ltb 0 (ahead xs steps a) && leb (ahead xs steps a) (2 ^ level))
 
--- the anchors one step along row i, on n axes from axis a on
-unfoldable pub moved : ℕ → ℕ → ℕ → ℕ → ℕ → ℕ → List ℕ
-unfolding step
-moved zero a d level code i = []
-moved (suc n) a d level code i = (anchor d a level code + step d i a - 1) ∷ moved n (suc a) d level code i
+abbrev pub moved : ℕ → List ℕ → List ℤ → List ℕ
+moved d xs steps = map (λ a. ahead xs steps a - 1) (range 0 d)
 
--- the cell along row i
+abbrev pub directionRow : ℕ → ℕ → List ℤ
+directionRow d i = getD (directions d) i []
+
+-- row i leads to a cell of the box
+abbrev pub onBox : ℕ → ℕ → ℕ → Bool
+onBox d k i = stays d (levelOf k) (anchors d k) (directionRow d i)
+
+-- which is this one
 abbrev pub toward : ℕ → ℕ → ℕ → ℕ
-toward d k i = keyAt d (levelOf k) (moved d 0 d (levelOf k) (codeOf k) i)
+toward d k i = keyAt d (levelOf k) (moved d (anchors d k) (directionRow d i))
 
 -- neighbours come in the order of the direction rows, those off the box left out
 abbrev pub neighbours : ℕ → ℕ → List ℕ
-neighbours d k = map (toward d k) (filter (stays d d (levelOf k) (codeOf k)) (range 0 (length (directions d))))
+neighbours d k = map (toward d k) (filter (onBox d k) (range 0 (length (directions d))))

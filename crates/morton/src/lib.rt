@@ -4,7 +4,11 @@ use refusal::Refusal;
 
 pub mod axes; // axes.rt: the figures of each number of axes
 pub mod keys; // keys.rt: level, parent, children, siblings, ancestors
+pub mod anchors; // anchors.rt: encode, decode, touching
 
+pub use anchors::decode_key;
+pub use anchors::encode_morton_point;
+pub use anchors::touching;
 pub use keys::get_ancestors;
 pub use keys::get_child_index;
 pub use keys::get_children;

@@ -7,6 +7,7 @@ use native.Mathlib.Nat.{mul-zero, mul-suc, mod-one, div-add-mod'}
 use lib.Dec.{leb, ltb, eqb}
 use lib.Pow.{mod-pow-add, shr-lt}
 use borrow.Author.Tests.{leb-true, le-leb}
+use Rattle.slices.specs.Every.{every}
 use Rattle.slices.proofs.Tests.{and-l, and-r, both}
 use Rattle.morton.specs.Keys.{above}
 use Rattle.morton.specs.Anchors.{anchor, within1, near}
@@ -21,12 +22,12 @@ pub within : (x y : ℕ) → x ≤ y + 1 → y ≤ x + 1 → within1 x y ≡ tru
 within x y p q = both (le-leb x (y + 1) p) (le-leb y (x + 1) q)
 
 pub near-root : (n d x y : ℕ) → near n d 0 x y ≡ true
-unfolding near anchor
+unfolding near every anchor
 near-root zero d x y = refl
 near-root (suc n) d x y = near-root n d x y
 
 pub near-up : (n d level x y : ℕ) → near n d (suc level) x y ≡ true → near n d level (x / 2 ^ d) (y / 2 ^ d) ≡ true
-unfolding near anchor
+unfolding near every anchor
 near-up zero d level x y h = refl
 near-up (suc n) d level x y h =
     let w : within1 (anchor d n (suc level) x) (anchor d n (suc level) y) ≡ true = and-l _ _ h in
@@ -37,7 +38,7 @@ near-up (suc n) d level x y h =
 
 -- siblings touch
 pub near-siblings : (n d level x y : ℕ) → x / 2 ^ d ≡ y / 2 ^ d → near n d (suc level) x y ≡ true
-unfolding near anchor
+unfolding near every anchor
 near-siblings zero d level x y e = refl
 near-siblings (suc n) d level x y e =
     let same = ap (anchor d n level) e in

@@ -1,0 +1,30 @@
+-- The first key's refusals come first.
+use mathlib.Core.Path.{_≡_, refl, sym, ap, _∙_}
+use Rattle.refusal.specs.declared.Outcome.the-variants.{Done}
+use Rattle.morton.specs.Answers.{keyCheck}
+use Rattle.morton.proofs.Checks.{check-more, check-first}
+use borrow.Author.Needs.{needs}
+use Rattle.morton.proofs.anchors.check_pair.Statement.{statement}
+use Rattle.morton.proofs.anchors.check_pair.Tie as tie
+
+check-key-requires : tie.Need-check-key-requires
+check-key-requires c κs = search needs
+
+enum-known-first : tie.Need-enum-known-first
+enum-known-first c = search needs
+
+enum-told : tie.Need-enum-told
+enum-told c = search needs
+
+check-key-requires-2 : tie.Need-check-key-requires-2
+check-key-requires-2 c κs = search needs
+
+returns : tie.Need-returns
+returns c = let s = c .before .before .before .before in sym (check-first (s .args .axes) (s .args .a) (keyCheck (s .args .axes) (s .args .b) Done) _ (sym (c .before .before .before .check-key .ensures) ∙ c .before .first .given .1))
+
+returns-2 : tie.Need-returns-2
+returns-2 c = let s = c .before .before .before .before in c .check-key2 .ensures ∙ sym (check-more (s .args .axes) (s .args .a) (keyCheck (s .args .axes) (s .args .b) Done) (sym (c .before .before .before .check-key .ensures) ∙ c .before .enum-told .given .1))
+
+pub check-pair-spec : {M : Type 1} → statement M
+check-pair-spec =
+    tie.close (tie.spec check-key-requires enum-known-first enum-told check-key-requires-2 returns returns-2)
