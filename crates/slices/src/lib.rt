@@ -27,23 +27,23 @@ pub fn clear_from(s: &mut [u64], from: usize)
     }
 }
 
-// Sets every element to 0.
-pub fn clear_usize(s: &mut [usize])
-    ensures { λ _. ⌜ now (s .exit) ≡ replicate (length (now (s .entry))) 0 ⌝ }
+// The same for a column of indices.
+pub fn clear_usize(column: &mut [usize])
+    ensures { λ _. ⌜ now (column .exit) ≡ replicate (length (now (column .entry))) 0 ⌝ }
 {
-    let mut i = 0;
-    while i < s.len() {
-        s[i] = 0;
-        i += 1;
+    let mut row = 0;
+    while row < column.len() {
+        column[row] = 0;
+        row += 1;
     }
 }
 
-// Sets every element from place `from` on to 0.
-pub fn clear_from_usize(s: &mut [usize], from: usize)
-    ensures { λ _. ⌜ now (s .exit) ≡ take from (now (s .entry)) ++ replicate (length (now (s .entry)) - from) 0 ⌝ }
+// The same for a column of indices.
+pub fn clear_from_usize(column: &mut [usize], from: usize)
+    ensures { λ _. ⌜ now (column .exit) ≡ take from (now (column .entry)) ++ replicate (length (now (column .entry)) - from) 0 ⌝ }
 {
-    if from < s.len() {
-        clear_usize(&mut s[from..]);
+    if from < column.len() {
+        clear_usize(&mut column[from..]);
     }
 }
 
@@ -82,14 +82,14 @@ pub fn is_ascending(s: &[u64]) -> bool
         return true;
     }
     let mut x = s[0];
-    let mut i: usize = 1;
-    while i < s.len() {
-        let y = s[i];
+    let mut next: usize = 1;
+    while next < s.len() {
+        let y = s[next];
         if y < x {
             return false;
         }
         x = y;
-        i += 1;
+        next += 1;
     }
     true
 }
