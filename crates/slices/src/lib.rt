@@ -48,7 +48,7 @@ pub fn clear_from_usize(column: &mut [usize], from: usize)
 }
 
 // In a sorted slice: how many elements are below x, which is the first place of one that is not.
-// The answer is always from lo to lo + n. A turn takes half of n away with no jump that depends on the element.
+// The answer is always from lo to lo + n, and each turn halves n.
 pub fn lower_bound(s: &[u64], x: u64) -> usize
     ensures { λ r. ⌜ LowerBound (now (s .entry)) x r ⌝ }
 {

@@ -1,5 +1,6 @@
 -- `slices::clear_usize` meets its contract, by the laws on `Clearing`.
 use Prim.Native.Nat.{_-_}
+use native.Mathlib.Omega.{arith}
 use borrow.Author.Needs.{needs}
 use lib.ListN.{length}
 use Rattle.slices.proofs.Zeros.{Clearing, clearing-none, clearing-more, clearing-all}
@@ -28,13 +29,13 @@ loop-less : tie.Need-loop-less Inv-loop μ-loop
 loop-less c = search needs
 
 loop-again : tie.Need-loop-again Inv-loop μ-loop
-loop-again c = clearing-more _ (c .before .loop .column) _ (c .before .loop .inv) (c .loop-test .taken)
+loop-again c = clearing-more _ (c .before .loop .column) _ (c .before .loop .inv) (omega arith)
 
 same-length : tie.Need-same-length Inv-loop μ-loop
 same-length c = search needs
 
 returns : tie.Need-returns Inv-loop μ-loop
-returns c = clearing-all _ _ _ (c .before .loop .inv) (c .loop-test .left)
+returns c = clearing-all _ _ _ (c .before .loop .inv) (omega arith)
 
 pub clear-usize-spec : {M : Type 1} → statement M
 clear-usize-spec = tie.close (tie.spec Inv-loop μ-loop loop-holds mul-column slice-write-column add-row loop-less loop-again same-length returns)

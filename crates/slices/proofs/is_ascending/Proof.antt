@@ -7,8 +7,6 @@ use Rattle.slices.specs.Order.{risesFrom, rises}
 use Rattle.slices.proofs.Rises.{rises-nil, rises-start, rises-on, rises-not, rises-end}
 use Rattle.slices.proofs.is_ascending.Statement.{statement}
 use Rattle.slices.proofs.is_ascending.Tie as tie
-use Rattle.slices.proofs.is_ascending.Reads as reads
-use Rattle.slices.proofs.is_ascending.Lts as lts
 
 abbrev Inv-loop : tie.InvT-loop
 Inv-loop s x₀ i₀ x i = (i ≤ length s) × (risesFrom x (drop i s) ≡ rises s)
