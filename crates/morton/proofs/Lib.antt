@@ -1,1 +1,7 @@
+pub mod Cells
+pub mod Touching
+pub mod Checks
+pub mod Answers
+pub mod Arithmetic
+pub mod Runs
 pub mod ProvedTable

@@ -1,26 +1,16 @@
--- Document 01, "Keys": the code and the anchors of a cell, and which cells touch.
+-- Document 01, "Keys": the anchors of a cell, and which cells touch.
 use mathlib.Core.Bool.{Bool, true, false, _&&_}
 use mathlib.Core.List.{List}
 use Prim.Native.Nat.{ℕ, zero, suc, _+_, _*_, _-_, _/_, _%_, _^_, min}
 use lib.Dec.{leb, ltb, eqb}
 use lib.ListN.{getD}
+unfoldable pub use Rattle.codes.specs.Codes.{anchor, spread, encode}
+pub use Rattle.codes.specs.Codes.{anchorsOf}
 use Rattle.morton.specs.Keys.{key, levelOf, codeOf, above}
 
--- axis a's anchor: bit i of it is bit d * i + a of the code, for each i below the level
-unfoldable pub anchor : ℕ → ℕ → ℕ → ℕ → ℕ
-anchor d a zero code = 0
-anchor d a (suc level) code = code / 2 ^ a % 2 + 2 * anchor d a level (code / 2 ^ d)
-
--- a number's bits, d places apart: bit i goes to bit d * i
-unfoldable pub spread : ℕ → ℕ → ℕ → ℕ
-spread d zero x = 0
-spread d (suc level) x = x % 2 + 2 ^ d * spread d level (x / 2)
-
--- the first n axes' part of the code of the anchors xs: axis a's bits begin at bit a
-unfoldable pub encode : ℕ → ℕ → ℕ → List ℕ → ℕ
-unfolding spread
-encode zero d level xs = 0
-encode (suc n) d level xs = encode n d level xs + 2 ^ n * spread d level (getD xs n 0)
+-- a cell's anchors, one an axis
+abbrev pub anchors : ℕ → ℕ → List ℕ
+anchors d k = anchorsOf d (levelOf k) (codeOf k)
 
 -- the key of the cell with the anchors xs
 abbrev pub keyAt : ℕ → ℕ → List ℕ → ℕ

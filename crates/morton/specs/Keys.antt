@@ -1,9 +1,10 @@
 -- Document 01, "Keys". A cell is a level and a code, and its key holds both; d is the number of axes.
 use mathlib.Core.Bool.{Bool, true, false, _&&_}
 use mathlib.Core.List.{List, [], _∷_, map}
-use Prim.Native.Nat.{ℕ, zero, suc, _+_, _*_, _-_, _/_, _%_, _^_}
+use Prim.Native.Nat.{ℕ, zero, suc, _+_, _*_, _-_, _/_, _%_, _^_, _≤_, _<_}
 use lib.Dec.{leb, ltb, eqb}
 use Rattle.slices.specs.Lists.{range}
+use Rattle.codes.specs.Tables.{when}
 
 abbrev pub deepest : ℕ
 deepest = 16
@@ -23,6 +24,13 @@ axesKnown d = leb 1 d && leb d 3
 
 abbrev pub valid : ℕ → ℕ → Bool
 valid d k = leb (levelOf k) deepest && ltb (codeOf k) (2 ^ (d * levelOf k))
+
+-- the same as facts: 1 to 3 axes and a valid key
+pub record ValidKey (d k : ℕ) : Type 0 where
+  pub some : 1 ≤ d
+  pub most : d ≤ 3
+  pub level : levelOf k ≤ 16
+  pub code : codeOf k < 2 ^ (d * levelOf k)
 
 -- the code of the cell n levels above one with this code
 abbrev pub above : ℕ → ℕ → ℕ → ℕ
@@ -55,19 +63,15 @@ ancestors d k = upwards (levelOf k) d k
 abbrev pub under : ℕ → ℕ → ℕ → Bool
 under d k j = leb (levelOf k) (levelOf j) && eqb (above d (levelOf j - levelOf k) (codeOf j)) (codeOf k)
 
--- Each number of axes has three figures of its own, 0 where it is not 1 to 3
-abbrev pub forAxes : Bool → ℕ → ℕ
-forAxes true n = n
-forAxes false n = 0
-
+-- Each number of axes has three figures of its own; 0 where it is not 1 to 3.
 -- 2, 4, 8
 abbrev pub childrenRoom : ℕ → ℕ
-childrenRoom d = forAxes (axesKnown d) (2 ^ d)
+childrenRoom d = when (axesKnown d) (2 ^ d)
 
 -- 2, 8, 26
 abbrev pub neighboursRoom : ℕ → ℕ
-neighboursRoom d = forAxes (axesKnown d) (3 ^ d - 1)
+neighboursRoom d = when (axesKnown d) (3 ^ d - 1)
 
 -- 3, 27, 189
 abbrev pub farRoom : ℕ → ℕ
-farRoom d = forAxes (axesKnown d) (6 ^ d - 3 ^ d)
+farRoom d = when (axesKnown d) (6 ^ d - 3 ^ d)

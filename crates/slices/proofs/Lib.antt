@@ -9,3 +9,4 @@ pub mod Rises
 pub mod Parts
 pub mod Zeros
 mod Steps
+pub mod Every

@@ -1,3 +1,4 @@
 pub mod Lists
 pub mod Order
 pub mod Sort
+pub mod Every

@@ -1,0 +1,4 @@
+pub mod Places
+pub mod Codes
+pub mod Entries
+pub mod Bytes

@@ -1,0 +1,92 @@
+-- The refusals of the key calls, as tests that pass or fail.
+use mathlib.Core.Path.{_≡_, refl, sym, ap, _∙_}
+use mathlib.Core.Bool.{Bool, true, false, _&&_}
+use mathlib.Core.List.{List, [], _∷_}
+use Prim.Native.Nat.{ℕ, zero, suc, _+_, _*_, _-_, _/_, _%_, _^_, _≤_, _<_}
+use native.Mathlib.Omega.{arith}
+use native.Mathlib.Nat.{mul-le-mul-left, mul-le-mul-right, div-lt-iff-lt-mul, div-eq-of-lt, one-mul}
+use lib.Dec.{leb, ltb}
+use lib.Pow.{pow-pos}
+use borrow.Author.Tests.{leb-true, ltb-true, le-leb, lt-leb, lt-ltb, le-ltb}
+use Rattle.refusal.specs.declared.Refusal.{Refusal}
+use Rattle.refusal.specs.declared.Refusal.the-variants.{Dims, Key}
+use Rattle.refusal.specs.declared.Outcome.{Outcome}
+use Rattle.refusal.specs.declared.Outcome.the-variants.{Done, Refused}
+use Rattle.refusal.specs.Chain.{unless}
+use Rattle.refusal.proofs.Chain.{passed, later}
+use Rattle.slices.proofs.Tests.{and-l, and-r, both}
+use Rattle.morton.specs.Keys.{axesKnown, valid, ValidKey, levelOf, codeOf}
+use Rattle.morton.specs.Answers.{keyCheck}
+
+pub axes-known : (d : ℕ) → 1 ≤ d → d ≤ 3 → axesKnown d ≡ true
+axes-known d l h = both (le-leb 1 d l) (le-leb d 3 h)
+
+pub axes-few : (d : ℕ) → d < 1 → axesKnown d ≡ false
+axes-few d h = rw (lt-leb 1 d h)
+
+pub axes-many : (d : ℕ) → 3 < d → axesKnown d ≡ false
+axes-many d h = rw (le-leb 1 d (omega arith), lt-leb d 3 h)
+
+pub axes-other : (d : ℕ) → (d ≡ 1 → ⊥) → (d ≡ 2 → ⊥) → (d ≡ 3 → ⊥) → axesKnown d ≡ false
+axes-other zero a b c = refl
+axes-other (suc zero) a b c = absurd (a refl)
+axes-other (suc (suc zero)) a b c = absurd (b refl)
+axes-other (suc (suc (suc zero))) a b c = absurd (c refl)
+axes-other (suc (suc (suc (suc d)))) a b c = axes-many (suc (suc (suc (suc d)))) (omega arith)
+
+pub axes-facts : (d : ℕ) → axesKnown d ≡ true → (1 ≤ d) × (d ≤ 3)
+axes-facts d h = (leb-true 1 d (and-l _ _ h), leb-true d 3 (and-r (leb 1 d) _ h))
+
+-- a code's bits from bit d * level on: none where the key is valid
+pub width-le : (d level : ℕ) → d ≤ 3 → level ≤ 16 → d * level ≤ 48
+width-le d level h k = omega (arith, mul-le-mul-right level h, mul-le-mul-left 3 k)
+
+pub too-deep : (d k : ℕ) → 16 < levelOf k → valid d k ≡ false
+too-deep d k h = rw (lt-leb (levelOf k) 16 h)
+
+pub no-code : (d k : ℕ) → levelOf k ≤ 16 → (codeOf k / 2 ^ (d * levelOf k) ≡ 0 → ⊥) → valid d k ≡ false
+no-code d k h n = rw (le-leb (levelOf k) 16 h) (out (ltb (codeOf k) (2 ^ (d * levelOf k))) refl)
+  where
+    out : (b : Bool) → ltb (codeOf k) (2 ^ (d * levelOf k)) ≡ b → ltb (codeOf k) (2 ^ (d * levelOf k)) ≡ false
+    out true e = absurd (n (div-eq-of-lt (ltb-true (codeOf k) (2 ^ (d * levelOf k)) e)))
+    out false e = e
+
+pub code-lt : (c w : ℕ) → c / 2 ^ w ≡ 0 → c < 2 ^ w
+code-lt c w e =
+    let h : c < 1 * 2 ^ w = div-lt-iff-lt-mul {k = 2 ^ w} {x = c} {y = 1} (pow-pos w) .0 (omega arith) in
+    rw (one-mul (2 ^ w)) at h
+
+pub is-valid : (d k : ℕ) → levelOf k ≤ 16 → codeOf k / 2 ^ (d * levelOf k) ≡ 0 → valid d k ≡ true
+is-valid d k h e = both (le-leb (levelOf k) 16 h) (lt-ltb (codeOf k) (2 ^ (d * levelOf k)) (code-lt (codeOf k) (d * levelOf k) e))
+
+pub valid-facts : (d k : ℕ) → axesKnown d ≡ true → valid d k ≡ true → ValidKey d k
+valid-facts d k a v =
+    let f = axes-facts d a in
+    record {
+      some = f .0;
+      most = f .1;
+      level = leb-true (levelOf k) 16 (and-l _ _ v);
+      code = ltb-true (codeOf k) (2 ^ (d * levelOf k)) (and-r (leb (levelOf k) 16) _ v);
+    }
+
+pub facts-valid : (d k : ℕ) → ValidKey d k → (axesKnown d ≡ true) × (valid d k ≡ true)
+facts-valid d k v = (axes-known d (v .some) (v .most), both (le-leb (levelOf k) 16 (v .level)) (lt-ltb (codeOf k) (2 ^ (d * levelOf k)) (v .code)))
+
+-- a key call that is not refused so far has a valid key
+pub checked : (d k : ℕ) (o : Outcome) → keyCheck d k o ≡ Done → ValidKey d k
+checked d k o e = valid-facts d k (passed _ _ _ e) (passed (valid d k) Key o (later (axesKnown d) _ _ e))
+
+pub checked-later : (d k : ℕ) (o : Outcome) → keyCheck d k o ≡ Done → o ≡ Done
+checked-later d k o e = later (valid d k) Key o (later (axesKnown d) _ _ e)
+
+-- the later tests do not change a refusal, and come after a key that is good
+pub check-more : (d k : ℕ) (o : Outcome) → keyCheck d k Done ≡ Done → keyCheck d k o ≡ o
+check-more d k o e = let f = facts-valid d k (checked d k Done e) in rw (f .0, f .1)
+
+pub check-first : (d k : ℕ) (o : Outcome) (r : Refusal) → keyCheck d k Done ≡ Refused r → keyCheck d k o ≡ Refused r
+check-first d k o r e = go (axesKnown d) (valid d k) e
+  where
+    go : (a v : Bool) → unless a Dims (unless v Key Done) ≡ Refused r → unless a Dims (unless v Key o) ≡ Refused r
+    go true true e = let z : _≡_ {A = ℕ} 0 1 = cc in absurd (omega arith)
+    go true false e = e
+    go false v e = e

@@ -1,0 +1,35 @@
+-- After 1 and 9 comes 10, for the root.
+use mathlib.Core.Path.{_≡_, refl, sym, ap, _∙_}
+use native.Mathlib.Omega.{arith}
+use borrow.Author.Tests.{lt-ltb, le-ltb}
+use Rattle.morton.specs.Keys.{levelOf}
+use Rattle.morton.specs.Answers.{belowRoot}
+use Rattle.morton.proofs.Checks.{check-more, check-first}
+use borrow.Author.Needs.{needs}
+use Rattle.morton.proofs.keys.check_below_root.Statement.{statement}
+use Rattle.morton.proofs.keys.check_below_root.Tie as tie
+
+check-key-requires : tie.Need-check-key-requires
+check-key-requires c κs = search needs
+
+enum-known-checked : tie.Need-enum-known-checked
+enum-known-checked c = search needs
+
+enum-told : tie.Need-enum-told
+enum-told c = search needs
+
+level-of-requires : tie.Need-level-of-requires
+level-of-requires c κs = search needs
+
+returns : tie.Need-returns
+returns c = let s = c .before .before .before .before .before in sym (check-more (s .args .axes) (s .args .key) (belowRoot (s .args .key)) (sym (c .before .before .before .before .check-key .ensures) ∙ c .before .before .enum-told .given .1) ∙ simp (le-ltb 0 (levelOf (s .args .key)) (omega (arith, c .before .level-of .ensures))))
+
+returns-2 : tie.Need-returns-2
+returns-2 c = let s = c .before .before .before .before in sym (check-first (s .args .axes) (s .args .key) (belowRoot (s .args .key)) _ (sym (c .before .before .before .check-key .ensures) ∙ c .before .checked .given .1))
+
+returns-3 : tie.Need-returns-3
+returns-3 c = let s = c .before .before .before .before .before in sym (check-more (s .args .axes) (s .args .key) (belowRoot (s .args .key)) (sym (c .before .before .before .before .check-key .ensures) ∙ c .before .before .enum-told .given .1) ∙ simp (lt-ltb 0 (levelOf (s .args .key)) (omega (arith, c .before .level-of .ensures))))
+
+pub check-below-root-spec : {M : Type 1} → statement M
+check-below-root-spec =
+    tie.close (tie.spec check-key-requires enum-known-checked enum-told level-of-requires returns returns-2 returns-3)
