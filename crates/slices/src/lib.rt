@@ -3,9 +3,7 @@ ghost use mathlib.Core.Path.{_≡_};
 ghost use Prim.Native.Nat.{_-_};
 ghost use mathlib.Core.List.{_++_};
 ghost use lib.ListN.{length, take, replicate};
-ghost use Rattle.slices.specs.Order.{ascending, rises, LowerBound, InRange};
-
-mod sorting;
+ghost use Rattle.slices.specs.Order.{rises, LowerBound, InRange};
 
 // Sets every element to 0.
 pub fn clear(s: &mut [u64])
@@ -92,14 +90,4 @@ pub fn is_ascending(s: &[u64]) -> bool
         next += 1;
     }
     true
-}
-
-// Puts the elements in ascending order. A slice that is in order is read once.
-pub fn sort(s: &mut [u64])
-    ensures { λ _. ⌜ now (s .exit) ≡ ascending (now (s .entry)) ⌝ }
-{
-    if !is_ascending(s) {
-        let r = sorting::span(s);
-        sorting::sort_range(s, r.least, r.greatest);
-    }
 }
