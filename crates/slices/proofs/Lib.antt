@@ -8,5 +8,4 @@ pub mod Same
 pub mod Rises
 pub mod Parts
 pub mod Zeros
-mod Steps
 pub mod Every

@@ -1,16 +1,16 @@
 -- What a filter keeps, what a sort keeps, and both: a row; and a count taken apart by the value of a function.
-use mathlib.Core.Path.{_≡_, refl, sym, ap, ap₂, _∙_, subst}
-use mathlib.Core.Bool.{Bool, true, false, _&&_, _||_, not, cond}
+use mathlib.Core.Path.{_≡_, refl, sym, ap, _∙_, subst}
+use mathlib.Core.Bool.{Bool, true, false, _&&_, cond}
 use mathlib.Core.List.{List, [], _∷_, map}
-use mathlib.Core.Logic.{_≢_, _↔_}
-use Prim.Native.Nat.{ℕ, zero, suc, _+_, _-_, _≤_, _<_, zero-le, suc-le-suc}
+use mathlib.Core.Logic.{_↔_}
+use Prim.Native.Nat.{ℕ, zero, suc, _+_, _<_}
 use native.Mathlib.Omega.{arith}
-use native.Mathlib.Nat.{zero-add, add-zero, add-suc, le-of-suc-le-suc, not-suc-le-zero, add-left-comm}
+use native.Mathlib.Nat.{zero-add, not-suc-le-zero, add-left-comm}
 use native.Mathlib.Decide.{decLt}
 use lib.Dec.{leb, ltb, eqb}
-use lib.ListN.{length, getD, take}
+use lib.ListN.{getD}
 use borrow.Author.Tests.{ltb-true, eqb-true, lt-ltb, le-ltb, eq-eqb, ne-eqb}
-use Rattle.slices.specs.Lists.{filter, bit, count, sum, range, Mem, Distinct}
+use Rattle.slices.specs.Lists.{filter, bit, count, sum, range, Mem}
 use Rattle.slices.specs.Order.{insert, ascending}
 use Rattle.slices.proofs.Tests.{and-l, and-r, clash}
 use Rattle.slices.proofs.Counts.{count-pos, pos-count, count-zero, count-add, count-ext, sum-range}

@@ -1,5 +1,5 @@
 -- Counts in a sorted list, by the element at a place; and a count between two bounds, in any list.
-use mathlib.Core.Path.{_≡_, refl, sym, ap, _∙_}
+use mathlib.Core.Path.{_≡_, refl, _∙_}
 use mathlib.Core.Bool.{Bool, true, false, _&&_}
 use mathlib.Core.Logic.{⊎-elim}
 use mathlib.Core.List.{List, [], _∷_}
@@ -9,7 +9,7 @@ use native.Mathlib.Omega.{arith}
 use borrow.Author.Tests.{lt-ltb, le-ltb, le-leb, lt-leb}
 use lib.Dec.{leb, ltb}
 use lib.ListN.{length, getD}
-use Rattle.slices.specs.Lists.{bit, count}
+use Rattle.slices.specs.Lists.{count}
 use Rattle.slices.specs.Order.{AllFrom, Sorted, countBelow, countIn}
 use Rattle.slices.proofs.Tests.{lt-or-le}
 

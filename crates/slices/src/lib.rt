@@ -3,9 +3,7 @@ ghost use mathlib.Core.Path.{_≡_};
 ghost use Prim.Native.Nat.{_-_};
 ghost use mathlib.Core.List.{_++_};
 ghost use lib.ListN.{length, take, replicate};
-ghost use Rattle.slices.specs.Order.{ascending, rises, LowerBound, InRange};
-
-mod sorting;
+ghost use Rattle.slices.specs.Order.{rises, LowerBound, InRange};
 
 // Sets every element to 0.
 pub fn clear(s: &mut [u64])
@@ -27,28 +25,28 @@ pub fn clear_from(s: &mut [u64], from: usize)
     }
 }
 
-// Sets every element to 0.
-pub fn clear_usize(s: &mut [usize])
-    ensures { λ _. ⌜ now (s .exit) ≡ replicate (length (now (s .entry))) 0 ⌝ }
+// The same for a column of indices.
+pub fn clear_usize(column: &mut [usize])
+    ensures { λ _. ⌜ now (column .exit) ≡ replicate (length (now (column .entry))) 0 ⌝ }
 {
-    let mut i = 0;
-    while i < s.len() {
-        s[i] = 0;
-        i += 1;
+    let mut row = 0;
+    while row < column.len() {
+        column[row] = 0;
+        row += 1;
     }
 }
 
-// Sets every element from place `from` on to 0.
-pub fn clear_from_usize(s: &mut [usize], from: usize)
-    ensures { λ _. ⌜ now (s .exit) ≡ take from (now (s .entry)) ++ replicate (length (now (s .entry)) - from) 0 ⌝ }
+// The same for a column of indices.
+pub fn clear_from_usize(column: &mut [usize], from: usize)
+    ensures { λ _. ⌜ now (column .exit) ≡ take from (now (column .entry)) ++ replicate (length (now (column .entry)) - from) 0 ⌝ }
 {
-    if from < s.len() {
-        clear_usize(&mut s[from..]);
+    if from < column.len() {
+        clear_usize(&mut column[from..]);
     }
 }
 
 // In a sorted slice: how many elements are below x, which is the first place of one that is not.
-// The answer is always from lo to lo + n. A turn takes half of n away with no jump that depends on the element.
+// The answer is always from lo to lo + n, and each turn halves n.
 pub fn lower_bound(s: &[u64], x: u64) -> usize
     ensures { λ r. ⌜ LowerBound (now (s .entry)) x r ⌝ }
 {
@@ -82,24 +80,14 @@ pub fn is_ascending(s: &[u64]) -> bool
         return true;
     }
     let mut x = s[0];
-    let mut i: usize = 1;
-    while i < s.len() {
-        let y = s[i];
+    let mut next: usize = 1;
+    while next < s.len() {
+        let y = s[next];
         if y < x {
             return false;
         }
         x = y;
-        i += 1;
+        next += 1;
     }
     true
-}
-
-// Puts the elements in ascending order. A slice that is in order is read once.
-pub fn sort(s: &mut [u64])
-    ensures { λ _. ⌜ now (s .exit) ≡ ascending (now (s .entry)) ⌝ }
-{
-    if !is_ascending(s) {
-        let r = sorting::span(s);
-        sorting::sort_range(s, r.least, r.greatest);
-    }
 }

@@ -26,7 +26,7 @@ same-length c = search needs
 returns : tie.Need-returns
 returns c =
     let a = c .before .before .before .before .before .before .args in
-    tail-cleared (a .from) (now (a .s)) _ (c .before .before .clear-usize .ensures)
+    tail-cleared (a .from) (now (a .column)) _ (c .before .before .clear-usize .ensures)
 
 returns-2 : tie.Need-returns-2
 returns-2 c = past-end _ _ (c .if1 .left)

@@ -1,5 +1,6 @@
 -- `slices::clear_usize` meets its contract, by the laws on `Clearing`.
 use Prim.Native.Nat.{_-_}
+use native.Mathlib.Omega.{arith}
 use borrow.Author.Needs.{needs}
 use lib.ListN.{length}
 use Rattle.slices.proofs.Zeros.{Clearing, clearing-none, clearing-more, clearing-all}
@@ -15,26 +16,26 @@ abbrev μ-loop : tie.MeasureT-loop
 loop-holds : tie.Need-loop-holds Inv-loop μ-loop
 loop-holds c = clearing-none _
 
-mul-s : tie.Need-mul-s Inv-loop μ-loop
-mul-s c = search needs
+mul-column : tie.Need-mul-column Inv-loop μ-loop
+mul-column c = search needs
 
-slice-write-s : tie.Need-slice-write-s Inv-loop μ-loop
-slice-write-s c = search needs
+slice-write-column : tie.Need-slice-write-column Inv-loop μ-loop
+slice-write-column c = search needs
 
-add-i : tie.Need-add-i Inv-loop μ-loop
-add-i c = search needs
+add-row : tie.Need-add-row Inv-loop μ-loop
+add-row c = search needs
 
 loop-less : tie.Need-loop-less Inv-loop μ-loop
 loop-less c = search needs
 
 loop-again : tie.Need-loop-again Inv-loop μ-loop
-loop-again c = clearing-more _ (c .before .loop .s) _ (c .before .loop .inv) (c .loop-test .taken)
+loop-again c = clearing-more _ (c .before .loop .column) _ (c .before .loop .inv) (omega arith)
 
 same-length : tie.Need-same-length Inv-loop μ-loop
 same-length c = search needs
 
 returns : tie.Need-returns Inv-loop μ-loop
-returns c = clearing-all _ _ _ (c .before .loop .inv) (c .loop-test .left)
+returns c = clearing-all _ _ _ (c .before .loop .inv) (omega arith)
 
 pub clear-usize-spec : {M : Type 1} → statement M
-clear-usize-spec = tie.close (tie.spec Inv-loop μ-loop loop-holds mul-s slice-write-s add-i loop-less loop-again same-length returns)
+clear-usize-spec = tie.close (tie.spec Inv-loop μ-loop loop-holds mul-column slice-write-column add-row loop-less loop-again same-length returns)
