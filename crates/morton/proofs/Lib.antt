@@ -4,5 +4,7 @@ pub mod Checks
 pub mod Answers
 pub mod Arithmetic
 pub mod Placing
+pub mod Steps
 pub mod Runs
 pub mod ProvedTable
+pub mod Along

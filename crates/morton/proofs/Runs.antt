@@ -1,4 +1,4 @@
--- Key lists as they are filled, one key a turn.
+-- Arrays as they are filled, one number a turn.
 use mathlib.Core.Path.{_≡_, refl, sym, ap, ap₂, _∙_}
 use mathlib.Core.List.{List, [], _∷_, _++_, map, append-nil}
 use Prim.Native.Nat.{ℕ, zero, suc, _+_, _*_, _-_, _/_, _%_, _^_, _≤_, _<_}
@@ -18,24 +18,24 @@ use Rattle.morton.proofs.Checks.{axes-known}
 use Rattle.morton.proofs.Cells.{level-parent}
 use Rattle.morton.proofs.Arithmetic.{parent-valid}
 
--- a list that the array holds whole, with its length
-pub record Held (keys : List ℕ) (len : ℕ) (xs : List ℕ) : Type 0 where
-  pub filled-by : keys ≡ filled 26 xs
+-- a list that an array of some room holds whole, with its length
+pub record Held (room : ℕ) (array : List ℕ) (len : ℕ) (xs : List ℕ) : Type 0 where
+  pub filled-by : array ≡ filled room xs
   pub counted : length xs ≡ len
 
-pub held-none : Held (replicate 26 0) 0 []
-held-none = record { filled-by = sym (filled-none 26); counted = refl }
+pub held-none : (room : ℕ) → Held room (replicate room 0) 0 []
+held-none room = record { filled-by = sym (filled-none room); counted = refl }
 
--- one key more
-pub held-more : (keys : List ℕ) (len : ℕ) (xs : List ℕ) (x : ℕ) → Held keys len xs → len < 26 → Held (set keys len x) (len + 1) (xs ++ x ∷ [])
-held-more keys len xs x h l =
+-- one number more
+pub held-more : (room : ℕ) (array : List ℕ) (len : ℕ) (xs : List ℕ) (x : ℕ) → Held room array len xs → len < room → Held room (set array len x) (len + 1) (xs ++ x ∷ [])
+held-more room array len xs x h l =
     let e = h .counted in
     record {
-      filled-by = ap₂ (λ (s : List ℕ) (n : ℕ). set s n x) (h .filled-by) (sym e) ∙ filled-store 26 xs x (omega arith);
+      filled-by = ap₂ (λ (s : List ℕ) (n : ℕ). set s n x) (h .filled-by) (sym e) ∙ filled-store room xs x (omega arith);
       counted = length-append xs (x ∷ []) ∙ ap (λ (n : ℕ). n + 1) e;
     }
 
-pub held-listed : (keys : List ℕ) (len : ℕ) (xs ys : List ℕ) → Held keys len xs → xs ≡ ys → _≡_ {A = KeyList} (record { outcome = Done; keys = keys; len = len }) (listed Done ys)
+pub held-listed : (keys : List ℕ) (len : ℕ) (xs ys : List ℕ) → Held 26 keys len xs → xs ≡ ys → _≡_ {A = KeyList} (record { outcome = Done; keys = keys; len = len }) (listed Done ys)
 held-listed keys len xs ys h e =
     ap₂ (λ (s : List ℕ) (n : ℕ). record { outcome = Done; keys = s; len = n }) (h .filled-by ∙ ap (filled 26) e) (sym (h .counted) ∙ ap length e)
 
@@ -49,12 +49,13 @@ values-more f n = sym (ap (map f) (range-append 0 n 1) ∙ maps f (range 0 n) (r
     maps g (x ∷ xs) ys = ap (λ (t : List ℕ). g x ∷ t) (maps g xs ys)
 
 -- the array after n turns that store f 0, f 1, ..
-pub values-start : (f : ℕ → ℕ) → Held (replicate 26 0) 0 (map f (range 0 0))
+pub values-start : (room : ℕ) (f : ℕ → ℕ) → Held room (replicate room 0) 0 (map f (range 0 0))
 unfolding range
-values-start f = held-none
+values-start room f = held-none room
 
-pub values-next : (f : ℕ → ℕ) (keys : List ℕ) (len x : ℕ) → Held keys len (map f (range 0 len)) → len < 26 → x ≡ f len → Held (set keys len x) (len + 1) (map f (range 0 (len + 1)))
-values-next f keys len x h l e = rw (← values-more f len, e) (held-more keys len (map f (range 0 len)) (f len) h l)
+pub values-next : (room : ℕ) (f : ℕ → ℕ) (array : List ℕ) (len x : ℕ) → Held room array len (map f (range 0 len)) → len < room → x ≡ f len
+    → Held room (set array len x) (len + 1) (map f (range 0 (len + 1)))
+values-next room f array len x h l e = rw (← values-more f len, e) (held-more room array len (map f (range 0 len)) (f len) h l)
 
 pub children-count : (d n : ℕ) → 1 ≤ d → d ≤ 3 → n ≡ childrenRoom d → n ≡ 2 ^ d
 children-count d n l h e = e ∙ rw (axes-known d l h)
@@ -87,7 +88,7 @@ pub record Climbed (d k : ℕ) (keys : List ℕ) (at len : ℕ) : Type 0 where
   pub good : ValidKey d at
   pub level : levelOf at + len ≡ levelOf k + 1
   pub so-far : List ℕ
-  pub held : Held keys len so-far
+  pub held : Held 26 keys len so-far
   pub whole : so-far ++ rest d at ≡ ancestors d k
 
 pub climb-start : (d k : ℕ) → ValidKey d k → Climbed d k (set (replicate 26 0) 0 k) k 1
@@ -96,7 +97,7 @@ climb-start d k v = record {
   good = v;
   level = refl;
   so-far = k ∷ [];
-  held = held-more (replicate 26 0) 0 [] k held-none (omega arith);
+  held = held-more 26 (replicate 26 0) 0 [] k (held-none 26) (omega arith);
   whole = sym (first (levelOf k) d k);
 }
 
@@ -111,7 +112,7 @@ module _ (d k : ℕ) (keys : List ℕ) (at len : ℕ) (v : ValidKey d k) (g : Cl
         good = parent-valid d at (g .good) h;
         level = omega (arith, level-parent d at, g .level);
         so-far = g .so-far ++ parent d at ∷ [];
-        held = held-more keys len (g .so-far) (parent d at) (g .held) (climb-room h);
+        held = held-more 26 keys len (g .so-far) (parent d at) (g .held) (climb-room h);
         whole = append-snoc (g .so-far) (parent d at) (rest d (parent d at)) ∙ ap (λ (t : List ℕ). g .so-far ++ t) (sym (rest-more (levelOf at - 1) d at e)) ∙ g .whole;
       }
 

@@ -37,9 +37,10 @@ directions (suc (suc (suc zero))) =
     ∷ row none none plus ∷ row none plus none ∷ row none plus plus ∷ row plus none none ∷ row plus none plus ∷ row plus plus none ∷ row plus plus plus ∷ []
 directions (suc (suc (suc (suc d)))) = []
 
--- one more than a step, so that it is no negative number
+-- one more than a step of a row, -1, 0 or 1, so that no number is negative
 abbrev pub raised : ℤ → ℕ
-raised (negsuc n) = 0
+raised (negsuc zero) = 0
+raised (negsuc (suc n)) = 2
 raised (pos zero) = 1
 raised (pos (suc n)) = 2
 

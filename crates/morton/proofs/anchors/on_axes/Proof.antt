@@ -51,7 +51,6 @@ three d xs e = record { same = same; past = past }
     past (suc (suc zero)) h = absurd (omega arith)
     past (suc (suc (suc a))) h = refl
 
-
 array-read-t7 : tie.Need-array-read-t7
 array-read-t7 c = search needs
 

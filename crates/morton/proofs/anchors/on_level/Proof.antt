@@ -16,7 +16,6 @@ use Rattle.morton.proofs.anchors.on_level.Tie as tie
 end-is : (level : ℕ) → level ≤ 16 → 1 * 2 ^ level % 2 ^ 64 ≡ 2 ^ level
 end-is level h = let lt : 1 < 2 ^ 1 = omega arith in shl-exact 1 level 64 lt (omega arith) ∙ one-mul (2 ^ level)
 
-
 abbrev Inv-loop : tie.InvT-loop
 Inv-loop axes level anchor end n₀ n = (n ≤ axes) × (onLevel n level anchor ≡ onLevel axes level anchor)
 

@@ -11,7 +11,7 @@ use Rattle.morton.proofs.keys.list_children.Statement.{statement}
 use Rattle.morton.proofs.keys.list_children.Tie as tie
 
 abbrev Inv-loop : tie.InvT-loop
-Inv-loop axes key count keys₀ len₀ keys len = (len ≤ count) × Held keys len (map (child axes key) (range 0 len))
+Inv-loop axes key count keys₀ len₀ keys len = (len ≤ count) × Held 26 keys len (map (child axes key) (range 0 len))
 
 abbrev μ-loop : tie.MeasureT-loop
 μ-loop axes key count keys₀ len₀ keys len = count - len
@@ -20,7 +20,7 @@ children-of-requires : tie.Need-children-of-requires Inv-loop μ-loop
 children-of-requires c κs = search needs
 
 loop-holds : tie.Need-loop-holds Inv-loop μ-loop
-loop-holds c = (search needs, values-start _)
+loop-holds c = (search needs, values-start 26 _)
 
 child-of-requires : tie.Need-child-of-requires Inv-loop μ-loop
 child-of-requires c κs = let s = c .before .before .before in (s .pre .0, s .pre .1, omega (arith, children-count (s .args .axes) (c .before .before .children-of .result) (s .pre .0 .some) (s .pre .0 .most) (c .before .before .children-of .ensures)))
@@ -38,7 +38,7 @@ loop-less : tie.Need-loop-less Inv-loop μ-loop
 loop-less c = search needs
 
 loop-again : tie.Need-loop-again Inv-loop μ-loop
-loop-again c = let s = c .before .before .before .before in (omega arith, values-next _ _ _ _ (c .before .before .loop .inv .1) (omega (arith, children-count (s .args .axes) (c .before .before .before .children-of .result) (s .pre .0 .some) (s .pre .0 .most) (c .before .before .before .children-of .ensures), children-few (s .args .axes) (s .pre .0 .most))) (c .child-of .ensures))
+loop-again c = let s = c .before .before .before .before in (omega arith, values-next 26 _ _ _ _ (c .before .before .loop .inv .1) (omega (arith, children-count (s .args .axes) (c .before .before .before .children-of .result) (s .pre .0 .some) (s .pre .0 .most) (c .before .before .before .children-of .ensures), children-few (s .args .axes) (s .pre .0 .most))) (c .child-of .ensures))
 
 returns : tie.Need-returns Inv-loop μ-loop
 returns c = let s = c .before .before .before in held-listed _ _ _ _ (c .before .loop .inv .1) (ap (λ (n : ℕ). map (child (s .args .axes) (s .args .key)) (range 0 n)) (omega (arith, children-count (s .args .axes) (c .before .before .children-of .result) (s .pre .0 .some) (s .pre .0 .most) (c .before .before .children-of .ensures))))

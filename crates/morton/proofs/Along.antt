@@ -1,0 +1,129 @@
+-- The neighbours along the direction rows, row by row, as the loop finds them.
+use mathlib.Core.Path.{_≡_, refl, sym, ap, ap₂, _∙_, subst}
+use mathlib.Core.Bool.{Bool, true, false, _&&_, cond}
+use mathlib.Core.List.{List, [], _∷_, _++_, map, append-nil}
+use Prim.Native.Nat.{ℕ, zero, suc, _+_, _*_, _-_, _/_, _%_, _^_, _≤_, _<_}
+use native.Mathlib.Omega.{arith}
+use native.Mathlib.Nat.{zero-add, not-suc-le-zero}
+use native.Mathlib.Decide.{decLt}
+use lib.Dec.{leb, ltb}
+use lib.IntN.{ℤ}
+use lib.ListN.{length, getD, set, length-append, List·getD-eq-default, getD-replicate, replicate}
+use lib.Seq.{getD-append-add}
+use borrow.Author.Tests.{lt-ltb}
+use Rattle.slices.specs.Lists.{range, filter, filled}
+use Rattle.slices.specs.Every.{every}
+use Rattle.slices.proofs.Lists.{range-append, length-range, filter-append, filter-shorter, getD-filled}
+use Rattle.slices.proofs.Every.{every-all, every-same}
+use Rattle.codes.specs.Tables.{Bytes2}
+use Rattle.codes.proofs.Codes.{encode-same}
+use Rattle.codes.proofs.Entries.{tabled, length-tabled}
+use Rattle.morton.specs.Keys.{levelOf, codeOf, key, ValidKey}
+use Rattle.morton.specs.Anchors.{encode, anchors, keyAt, onLevel}
+use Rattle.morton.specs.Directions.{directions, directionRow, raised, none, ahead, stays, moved, onBox, toward, neighbours}
+use Rattle.morton.proofs.Placing.{anchors-at, anchors-length, anchor-small}
+use Rattle.morton.proofs.Steps.{stays-at}
+use Rattle.morton.proofs.Runs.{Held, held-none, held-more}
+
+-- there are 2, 8 or 26 rows
+pub rows-few : (d : ℕ) → length (directions d) ≤ 26
+rows-few zero = omega arith
+rows-few (suc zero) = omega arith
+rows-few (suc (suc zero)) = omega arith
+rows-few (suc (suc (suc zero))) = omega arith
+rows-few (suc (suc (suc (suc d)))) = omega arith
+
+-- past its list a filled array has 0
+past-filled : (n : ℕ) (xs : List ℕ) (a : ℕ) → length xs ≤ a → getD (filled n xs) a 0 ≡ 0
+past-filled n xs a h =
+    let e : a ≡ length xs + (a - length xs) = omega arith in
+    ap (λ (i : ℕ). getD (filled n xs) i 0) e ∙ getD-append-add xs (replicate (n - length xs) 0) (a - length xs) 0 ∙ zeros (n - length xs) (a - length xs)
+  where
+    zeros : (m i : ℕ) → _≡_ {A = ℕ} (getD (replicate m 0) i 0) 0
+    zeros zero i = refl
+    zeros (suc m) zero = refl
+    zeros (suc m) (suc i) = zeros m i
+
+module _ (d k level : ℕ) (v : ValidKey d k) (el : level ≡ levelOf k) (from : List ℕ) (ef : from ≡ filled 3 (anchors d k)) (i : ℕ) (row : List ℤ) (er : row ≡ directionRow d i) where
+  from-at : (a : ℕ) → a < d → getD from a 0 ≡ getD (anchors d k) a 0
+  from-at a h = ap (λ (xs : List ℕ). getD xs a 0) ef ∙ getD-filled 3 (anchors d k) a (omega (arith, anchors-length d k))
+
+  ahead-at : (a : ℕ) → a < d → ahead from row a ≡ ahead (anchors d k) (directionRow d i) a
+  ahead-at a h = ap₂ (λ (x : ℕ) (r : List ℤ). x + raised (getD r a none)) (from-at a h) er
+
+  pub from-small : Bytes2 from
+  from-small = record { first = at 0; second = at 1; third = at 2 }
+    where
+      at : (a : ℕ) → getD from a 0 < 65536
+      at a = go (decLt a d)
+        where
+          go : Dec (a < d) → getD from a 0 < 65536
+          go (yes h) = omega (arith, from-at a h, anchors-at d k a h, anchor-small d k a v)
+          go (no n) = omega (arith, ap (λ (xs : List ℕ). getD xs a 0) ef, past-filled 3 (anchors d k) a (omega (arith, anchors-length d k)))
+
+  pub stays-is : stays d level from row ≡ onBox d k i
+  stays-is =
+      every-same
+      (λ a. ltb 0 (ahead from row a) && leb (ahead from row a) (2 ^ level))
+      (λ a. ltb 0 (ahead (anchors d k) (directionRow d i) a) && leb (ahead (anchors d k) (directionRow d i) a) (2 ^ levelOf k))
+      d
+      (λ a h. ap₂ (λ (x l : ℕ). ltb 0 x && leb x (2 ^ l)) (ahead-at a h) el)
+
+  moved-at : (a : ℕ) → a < d → getD (filled 3 (moved d from row)) a 0 ≡ ahead from row a - 1
+  moved-at a h =
+      getD-filled 3 (moved d from row) a (omega (arith, length-tabled (λ a. ahead from row a - 1) 0 d)) ∙ tabled (λ a. ahead from row a - 1) d a h
+
+  pub moved-on : stays d level from row ≡ true → onLevel d level (filled 3 (moved d from row)) ≡ true
+  moved-on s = every-all (λ a. ltb (getD (filled 3 (moved d from row)) a 0) (2 ^ level)) d
+      (λ a h. lt-ltb (getD (filled 3 (moved d from row)) a 0) (2 ^ level) (omega (arith, moved-at a h, stays-at level from row d s a h)))
+
+  pub key-is : keyAt d level (filled 3 (moved d from row)) ≡ toward d k i
+  key-is =
+      ap₂ key el
+      (encode-same d d level (moved d (anchors d k) (directionRow d i)) (filled 3 (moved d from row))
+      (λ a h. moved-at a h ∙ ap (λ (n : ℕ). n - 1) (ahead-at a h) ∙ sym (tabled (λ a. ahead (anchors d k) (directionRow d i) a - 1) d a h))
+      ∙ ap (λ (l : ℕ). encode d d l (moved d (anchors d k) (directionRow d i))) el)
+
+-- the rows passed, and one more
+module _ (d k i : ℕ) where
+  abbrev pub so-far : ℕ → List ℕ
+  so-far n = map (toward d k) (filter (onBox d k) (range 0 n))
+
+  more : filter (onBox d k) (range 0 (i + 1)) ≡ filter (onBox d k) (range 0 i) ++ filter (onBox d k) (i ∷ [])
+  unfolding range
+  more = ap (filter (onBox d k)) (range-append 0 i 1 ∙ ap (λ (n : ℕ). range 0 i ++ n ∷ []) (zero-add i)) ∙ filter-append (onBox d k) (range 0 i) (i ∷ [])
+
+  maps : (xs ys : List ℕ) → map (toward d k) (xs ++ ys) ≡ map (toward d k) xs ++ map (toward d k) ys
+  maps [] ys = refl
+  maps (x ∷ xs) ys = ap (λ (t : List ℕ). toward d k x ∷ t) (maps xs ys)
+
+  pub row-in : onBox d k i ≡ true → so-far i ++ toward d k i ∷ [] ≡ so-far (i + 1)
+  unfolding filter
+  row-in h = sym (ap (map (toward d k)) (more ∙ ap (λ (b : Bool). filter (onBox d k) (range 0 i) ++ cond b (i ∷ []) []) h) ∙ maps (filter (onBox d k) (range 0 i)) (i ∷ []))
+
+  pub row-out : onBox d k i ≡ false → so-far i ≡ so-far (i + 1)
+  unfolding filter
+  row-out h = sym (ap (map (toward d k)) (more ∙ ap (λ (b : Bool). filter (onBox d k) (range 0 i) ++ cond b (i ∷ []) []) h ∙ append-nil (filter (onBox d k) (range 0 i))))
+
+  pub so-far-few : length (so-far i) ≤ i
+  so-far-few = omega (arith, mapped (filter (onBox d k) (range 0 i)), filter-shorter (onBox d k) (range 0 i), length-range 0 i)
+    where
+      mapped : (xs : List ℕ) → length (map (toward d k) xs) ≡ length xs
+      mapped [] = refl
+      mapped (x ∷ xs) = ap suc (mapped xs)
+
+-- the array of the neighbours, one row on
+pub along-in : (d k i : ℕ) (found : List ℕ) (len x : ℕ) → onBox d k i ≡ true → i < length (directions d) → Held 26 found len (so-far d k i i) → x ≡ toward d k i
+    → Held 26 (set found len x) (len + 1) (so-far d k i (i + 1))
+along-in d k i found len x h l held e =
+    rw (← row-in d k i h, e) (held-more 26 found len (so-far d k i i) (toward d k i) held (omega (arith, held .counted, so-far-few d k i, rows-few d)))
+
+pub along-out : (d k i : ℕ) (found : List ℕ) (len : ℕ) → onBox d k i ≡ false → Held 26 found len (so-far d k i i) → Held 26 found len (so-far d k i (i + 1))
+along-out d k i found len h held = rw (← row-out d k i h) held
+
+pub along-room : (d k i : ℕ) (found : List ℕ) (len : ℕ) → i < length (directions d) → Held 26 found len (so-far d k i i) → len < 26
+along-room d k i found len l held = omega (arith, held .counted, so-far-few d k i, rows-few d)
+
+pub along-start : (d k : ℕ) → Held 26 (replicate 26 0) 0 (so-far d k 0 0)
+unfolding range filter
+along-start d k = held-none 26
