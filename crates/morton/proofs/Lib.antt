@@ -8,3 +8,5 @@ pub mod Steps
 pub mod Runs
 pub mod ProvedTable
 pub mod Along
+pub mod Tied
+pub mod Laws

@@ -9,3 +9,4 @@ pub mod Rises
 pub mod Parts
 pub mod Zeros
 pub mod Every
+pub mod Members
