@@ -1,0 +1,1 @@
+// Rows are defined and proved here; nothing is computed.

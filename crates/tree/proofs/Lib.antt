@@ -1,0 +1,14 @@
+pub mod Each
+pub mod Rules
+pub mod Runs
+pub mod Stored
+pub mod Sourced
+pub mod Parts
+pub mod KeyTests
+pub mod Ascent
+pub mod Sums
+pub mod Walk
+pub mod Verdict
+pub mod Halving
+pub mod Kids
+pub mod Examples

@@ -1,0 +1,4 @@
+pub mod Nodes
+pub mod WellFormed
+pub mod Sources
+pub mod Finding

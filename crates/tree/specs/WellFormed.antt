@@ -1,0 +1,57 @@
+-- Document 01, "Lists, lookup, sourced cells": when a tree handed in is well formed, for any three columns.
+use mathlib.Core.Bool.{Bool, true, false, _&&_, _||_, not}
+use mathlib.Core.List.{List, [], _∷_}
+use Prim.Native.Nat.{ℕ, zero, suc, _+_, _-_, _≤_, _<_}
+use lib.Dec.{leb, ltb, eqb}
+use lib.ListN.{length, getD, take}
+use Rattle.slices.specs.Lists.{any, sum}
+use Rattle.morton.specs.Keys.{valid, parent}
+use Rattle.tree.specs.Nodes.{before, stored, leaf}
+
+-- a test passes at each number below n
+unfoldable pub each : ℕ → (ℕ → Bool) → Bool
+each zero p = true
+each (suc n) p = p n && each n p
+
+-- the most sources of a tree
+abbrev pub mostSources : ℕ
+mostSources = 1048576
+
+-- columns have one length N ≥ 1
+abbrev pub oneLength : List ℕ → List ℕ → List ℕ → Bool
+oneLength keys own begin = eqb (length own) (length keys) && (eqb (length begin) (length keys) && ltb 0 (length keys))
+
+-- strictly ascending by level then code
+abbrev pub inOrder : List ℕ → Bool
+inOrder keys = each (length keys - 1) (λ i. before (getD keys i 0) (getD keys (suc i) 0))
+
+-- keys are valid, strictly ascending by level then code, the first 0
+unfoldable pub keysAscend : ℕ → List ℕ → Bool
+unfolding each
+keysAscend d keys = eqb (getD keys 0 0) 0 && (each (length keys) (λ i. valid d (getD keys i 0)) && inOrder keys)
+
+-- every other's parent is present
+unfoldable pub parentsStored : ℕ → List ℕ → Bool
+unfolding each
+parentsStored d keys = each (length keys) (λ i. eqb i 0 || stored keys (parent d (getD keys i 0)))
+
+-- the root and nodes with children own none
+unfoldable pub leavesOwn : ℕ → List ℕ → List ℕ → Bool
+unfolding each
+leavesOwn d keys own = each (length keys) (λ i. leaf d keys (getD keys i 0) || eqb (getD own i 0) 0)
+
+-- begins are the running sums; the total is at most 1,048,576
+unfoldable pub runsAdd : List ℕ → List ℕ → Bool
+unfolding each
+runsAdd own begin = each (length own) (λ i. eqb (getD begin i 0) (sum (take i own))) && leb (sum own) mostSources
+
+unfoldable pub wellFormed : ℕ → List ℕ → List ℕ → List ℕ → Bool
+unfolding keysAscend parentsStored leavesOwn runsAdd
+wellFormed d keys own begin =
+    oneLength keys own begin && (keysAscend d keys && (parentsStored d keys && (leavesOwn d keys own && runsAdd own begin)))
+
+-- A source of a tree is one place in its runs: place p lies in the run of node j
+pub record Run (own begin : List ℕ) (j p : ℕ) : Type 0 where
+  pub node : j < length own
+  pub from : getD begin j 0 ≤ p
+  pub to : p < getD begin j 0 + getD own j 0
