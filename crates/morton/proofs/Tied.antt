@@ -13,7 +13,7 @@ use lib.ListN.{length, getD}
 use borrow.Author.Tests.{eqb-true, eq-eqb, ne-eqb, not-true}
 use Rattle.slices.specs.Lists.{any, range, Mem}
 use Rattle.slices.specs.Every.{every}
-use Rattle.slices.proofs.Tests.{and-l, and-r, clash}
+use Rattle.slices.proofs.Tests.{and-l, and-r, clash, or-not}
 use Rattle.slices.proofs.Counts.{any-elim}
 use Rattle.slices.proofs.Every.{every-at}
 use Rattle.slices.proofs.Members.{mem-range}
@@ -99,10 +99,6 @@ tied-known (suc (suc zero)) h = refl
 tied-known (suc (suc (suc zero))) h = refl
 tied-known (suc (suc (suc (suc d)))) h = absurd (omega (arith, axes-facts (suc (suc (suc (suc d)))) h .1))
 
-or-else : (a b : Bool) → (a || b) ≡ true → a ≡ false → b ≡ true
-or-else true b h e = absurd (clash refl e)
-or-else false b h e = h
-
 module _ (d : ℕ) (known : axesKnown d ≡ true) where
   abbrev rows : ℕ
   rows = length (directions d)
@@ -128,7 +124,7 @@ module _ (d : ℕ) (known : axesKnown d ≡ true) where
       go true e = eqb-true i j e
       go false e =
           let t = every-at (λ j. eqb i j || not (eqb (wayOf d i) (wayOf d j))) rows (every-at (λ i. every rows (λ j. eqb i j || not (eqb (wayOf d i) (wayOf d j)))) rows apart i hi) j hj in
-          let f = not-true _ (or-else (eqb i j) _ t e) in
+          let f = not-true _ (or-not (eqb i j) _ t e) in
           absurd (clash (eq-eqb (wayOf d i) (wayOf d j) (ways-same d (step d i) (step d j) same)) f)
 
   -- no row stands still
@@ -145,5 +141,5 @@ module _ (d : ℕ) (known : axesKnown d ≡ true) where
       let v = ways d f in
       let t = every-at (λ v. eqb v (still d) || any (λ i. eqb (wayOf d i) v) (range 0 rows)) (3 ^ d) covers v (ways-lt d f small) in
       let n : eqb v (still d) ≡ false = ne-eqb v (still d) (λ e. goes (ways-tell d f (λ _. 1) small (λ a h. omega arith) e)) in
-      let r = any-elim (λ i. eqb (wayOf d i) v) (range 0 rows) (or-else (eqb v (still d)) _ t n) in
+      let r = any-elim (λ i. eqb (wayOf d i) v) (range 0 rows) (or-not (eqb v (still d)) _ t n) in
       (r .0, mem-range rows (r .0) (r .1), ways-tell d (step d (r .0)) f (λ a h. step-le (getD (directionRow d (r .0)) a none)) small (eqb-true (wayOf d (r .0)) v (r .2)))

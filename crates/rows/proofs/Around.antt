@@ -18,7 +18,7 @@ use Rattle.morton.specs.Anchors.{near, anchor, touching}
 use Rattle.morton.proofs.Cells.{above-one, key-parts, level-at, code-at, level-parent, code-parent}
 use Rattle.morton.proofs.Nearness.{within}
 use Rattle.tree.specs.Nodes.{cellAt, childOf}
-use Rattle.tree.proofs.Each.{same}
+use Rattle.slices.proofs.Tests.{same-test}
 use Rattle.tree.proofs.Sourced.{Under, under-facts, facts-under}
 use Rattle.rows.specs.Lists.{neighbour, atOrUnder}
 
@@ -53,7 +53,7 @@ valid-parent d k h v =
 
 -- at or under itself and its neighbours
 pub by-neighbours : (d b s : ℕ) (cells : List ℕ) → Around d b cells → valid d s ≡ true → atOrUnder d b s ≡ any (λ c. under d c s) (b ∷ cells)
-by-neighbours d b s cells around v = same (atOrUnder d b s) (any (λ c. under d c s) (b ∷ cells)) there-is holds
+by-neighbours d b s cells around v = same-test (atOrUnder d b s) (any (λ c. under d c s) (b ∷ cells)) there-is holds
   where
     held : (c : ℕ) → touching d b c ≡ true → under d c s ≡ true → atOrUnder d b s ≡ true
     held c t h =
@@ -86,7 +86,7 @@ by-neighbours d b s cells around v = same (atOrUnder d b s) (any (λ c. under d 
 -- children of its parent's neighbours
 pub by-cousins : (d b c : ℕ) (cells : List ℕ) → Around d (parent d b) cells → valid d c ≡ true
     → (ltb 0 (levelOf c) && neighbour d (parent d b) (parent d c)) ≡ any (λ p. childOf d p c) cells
-by-cousins d b c cells around v = same (ltb 0 (levelOf c) && neighbour d (parent d b) (parent d c)) (any (λ p. childOf d p c) cells) there-is holds
+by-cousins d b c cells around v = same-test (ltb 0 (levelOf c) && neighbour d (parent d b) (parent d c)) (any (λ p. childOf d p c) cells) there-is holds
   where
     there-is : (ltb 0 (levelOf c) && neighbour d (parent d b) (parent d c)) ≡ true → any (λ p. childOf d p c) cells ≡ true
     there-is h =

@@ -1,6 +1,6 @@
 -- Tests as facts: `search (and-l, and-r)` takes a chain of && apart.
-use mathlib.Core.Path.{_≡_, refl}
-use mathlib.Core.Bool.{Bool, true, false, _&&_}
+use mathlib.Core.Path.{_≡_, refl, sym}
+use mathlib.Core.Bool.{Bool, true, false, _&&_, _||_}
 use mathlib.Core.Logic.{_⊎_, inl, inr, ⊎-elim, _≢_}
 use Prim.Native.Nat.{ℕ, _≤_, _<_}
 use native.Mathlib.Omega.{arith}
@@ -35,3 +35,18 @@ lt-or-le a b = go (ltb a b) refl
 
 pub same-or-not : (a b : ℕ) → (a ≡ b) ⊎ (a ≢ b)
 same-or-not a b = ⊎-elim (λ h. inr (omega arith)) (λ h. ⊎-elim (λ g. inr (omega arith)) (λ g. inl (omega arith)) (lt-or-le b a)) (lt-or-le a b)
+
+-- a choice, one side of which does not hold
+pub or-not : (a b : Bool) → (a || b) ≡ true → a ≡ false → b ≡ true
+or-not true b h e = absurd (clash refl e)
+or-not false b h e = h
+
+pub or-right : (a b : Bool) → (a ≡ false → b ≡ true) → (a || b) ≡ true
+or-right true b h = refl
+or-right false b h = h refl
+
+-- two tests that pass together
+pub same-test : (a b : Bool) → (a ≡ true → b ≡ true) → (b ≡ true → a ≡ true) → a ≡ b
+same-test true b f g = sym (f refl)
+same-test false true f g = g refl
+same-test false false f g = refl

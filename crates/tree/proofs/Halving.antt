@@ -15,11 +15,11 @@ use Rattle.tree.specs.WellFormed.{inOrder}
 use Rattle.tree.specs.declared.Found.{Found}
 use Rattle.tree.specs.declared.Found.the-variants.{At, Nothing}
 use Rattle.tree.specs.Finding.{FoundNode, FirstFrom}
-use Rattle.tree.proofs.Each.{each-at}
+use Rattle.slices.proofs.Every.{every-at}
 use Rattle.tree.proofs.Stored.{Earlier, earlier, before-of, earlier-not, earlier-trans, earlier-of, stored-mem, mem-stored}
 
 pub in-order : (keys : List ℕ) → inOrder keys ≡ true → (i j : ℕ) → i < j → j < length keys → Earlier (getD keys i 0) (getD keys j 0)
-in-order keys o = earlier-of keys (λ i l. each-at (length keys - 1) (λ i. before (getD keys i 0) (getD keys (suc i) 0)) o i (omega arith))
+in-order keys o = earlier-of keys (λ i l. every-at (λ i. before (getD keys i 0) (getD keys (suc i) 0)) (length keys - 1) o i (omega arith))
 
 before-self : (k : ℕ) → before k k ≡ false
 before-self k = refute (λ h. earlier-not k (earlier k k h))

@@ -11,12 +11,13 @@ use lib.ListN.{length, getD}
 use lib.Pow.{pow-pos, pow-add, pow-mono}
 use borrow.Author.Tests.{ltb-true, leb-true, eqb-true, lt-ltb, le-ltb, le-leb, lt-leb, eq-eqb, ne-eqb}
 use Rattle.slices.specs.Lists.{any, Mem}
+use Rattle.slices.specs.Every.{every}
 use Rattle.slices.proofs.Tests.{and-l, and-r, both, clash, refute}
 use Rattle.slices.proofs.Counts.{any-intro, any-elim}
 use Rattle.morton.specs.Keys.{key, levelOf, codeOf, valid, parent}
 use Rattle.morton.proofs.Cells.{key-level, key-code, key-parts, level-parent, code-parent}
 use Rattle.tree.specs.Nodes.{before, stored, childOf, leaf}
-use Rattle.tree.specs.WellFormed.{each, inOrder, keysAscend}
+use Rattle.tree.specs.WellFormed.{inOrder, keysAscend}
 use Rattle.tree.specs.Finding.{FirstFrom, Children}
 use Rattle.tree.proofs.KeyTests.{before-lower, before-higher, before-same}
 use Rattle.tree.proofs.Rules.{Ascending, ascend-facts}
@@ -24,7 +25,7 @@ use Rattle.tree.proofs.Stored.{level-le, mem-stored}
 
 pub order-of : (d : ℕ) (keys : List ℕ) → keysAscend d keys ≡ true → inOrder keys ≡ true
 unfolding keysAscend
-order-of d keys h = and-r (each (length keys) (λ i. valid d (getD keys i 0))) _ (and-r (eqb (getD keys 0 0) 0) _ h)
+order-of d keys h = and-r (every (length keys) (λ i. valid d (getD keys i 0))) _ (and-r (eqb (getD keys 0 0) 0) _ h)
 
 -- codes between c * f and c * f + f are those that f divides to c
 quotient : (c f y : ℕ) → 0 < f → eqb (y / f) c ≡ (not (ltb y (c * f)) && ltb y (c * f + f))

@@ -1,4 +1,3 @@
-pub mod Each
 pub mod Rules
 pub mod Runs
 pub mod Stored

@@ -9,11 +9,13 @@ use lib.Dec.{leb, ltb, eqb}
 use lib.ListN.{length, getD, take}
 use borrow.Author.Tests.{ltb-true, leb-true, eqb-true, eqb-false, lt-ltb, le-leb, eq-eqb, ne-eqb}
 use Rattle.slices.specs.Lists.{any, sum}
+use Rattle.slices.specs.Every.{every}
 use Rattle.slices.proofs.Tests.{and-l, and-r, both}
 use Rattle.morton.specs.Keys.{valid, parent}
 use Rattle.tree.specs.Nodes.{before, stored, leaf}
-use Rattle.tree.specs.WellFormed.{each, mostSources, oneLength, keysAscend, parentsStored, leavesOwn, runsAdd, wellFormed}
-use Rattle.tree.proofs.Each.{each-at, each-all, or-not, or-right}
+use Rattle.tree.specs.WellFormed.{mostSources, oneLength, keysAscend, parentsStored, leavesOwn, runsAdd, wellFormed}
+use Rattle.slices.proofs.Every.{every-at, every-all}
+use Rattle.slices.proofs.Tests.{or-not, or-right}
 
 pub record Ascending (d : ℕ) (keys : List ℕ) : Type 0 where
   pub root : getD keys 0 0 ≡ 0
@@ -37,51 +39,51 @@ module _ (d : ℕ) (keys : List ℕ) where
       let (a, b, c) = parts in
       record {
         root = eqb-true (getD keys 0 0) 0 a;
-        sound = each-at (length keys) (λ i. valid d (getD keys i 0)) b;
-        ordered = λ i l. each-at (length keys - 1) (λ i. before (getD keys i 0) (getD keys (suc i) 0)) c i (omega arith);
+        sound = every-at (λ i. valid d (getD keys i 0)) (length keys) b;
+        ordered = λ i l. every-at (λ i. before (getD keys i 0) (getD keys (suc i) 0)) (length keys - 1) c i (omega arith);
       }
     where
-      parts : (eqb (getD keys 0 0) 0 ≡ true) × (each (length keys) (λ i. valid d (getD keys i 0)) ≡ true)
-          × (each (length keys - 1) (λ i. before (getD keys i 0) (getD keys (suc i) 0)) ≡ true)
-      parts = unfold keysAscend in (and-l _ _ h, and-l _ _ (and-r (eqb (getD keys 0 0) 0) _ h), and-r (each (length keys) (λ i. valid d (getD keys i 0))) _ (and-r (eqb (getD keys 0 0) 0) _ h))
+      parts : (eqb (getD keys 0 0) 0 ≡ true) × (every (length keys) (λ i. valid d (getD keys i 0)) ≡ true)
+          × (every (length keys - 1) (λ i. before (getD keys i 0) (getD keys (suc i) 0)) ≡ true)
+      parts = unfold keysAscend in (and-l _ _ h, and-l _ _ (and-r (eqb (getD keys 0 0) 0) _ h), and-r (every (length keys) (λ i. valid d (getD keys i 0))) _ (and-r (eqb (getD keys 0 0) 0) _ h))
 
   pub facts-ascend : Ascending d keys → keysAscend d keys ≡ true
   unfolding keysAscend
   facts-ascend a =
       both (eq-eqb (getD keys 0 0) 0 (a .root))
-      (both (each-all (length keys) (λ i. valid d (getD keys i 0)) (a .sound))
-      (each-all (length keys - 1) (λ i. before (getD keys i 0) (getD keys (suc i) 0)) (λ i l. a .ordered i (omega arith))))
+      (both (every-all (λ i. valid d (getD keys i 0)) (length keys) (a .sound))
+      (every-all (λ i. before (getD keys i 0) (getD keys (suc i) 0)) (length keys - 1) (λ i l. a .ordered i (omega arith))))
 
   pub parents-facts : parentsStored d keys ≡ true → (i : ℕ) → 0 < i → i < length keys → stored keys (parent d (getD keys i 0)) ≡ true
   unfolding parentsStored
-  parents-facts h i p l = or-not (eqb i 0) _ (each-at (length keys) (λ i. eqb i 0 || stored keys (parent d (getD keys i 0))) h i l) (ne-eqb i 0 (λ e. omega arith))
+  parents-facts h i p l = or-not (eqb i 0) _ (every-at (λ i. eqb i 0 || stored keys (parent d (getD keys i 0))) (length keys) h i l) (ne-eqb i 0 (λ e. omega arith))
 
   pub facts-parents : ((i : ℕ) → 0 < i → i < length keys → stored keys (parent d (getD keys i 0)) ≡ true) → parentsStored d keys ≡ true
   unfolding parentsStored
-  facts-parents f = each-all (length keys) (λ i. eqb i 0 || stored keys (parent d (getD keys i 0)))
+  facts-parents f = every-all (λ i. eqb i 0 || stored keys (parent d (getD keys i 0))) (length keys)
       (λ i l. or-right (eqb i 0) _ (λ e. let n = eqb-false i 0 e in f i (omega arith) l))
 
   module _ (own : List ℕ) where
     pub leaves-facts : leavesOwn d keys own ≡ true → (i : ℕ) → i < length keys → leaf d keys (getD keys i 0) ≡ false → getD own i 0 ≡ 0
     unfolding leavesOwn
-    leaves-facts h i l f = eqb-true (getD own i 0) 0 (or-not (leaf d keys (getD keys i 0)) _ (each-at (length keys) (λ i. leaf d keys (getD keys i 0) || eqb (getD own i 0) 0) h i l) f)
+    leaves-facts h i l f = eqb-true (getD own i 0) 0 (or-not (leaf d keys (getD keys i 0)) _ (every-at (λ i. leaf d keys (getD keys i 0) || eqb (getD own i 0) 0) (length keys) h i l) f)
 
     pub facts-leaves : ((i : ℕ) → i < length keys → leaf d keys (getD keys i 0) ≡ false → getD own i 0 ≡ 0) → leavesOwn d keys own ≡ true
     unfolding leavesOwn
-    facts-leaves f = each-all (length keys) (λ i. leaf d keys (getD keys i 0) || eqb (getD own i 0) 0)
+    facts-leaves f = every-all (λ i. leaf d keys (getD keys i 0) || eqb (getD own i 0) 0) (length keys)
         (λ i l. or-right (leaf d keys (getD keys i 0)) _ (λ e. eq-eqb (getD own i 0) 0 (f i l e)))
 
 module _ (own begin : List ℕ) where
   pub runs-facts : runsAdd own begin ≡ true → ((i : ℕ) → i < length own → getD begin i 0 ≡ sum (take i own)) × (sum own ≤ mostSources)
   unfolding runsAdd
   runs-facts h = (
-    λ i l. eqb-true (getD begin i 0) (sum (take i own)) (each-at (length own) (λ i. eqb (getD begin i 0) (sum (take i own))) (and-l _ _ h) i l),
-    leb-true (sum own) mostSources (and-r (each (length own) (λ i. eqb (getD begin i 0) (sum (take i own)))) _ h),
+    λ i l. eqb-true (getD begin i 0) (sum (take i own)) (every-at (λ i. eqb (getD begin i 0) (sum (take i own))) (length own) (and-l _ _ h) i l),
+    leb-true (sum own) mostSources (and-r (every (length own) (λ i. eqb (getD begin i 0) (sum (take i own)))) _ h),
   )
 
   pub facts-runs : ((i : ℕ) → i < length own → getD begin i 0 ≡ sum (take i own)) → sum own ≤ mostSources → runsAdd own begin ≡ true
   unfolding runsAdd
-  facts-runs f t = both (each-all (length own) (λ i. eqb (getD begin i 0) (sum (take i own))) (λ i l. eq-eqb (getD begin i 0) (sum (take i own)) (f i l))) (le-leb (sum own) mostSources t)
+  facts-runs f t = both (every-all (λ i. eqb (getD begin i 0) (sum (take i own))) (length own) (λ i l. eq-eqb (getD begin i 0) (sum (take i own)) (f i l))) (le-leb (sum own) mostSources t)
 
 module _ (d : ℕ) (keys own begin : List ℕ) where
   pub facts : wellFormed d keys own begin ≡ true → WellFormed d keys own begin

@@ -17,7 +17,7 @@ use Rattle.slices.proofs.Counts.{any-intro, any-elim}
 use Rattle.morton.specs.Keys.{key, levelOf, codeOf, above, parent, under}
 use Rattle.morton.proofs.Cells.{above-zero, above-one, key-parts, level-at, code-at, at-self, level-parent, code-parent, parent-at}
 use Rattle.tree.specs.Nodes.{cellAt, stored, childOf, leaf, ownOf, sourced}
-use Rattle.tree.proofs.Each.{same}
+use Rattle.slices.proofs.Tests.{same-test}
 use Rattle.tree.proofs.Rules.{WellFormed}
 use Rattle.tree.proofs.Stored.{own-at, distinct, above-mem, leaf-under, sourced-by}
 
@@ -95,7 +95,7 @@ module _ (d : ℕ) (keys own : List ℕ) where
 module _ (d : ℕ) (keys own begin : List ℕ) (w : WellFormed d keys own begin) where
   -- a leaf is sourced if it owns sources
   pub sourced-leaf : (k : ℕ) → leaf d keys k ≡ true → Mem k keys → sourced d keys own k ≡ ltb 0 (ownOf keys own k)
-  sourced-leaf k l m = same (sourced d keys own k) (ltb 0 (ownOf keys own k))
+  sourced-leaf k l m = same-test (sourced d keys own k) (ltb 0 (ownOf keys own k))
       (λ h.
       let (j, mj, u, o) = sourced-facts d keys own k h in
       lt-ltb 0 (ownOf keys own k) (rw (leaf-under d keys (w .ascending) (w .parents) k j l mj u) o))
@@ -103,7 +103,7 @@ module _ (d : ℕ) (keys own begin : List ℕ) (w : WellFormed d keys own begin)
 
   -- any other node is sourced if a child is
   pub sourced-inner : (k : ℕ) → leaf d keys k ≡ false → Mem k keys → sourced d keys own k ≡ any (λ c. childOf d k c && sourced d keys own c) keys
-  sourced-inner k l m = same (sourced d keys own k) (any (λ c. childOf d k c && sourced d keys own c) keys) down up
+  sourced-inner k l m = same-test (sourced d keys own k) (any (λ c. childOf d k c && sourced d keys own c) keys) down up
     where
       none : ownOf keys own k ≡ 0
       none =

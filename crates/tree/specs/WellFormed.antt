@@ -5,13 +5,9 @@ use Prim.Native.Nat.{ℕ, zero, suc, _+_, _-_, _≤_, _<_}
 use lib.Dec.{leb, ltb, eqb}
 use lib.ListN.{length, getD, take}
 use Rattle.slices.specs.Lists.{any, sum}
+use Rattle.slices.specs.Every.{every}
 use Rattle.morton.specs.Keys.{valid, parent}
 use Rattle.tree.specs.Nodes.{before, stored, leaf}
-
--- a test passes at each number below n
-unfoldable pub each : ℕ → (ℕ → Bool) → Bool
-each zero p = true
-each (suc n) p = p n && each n p
 
 -- the most sources of a tree
 abbrev pub mostSources : ℕ
@@ -23,27 +19,27 @@ oneLength keys own begin = eqb (length own) (length keys) && (eqb (length begin)
 
 -- strictly ascending by level then code
 abbrev pub inOrder : List ℕ → Bool
-inOrder keys = each (length keys - 1) (λ i. before (getD keys i 0) (getD keys (suc i) 0))
+inOrder keys = every (length keys - 1) (λ i. before (getD keys i 0) (getD keys (suc i) 0))
 
 -- keys are valid, strictly ascending by level then code, the first 0
 unfoldable pub keysAscend : ℕ → List ℕ → Bool
-unfolding each
-keysAscend d keys = eqb (getD keys 0 0) 0 && (each (length keys) (λ i. valid d (getD keys i 0)) && inOrder keys)
+unfolding every
+keysAscend d keys = eqb (getD keys 0 0) 0 && (every (length keys) (λ i. valid d (getD keys i 0)) && inOrder keys)
 
 -- every other's parent is present
 unfoldable pub parentsStored : ℕ → List ℕ → Bool
-unfolding each
-parentsStored d keys = each (length keys) (λ i. eqb i 0 || stored keys (parent d (getD keys i 0)))
+unfolding every
+parentsStored d keys = every (length keys) (λ i. eqb i 0 || stored keys (parent d (getD keys i 0)))
 
 -- the root and nodes with children own none
 unfoldable pub leavesOwn : ℕ → List ℕ → List ℕ → Bool
-unfolding each
-leavesOwn d keys own = each (length keys) (λ i. leaf d keys (getD keys i 0) || eqb (getD own i 0) 0)
+unfolding every
+leavesOwn d keys own = every (length keys) (λ i. leaf d keys (getD keys i 0) || eqb (getD own i 0) 0)
 
 -- begins are the running sums; the total is at most 1,048,576
 unfoldable pub runsAdd : List ℕ → List ℕ → Bool
-unfolding each
-runsAdd own begin = each (length own) (λ i. eqb (getD begin i 0) (sum (take i own))) && leb (sum own) mostSources
+unfolding every
+runsAdd own begin = every (length own) (λ i. eqb (getD begin i 0) (sum (take i own))) && leb (sum own) mostSources
 
 unfoldable pub wellFormed : ℕ → List ℕ → List ℕ → List ℕ → Bool
 unfolding keysAscend parentsStored leavesOwn runsAdd
