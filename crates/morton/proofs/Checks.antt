@@ -9,15 +9,14 @@ use lib.Dec.{leb, ltb}
 use lib.Pow.{pow-pos}
 use borrow.Author.Tests.{leb-true, ltb-true, le-leb, lt-leb, lt-ltb, le-ltb}
 use Rattle.refusal.specs.declared.Refusal.{Refusal}
-use Rattle.refusal.specs.declared.Refusal.the-variants.{Dims, Key}
-use Rattle.refusal.specs.declared.Outcome.{Outcome}
+use Rattle.refusal.specs.declared.Refusal.the-variants.{Dims, Key, Root, Deep}
 use Rattle.refusal.specs.declared.Outcome.the-variants.{Done, Refused}
-use Rattle.refusal.specs.Chain.{unless}
-use Rattle.refusal.proofs.Chain.{passed, later}
+use Rattle.refusal.specs.Chain.{ask, _then_}
+use Rattle.refusal.proofs.Chain.{asked, both-done}
 use Rattle.slices.proofs.Tests.{and-l, and-r, both}
 use Rattle.morton.specs.Keys.{axesKnown, valid, ValidKey, levelOf, codeOf}
 use Rattle.morton.specs.Anchors.{onLevel}
-use Rattle.morton.specs.Answers.{keyCheck, anchorCheck}
+use Rattle.morton.specs.Answers.{keyCheck, belowRoot, aboveDeepest, pairCheck, anchorCheck}
 
 pub axes-known : (d : ℕ) → 1 ≤ d → d ≤ 3 → axesKnown d ≡ true
 axes-known d l h = both (le-leb 1 d l) (le-leb d 3 h)
@@ -74,27 +73,22 @@ pub facts-valid : (d k : ℕ) → ValidKey d k → (axesKnown d ≡ true) × (va
 facts-valid d k v = (axes-known d (v .some) (v .most), both (le-leb (levelOf k) 16 (v .level)) (lt-ltb (codeOf k) (2 ^ (d * levelOf k)) (v .code)))
 
 -- a key call that is not refused so far has a valid key
-pub checked : (d k : ℕ) (o : Outcome) → keyCheck d k o ≡ Done → ValidKey d k
-checked d k o e = valid-facts d k (passed _ _ _ e) (passed (valid d k) Key o (later (axesKnown d) _ _ e))
+pub checked : (d k : ℕ) → keyCheck d k ≡ Done → ValidKey d k
+checked d k e = let p = both-done (ask (axesKnown d) Dims) (ask (valid d k) Key) e in valid-facts d k (asked (axesKnown d) Dims (p .0)) (asked (valid d k) Key (p .1))
 
-pub checked-later : (d k : ℕ) (o : Outcome) → keyCheck d k o ≡ Done → o ≡ Done
-checked-later d k o e = later (valid d k) Key o (later (axesKnown d) _ _ e)
+pub below-root : (d k : ℕ) → belowRoot d k ≡ Done → ValidKey d k × (0 < levelOf k)
+below-root d k e = let p = both-done (keyCheck d k) (ask (ltb 0 (levelOf k)) Root) e in (checked d k (p .0), ltb-true 0 (levelOf k) (asked (ltb 0 (levelOf k)) Root (p .1)))
 
--- the later tests do not change a refusal, and come after a key that is good
-pub check-more : (d k : ℕ) (o : Outcome) → keyCheck d k Done ≡ Done → keyCheck d k o ≡ o
-check-more d k o e = let f = facts-valid d k (checked d k Done e) in rw (f .0, f .1)
+pub above-deepest : (d k : ℕ) → aboveDeepest d k ≡ Done → ValidKey d k × (levelOf k < 16)
+above-deepest d k e = let p = both-done (keyCheck d k) (ask (ltb (levelOf k) 16) Deep) e in (checked d k (p .0), ltb-true (levelOf k) 16 (asked (ltb (levelOf k) 16) Deep (p .1)))
 
-pub check-first : (d k : ℕ) (o : Outcome) (r : Refusal) → keyCheck d k Done ≡ Refused r → keyCheck d k o ≡ Refused r
-check-first d k o r e = go (axesKnown d) (valid d k) e
-  where
-    go : (a v : Bool) → unless a Dims (unless v Key Done) ≡ Refused r → unless a Dims (unless v Key o) ≡ Refused r
-    go true true e = let z : _≡_ {A = ℕ} 0 1 = cc in absurd (omega arith)
-    go true false e = e
-    go false v e = e
+pub pair-checked : (d j k : ℕ) → pairCheck d j k ≡ Done → ValidKey d j × ValidKey d k
+pair-checked d j k e = let p = both-done (keyCheck d j) (keyCheck d k) e in (checked d j (p .0), checked d k (p .1))
 
 -- anchors that are not refused are on a valid level
 pub anchor-checked : (d level : ℕ) (xs : List ℕ) → anchorCheck d level xs ≡ Done → (1 ≤ d) × (d ≤ 3) × (level ≤ 16) × (onLevel d level xs ≡ true)
 anchor-checked d level xs e =
-    let f = axes-facts d (passed _ _ _ e) in
-    let g = passed (leb level 16 && onLevel d level xs) Key Done (later (axesKnown d) _ _ e) in
+    let p = both-done (ask (axesKnown d) Dims) (ask (leb level 16 && onLevel d level xs) Key) e in
+    let f = axes-facts d (asked (axesKnown d) Dims (p .0)) in
+    let g = asked (leb level 16 && onLevel d level xs) Key (p .1) in
     (f .0, f .1, leb-true level 16 (and-l _ _ g), and-r (leb level 16) _ g)

@@ -8,7 +8,7 @@ use Rattle.refusal.specs.declared.Refusal.{Refusal}
 use Rattle.refusal.specs.declared.Refusal.the-variants.{Dims, Key, Root, Deep}
 use Rattle.refusal.specs.declared.Outcome.{Outcome}
 use Rattle.refusal.specs.declared.Outcome.the-variants.{Done, Refused}
-use Rattle.refusal.specs.Chain.{unless}
+use Rattle.refusal.specs.Chain.{ask, _then_}
 use Rattle.slices.specs.Lists.{filled}
 use Rattle.morton.specs.declared.NumberAnswer.{NumberAnswer}
 use Rattle.morton.specs.declared.NumberAnswer.the-variants as number
@@ -42,48 +42,48 @@ placed (Refused r) xs level = record { outcome = Refused r; anchor = filled 3 []
 
 -- ---- the order of the refusals: 1, 9, then 10 or 11
 
-abbrev pub keyCheck : ℕ → ℕ → Outcome → Outcome
-keyCheck d k later = unless (axesKnown d) Dims (unless (valid d k) Key later)
+abbrev pub keyCheck : ℕ → ℕ → Outcome
+keyCheck d k = ask (axesKnown d) Dims then ask (valid d k) Key
 
-abbrev pub belowRoot : ℕ → Outcome
-belowRoot k = unless (ltb 0 (levelOf k)) Root Done
+abbrev pub belowRoot : ℕ → ℕ → Outcome
+belowRoot d k = keyCheck d k then ask (ltb 0 (levelOf k)) Root
 
-abbrev pub aboveDeepest : ℕ → Outcome
-aboveDeepest k = unless (ltb (levelOf k) deepest) Deep Done
+abbrev pub aboveDeepest : ℕ → ℕ → Outcome
+aboveDeepest d k = keyCheck d k then ask (ltb (levelOf k) deepest) Deep
 
--- a level not valid, or an anchor off its level, is 9 too
-abbrev pub anchorCheck : ℕ → ℕ → List ℕ → Outcome
-anchorCheck d level xs = unless (axesKnown d) Dims (unless (leb level deepest && onLevel d level xs) Key Done)
-
--- and so is either of two keys
+-- either of two keys
 abbrev pub pairCheck : ℕ → ℕ → ℕ → Outcome
-pairCheck d j k = keyCheck d j (keyCheck d k Done)
+pairCheck d j k = keyCheck d j then keyCheck d k
+
+-- a level not valid, or an anchor off its level
+abbrev pub anchorCheck : ℕ → ℕ → List ℕ → Outcome
+anchorCheck d level xs = ask (axesKnown d) Dims then ask (leb level deepest && onLevel d level xs) Key
 
 -- ---- the calls
 
 abbrev pub levelAnswer : ℕ → ℕ → NumberAnswer
-levelAnswer d k = numbered (keyCheck d k Done) (levelOf k)
+levelAnswer d k = numbered (keyCheck d k) (levelOf k)
 
 abbrev pub parentAnswer : ℕ → ℕ → NumberAnswer
-parentAnswer d k = numbered (keyCheck d k (belowRoot k)) (parent d k)
+parentAnswer d k = numbered (belowRoot d k) (parent d k)
 
 abbrev pub childIndexAnswer : ℕ → ℕ → NumberAnswer
-childIndexAnswer d k = numbered (keyCheck d k Done) (childIndex d k)
+childIndexAnswer d k = numbered (keyCheck d k) (childIndex d k)
 
 abbrev pub childrenAnswer : ℕ → ℕ → KeyList
-childrenAnswer d k = listed (keyCheck d k (aboveDeepest k)) (children d k)
+childrenAnswer d k = listed (aboveDeepest d k) (children d k)
 
 abbrev pub siblingsAnswer : ℕ → ℕ → KeyList
-siblingsAnswer d k = listed (keyCheck d k (belowRoot k)) (siblings d k)
+siblingsAnswer d k = listed (belowRoot d k) (siblings d k)
 
 abbrev pub ancestorsAnswer : ℕ → ℕ → KeyList
-ancestorsAnswer d k = listed (keyCheck d k Done) (ancestors d k)
+ancestorsAnswer d k = listed (keyCheck d k) (ancestors d k)
 
 abbrev pub neighboursAnswer : ℕ → ℕ → KeyList
-neighboursAnswer d k = listed (keyCheck d k Done) (neighbours d k)
+neighboursAnswer d k = listed (keyCheck d k) (neighbours d k)
 
 abbrev pub decodeAnswer : ℕ → ℕ → AnchorAnswer
-decodeAnswer d k = placed (keyCheck d k Done) (anchors d k) (levelOf k)
+decodeAnswer d k = placed (keyCheck d k) (anchors d k) (levelOf k)
 
 abbrev pub encodeAnswer : ℕ → ℕ → List ℕ → NumberAnswer
 encodeAnswer d level xs = numbered (anchorCheck d level xs) (keyAt d level xs)

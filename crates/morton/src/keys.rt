@@ -28,7 +28,7 @@ pub fn code_of(key: u64) -> u64
 
 // The refusals that every key call begins with.
 pub fn check_key(axes: usize, key: u64) -> Outcome
-    ensures { λ r. ⌜ r ≡ keyCheck axes key Done ⌝ }
+    ensures { λ r. ⌜ r ≡ keyCheck axes key ⌝ }
 {
     if axes < 1 {
         return Outcome::Refused(Refusal::Dims);
@@ -48,7 +48,7 @@ pub fn check_key(axes: usize, key: u64) -> Outcome
 
 // And those of a call on a cell with a parent.
 fn check_below_root(axes: usize, key: u64) -> Outcome
-    ensures { λ r. ⌜ r ≡ keyCheck axes key (belowRoot key) ⌝ }
+    ensures { λ r. ⌜ r ≡ belowRoot axes key ⌝ }
 {
     let checked = check_key(axes, key);
     match checked {
@@ -64,7 +64,7 @@ fn check_below_root(axes: usize, key: u64) -> Outcome
 
 // And those of a call on a cell with children.
 fn check_above_deepest(axes: usize, key: u64) -> Outcome
-    ensures { λ r. ⌜ r ≡ keyCheck axes key (aboveDeepest key) ⌝ }
+    ensures { λ r. ⌜ r ≡ aboveDeepest axes key ⌝ }
 {
     let checked = check_key(axes, key);
     match checked {

@@ -1,5 +1,5 @@
 -- The code is below its level's end, so that 16 levels of it give the level's anchors.
-use mathlib.Core.Path.{_≡_, refl, sym, ap, _∙_, subst}
+use mathlib.Core.Path.{sym, ap, _∙_, subst}
 use Prim.Native.Nat.{ℕ, _*_, _^_, _<_}
 use Rattle.slices.specs.Lists.{filled}
 use Rattle.morton.specs.Keys.{levelOf, codeOf}

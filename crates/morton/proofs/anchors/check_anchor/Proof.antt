@@ -1,5 +1,5 @@
 -- The tests of 1 and 9, in their order.
-use mathlib.Core.Path.{_≡_, refl, sym, ap, _∙_}
+use mathlib.Core.Path.{sym, _∙_}
 use native.Mathlib.Omega.{arith}
 use borrow.Author.Tests.{le-leb, lt-leb}
 use Rattle.morton.proofs.Checks.{axes-few, axes-many, axes-known}

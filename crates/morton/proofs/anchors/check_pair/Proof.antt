@@ -1,8 +1,7 @@
 -- The first key's refusals come first.
-use mathlib.Core.Path.{_≡_, refl, sym, ap, _∙_}
-use Rattle.refusal.specs.declared.Outcome.the-variants.{Done}
+use mathlib.Core.Path.{sym, _∙_}
 use Rattle.morton.specs.Answers.{keyCheck}
-use Rattle.morton.proofs.Checks.{check-more, check-first}
+use Rattle.refusal.proofs.Chain.{after-done, after-refused}
 use borrow.Author.Needs.{needs}
 use Rattle.morton.proofs.anchors.check_pair.Statement.{statement}
 use Rattle.morton.proofs.anchors.check_pair.Tie as tie
@@ -20,10 +19,10 @@ check-key-requires-2 : tie.Need-check-key-requires-2
 check-key-requires-2 c κs = search needs
 
 returns : tie.Need-returns
-returns c = let s = c .before .before .before .before in sym (check-first (s .args .axes) (s .args .a) (keyCheck (s .args .axes) (s .args .b) Done) _ (sym (c .before .before .before .check-key .ensures) ∙ c .before .first .given .1))
+returns c = let s = c .before .before .before .before in sym (after-refused (keyCheck (s .args .axes) (s .args .a)) (keyCheck (s .args .axes) (s .args .b)) _ (sym (c .before .before .before .check-key .ensures) ∙ c .before .first .given .1))
 
 returns-2 : tie.Need-returns-2
-returns-2 c = let s = c .before .before .before .before in c .check-key2 .ensures ∙ sym (check-more (s .args .axes) (s .args .a) (keyCheck (s .args .axes) (s .args .b) Done) (sym (c .before .before .before .check-key .ensures) ∙ c .before .enum-told .given .1))
+returns-2 c = let s = c .before .before .before .before in c .check-key2 .ensures ∙ sym (after-done (keyCheck (s .args .axes) (s .args .a)) (keyCheck (s .args .axes) (s .args .b)) (sym (c .before .before .before .check-key .ensures) ∙ c .before .enum-told .given .1))
 
 pub check-pair-spec : {M : Type 1} → statement M
 check-pair-spec =

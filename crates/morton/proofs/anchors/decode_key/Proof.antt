@@ -1,5 +1,5 @@
 -- The check decides, and a good key has its anchors and its level.
-use mathlib.Core.Path.{_≡_, refl, sym, ap, ap₂, _∙_}
+use mathlib.Core.Path.{refl, sym, ap₂, _∙_}
 use Rattle.refusal.specs.declared.Outcome.the-variants.{Done}
 use Rattle.morton.proofs.Checks.{checked}
 use Rattle.morton.proofs.Answers.{placed-done, placed-refused}
@@ -17,7 +17,7 @@ enum-told : tie.Need-enum-told
 enum-told c = search needs
 
 anchors-of-requires : tie.Need-anchors-of-requires
-anchors-of-requires c κs = let s = c .before .before .before in checked (s .args .axes) (s .args .key) Done (sym (c .before .before .check-key .ensures) ∙ c .enum-told .given .1)
+anchors-of-requires c κs = let s = c .before .before .before in checked (s .args .axes) (s .args .key) (sym (c .before .before .check-key .ensures) ∙ c .enum-told .given .1)
 
 level-of-requires : tie.Need-level-of-requires
 level-of-requires c κs = search needs

@@ -1,6 +1,5 @@
 -- The check decides, and good anchors have their key.
-use mathlib.Core.Path.{_≡_, refl, sym, ap, _∙_}
-use native.Mathlib.Omega.{arith}
+use mathlib.Core.Path.{sym, _∙_}
 use Rattle.morton.proofs.Checks.{anchor-checked}
 use Rattle.morton.proofs.Answers.{number-done, number-refused}
 use borrow.Author.Needs.{needs}

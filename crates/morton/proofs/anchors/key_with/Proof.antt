@@ -1,5 +1,5 @@
 -- The code of the anchors on the axes, and the level.
-use mathlib.Core.Path.{_≡_, refl, sym, ap, _∙_}
+use mathlib.Core.Path.{ap, _∙_}
 use Prim.Native.Nat.{ℕ, _+_, _*_}
 use native.Mathlib.Omega.{arith}
 use Rattle.morton.proofs.Placing.{two-bytes, code-used, code-fits}

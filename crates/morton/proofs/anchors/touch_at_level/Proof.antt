@@ -1,6 +1,6 @@
 -- The axes are tested from the last to the first; on those passed the anchors are at most 1 apart.
 use mathlib.Core.Path.{_≡_, refl, sym, ap, _∙_}
-use Prim.Native.Nat.{ℕ, _+_, _-_, _≤_, _<_}
+use Prim.Native.Nat.{ℕ, _-_, _≤_}
 use native.Mathlib.Omega.{arith}
 use Rattle.morton.specs.Keys.{levelOf, codeOf}
 use Rattle.morton.specs.Anchors.{anchor, near}

@@ -1,12 +1,9 @@
 -- The check decides; of good keys the levels are compared, then the anchors.
-use mathlib.Core.Path.{_≡_, refl, sym, ap, _∙_}
-use mathlib.Core.Bool.{false}
+use mathlib.Core.Path.{sym, _∙_}
 use native.Mathlib.Omega.{arith}
 use borrow.Author.Tests.{eq-eqb, ne-eqb}
-use Rattle.refusal.specs.declared.Outcome.the-variants.{Done}
 use Rattle.morton.specs.Keys.{levelOf}
-use Rattle.morton.specs.Answers.{keyCheck}
-use Rattle.morton.proofs.Checks.{checked, checked-later}
+use Rattle.morton.proofs.Checks.{pair-checked}
 use Rattle.morton.proofs.Answers.{truth-done, truth-refused}
 use borrow.Author.Needs.{needs}
 use Rattle.morton.proofs.anchors.touching.Statement.{statement}
@@ -29,7 +26,7 @@ level-of-requires-2 c κs = search needs
 
 touch-at-level-requires : tie.Need-touch-at-level-requires
 touch-at-level-requires c κs = let s = c .before .before .before .before .before .before in let d = s .args .axes in let e = sym (c .before .before .before .before .before .check-pair .ensures) ∙ c .before .before .before .enum-told .given .1 in
-    (checked d (s .args .a) (keyCheck d (s .args .b) Done) e, checked d (s .args .b) Done (checked-later d (s .args .a) (keyCheck d (s .args .b) Done) e), omega (arith, c .before .before .level-of .ensures, c .before .level-of2 .ensures))
+    let p = pair-checked d (s .args .a) (s .args .b) e in (p .0, p .1, omega (arith, c .before .before .level-of .ensures, c .before .level-of2 .ensures))
 
 returns : tie.Need-returns
 returns c = let s = c .before .before .before .before .before .before .before in truth-done _ _ _ (sym (c .before .before .before .before .before .before .check-pair .ensures) ∙ c .before .before .before .before .enum-told .given .1) (c .touch-at-level .ensures ∙ rw (eq-eqb (levelOf (s .args .a)) (levelOf (s .args .b)) (omega (arith, c .before .before .before .level-of .ensures, c .before .before .level-of2 .ensures))))

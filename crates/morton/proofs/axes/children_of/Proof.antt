@@ -1,5 +1,5 @@
 -- By the number of axes; none where it is not 1 to 3.
-use mathlib.Core.Path.{_≡_, refl, sym, ap}
+use mathlib.Core.Path.{_≡_, ap}
 use native.Mathlib.Omega.{arith}
 use Rattle.morton.specs.Keys.{childrenRoom}
 use Rattle.morton.proofs.Checks.{axes-other}

@@ -1,5 +1,5 @@
 -- The tests of 1 and 9, in their order.
-use mathlib.Core.Path.{_≡_, refl, sym, ap, ap₂, _∙_}
+use mathlib.Core.Path.{_≡_, sym, ap₂, _∙_}
 use Prim.Native.Nat.{ℕ, _*_, _/_, _^_}
 use native.Mathlib.Omega.{arith}
 use Rattle.morton.specs.Keys.{levelOf, codeOf}

@@ -1,8 +1,7 @@
 -- The code, shifted up, with the child's number, and the level and one.
-use mathlib.Core.Path.{_≡_, refl, sym, ap, ap₂, _∙_}
+use mathlib.Core.Path.{ap, ap₂, _∙_}
 use Prim.Native.Nat.{ℕ, _+_, _*_, _%_, _^_}
 use native.Mathlib.Omega.{arith}
-use Rattle.morton.specs.Keys.{levelOf, codeOf}
 use Rattle.morton.proofs.Arithmetic.{code-shifted, child-48}
 use borrow.Author.Needs.{needs}
 use Rattle.morton.proofs.keys.child_of.Statement.{statement}

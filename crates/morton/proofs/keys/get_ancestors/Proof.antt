@@ -1,15 +1,7 @@
 -- The check decides, and a good key has its ancestors.
-use mathlib.Core.Path.{_≡_, refl, sym, ap, _∙_}
-use native.Mathlib.Omega.{arith}
-use borrow.Author.Tests.{ltb-true}
-use Rattle.refusal.specs.declared.Outcome.the-variants.{Done}
-use Rattle.refusal.proofs.Chain.{passed}
-use Rattle.morton.specs.Keys.{levelOf, children, parent}
-use Rattle.morton.specs.Answers.{belowRoot, aboveDeepest, listed}
-use Rattle.morton.proofs.Checks.{checked, checked-later}
+use mathlib.Core.Path.{sym, _∙_}
+use Rattle.morton.proofs.Checks.{checked}
 use Rattle.morton.proofs.Answers.{list-done, list-refused}
-use Rattle.morton.proofs.Arithmetic.{parent-valid}
-use Rattle.morton.proofs.Cells.{level-parent}
 use borrow.Author.Needs.{needs}
 use Rattle.morton.proofs.keys.get_ancestors.Statement.{statement}
 use Rattle.morton.proofs.keys.get_ancestors.Tie as tie
@@ -27,7 +19,7 @@ enum-told : tie.Need-enum-told
 enum-told c = search needs
 
 list-ancestors-requires : tie.Need-list-ancestors-requires
-list-ancestors-requires c κs = let s = c .before .before .before in checked (s .args .axes) (s .args .key) Done (sym (c .before .before .check-key .ensures) ∙ c .enum-told .given .1)
+list-ancestors-requires c κs = let s = c .before .before .before in checked (s .args .axes) (s .args .key) (sym (c .before .before .check-key .ensures) ∙ c .enum-told .given .1)
 
 returns : tie.Need-returns
 returns c = list-refused _ _ _ _ (sym (c .before .before .before .before .check-key .ensures) ∙ c .before .before .checked .given .1) (c .refused-list .ensures)

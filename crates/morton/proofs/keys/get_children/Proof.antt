@@ -1,15 +1,7 @@
 -- The check decides, and a good key above the deepest level has its children.
-use mathlib.Core.Path.{_≡_, refl, sym, ap, _∙_}
-use native.Mathlib.Omega.{arith}
-use borrow.Author.Tests.{ltb-true}
-use Rattle.refusal.specs.declared.Outcome.the-variants.{Done}
-use Rattle.refusal.proofs.Chain.{passed}
-use Rattle.morton.specs.Keys.{levelOf, children, parent}
-use Rattle.morton.specs.Answers.{belowRoot, aboveDeepest, listed}
-use Rattle.morton.proofs.Checks.{checked, checked-later}
+use mathlib.Core.Path.{sym, _∙_}
+use Rattle.morton.proofs.Checks.{above-deepest}
 use Rattle.morton.proofs.Answers.{list-done, list-refused}
-use Rattle.morton.proofs.Arithmetic.{parent-valid}
-use Rattle.morton.proofs.Cells.{level-parent}
 use borrow.Author.Needs.{needs}
 use Rattle.morton.proofs.keys.get_children.Statement.{statement}
 use Rattle.morton.proofs.keys.get_children.Tie as tie
@@ -28,7 +20,7 @@ enum-told c = search needs
 
 list-children-requires : tie.Need-list-children-requires
 list-children-requires c κs = let s = c .before .before .before in let e = sym (c .before .before .check-above-deepest .ensures) ∙ c .enum-told .given .1 in
-    (checked (s .args .axes) (s .args .key) (aboveDeepest (s .args .key)) e, ltb-true (levelOf (s .args .key)) 16 (passed _ _ _ (checked-later (s .args .axes) (s .args .key) (aboveDeepest (s .args .key)) e)))
+    above-deepest (s .args .axes) (s .args .key) e
 
 returns : tie.Need-returns
 returns c = list-refused _ _ _ _ (sym (c .before .before .before .before .check-above-deepest .ensures) ∙ c .before .before .checked .given .1) (c .refused-list .ensures)

@@ -1,5 +1,5 @@
 -- The check decides, and a good key has its level.
-use mathlib.Core.Path.{_≡_, refl, sym, _∙_}
+use mathlib.Core.Path.{sym, _∙_}
 use Rattle.morton.proofs.Answers.{number-done, number-refused}
 use borrow.Author.Needs.{needs}
 use Rattle.morton.proofs.keys.get_level.Statement.{statement}

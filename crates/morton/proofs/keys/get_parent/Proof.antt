@@ -1,11 +1,6 @@
 -- The check decides, and a good key below the root has its parent.
-use mathlib.Core.Path.{_≡_, refl, sym, _∙_}
-use native.Mathlib.Omega.{arith}
-use borrow.Author.Tests.{ltb-true}
-use Rattle.refusal.proofs.Chain.{passed}
-use Rattle.morton.specs.Keys.{levelOf}
-use Rattle.morton.specs.Answers.{belowRoot}
-use Rattle.morton.proofs.Checks.{checked, checked-later}
+use mathlib.Core.Path.{sym, _∙_}
+use Rattle.morton.proofs.Checks.{below-root}
 use Rattle.morton.proofs.Answers.{number-done, number-refused}
 use borrow.Author.Needs.{needs}
 use Rattle.morton.proofs.keys.get_parent.Statement.{statement}
@@ -22,7 +17,7 @@ enum-told c = search needs
 
 parent-of-requires : tie.Need-parent-of-requires
 parent-of-requires c κs = let s = c .before .before .before in let e = sym (c .before .before .check-below-root .ensures) ∙ c .enum-told .given .1 in
-    (checked (s .args .axes) (s .args .key) (belowRoot (s .args .key)) e, ltb-true 0 (levelOf (s .args .key)) (passed _ _ _ (checked-later (s .args .axes) (s .args .key) (belowRoot (s .args .key)) e)))
+    below-root (s .args .axes) (s .args .key) e
 
 returns : tie.Need-returns
 returns c = number-refused _ _ _ (sym (c .before .before .before .check-below-root .ensures) ∙ c .before .checked .given .1)

@@ -1,12 +1,10 @@
 -- The check decides, and a good key below the root has its parent's children.
-use mathlib.Core.Path.{_≡_, refl, sym, ap, _∙_}
+use mathlib.Core.Path.{sym, ap, _∙_}
 use native.Mathlib.Omega.{arith}
-use borrow.Author.Tests.{ltb-true}
 use Rattle.refusal.specs.declared.Outcome.the-variants.{Done}
-use Rattle.refusal.proofs.Chain.{passed}
-use Rattle.morton.specs.Keys.{levelOf, children, parent}
-use Rattle.morton.specs.Answers.{belowRoot, aboveDeepest, listed}
-use Rattle.morton.proofs.Checks.{checked, checked-later}
+use Rattle.morton.specs.Keys.{children}
+use Rattle.morton.specs.Answers.{listed}
+use Rattle.morton.proofs.Checks.{below-root}
 use Rattle.morton.proofs.Answers.{list-done, list-refused}
 use Rattle.morton.proofs.Arithmetic.{parent-valid}
 use Rattle.morton.proofs.Cells.{level-parent}
@@ -28,13 +26,12 @@ enum-told c = search needs
 
 parent-of-requires : tie.Need-parent-of-requires
 parent-of-requires c κs = let s = c .before .before .before in let e = sym (c .before .before .check-below-root .ensures) ∙ c .enum-told .given .1 in
-    (checked (s .args .axes) (s .args .key) (belowRoot (s .args .key)) e, ltb-true 0 (levelOf (s .args .key)) (passed _ _ _ (checked-later (s .args .axes) (s .args .key) (belowRoot (s .args .key)) e)))
+    below-root (s .args .axes) (s .args .key) e
 
 list-children-requires : tie.Need-list-children-requires
 list-children-requires c κs = let s = c .before .before .before .before in let d = s .args .axes in let k = s .args .key in
     let e = sym (c .before .before .before .check-below-root .ensures) ∙ c .before .enum-told .given .1 in
-    let v = checked d k (belowRoot k) e in
-    let h = ltb-true 0 (levelOf k) (passed _ _ _ (checked-later d k (belowRoot k) e)) in
+    let (v, h) = below-root d k e in
     rw (c .parent-of .ensures) (parent-valid d k v h, omega (arith, level-parent d k, v .level))
 
 returns : tie.Need-returns

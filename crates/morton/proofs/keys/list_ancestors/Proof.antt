@@ -1,8 +1,7 @@
 -- At each turn the array holds the cells from the key up to the one reached, and the cells above that are left.
-use mathlib.Core.Path.{_≡_, refl, sym, ap, _∙_}
-use Prim.Native.Nat.{ℕ, _<_}
+use mathlib.Core.Path.{ap}
 use native.Mathlib.Omega.{arith}
-use Rattle.morton.specs.Keys.{levelOf, parent}
+use Rattle.morton.specs.Keys.{levelOf}
 use Rattle.morton.proofs.Cells.{level-parent}
 use Rattle.morton.proofs.Runs.{Climbed, climb-start, climb-room, climb-more, climb-end}
 use borrow.Author.Needs.{needs}

@@ -1,7 +1,7 @@
 -- After n turns the array holds the first n children.
-use mathlib.Core.Path.{_≡_, refl, sym, ap, _∙_}
+use mathlib.Core.Path.{ap}
 use mathlib.Core.List.{map}
-use Prim.Native.Nat.{ℕ, _-_, _^_, _≤_, _<_}
+use Prim.Native.Nat.{ℕ, _-_, _≤_}
 use native.Mathlib.Omega.{arith}
 use Rattle.slices.specs.Lists.{range}
 use Rattle.morton.specs.Keys.{child}

@@ -1,5 +1,5 @@
 -- The code, shifted down, and the level less one.
-use mathlib.Core.Path.{_≡_, refl, sym, ap, ap₂, _∙_}
+use mathlib.Core.Path.{ap₂}
 use Prim.Native.Nat.{ℕ, _+_, _*_, _-_, _/_, _^_}
 use native.Mathlib.Omega.{arith}
 use lib.Pow.{shr-le}

@@ -1,6 +1,5 @@
 -- The check decides, and a good key has its neighbours.
-use mathlib.Core.Path.{_≡_, refl, sym, _∙_}
-use Rattle.refusal.specs.declared.Outcome.the-variants.{Done}
+use mathlib.Core.Path.{sym, _∙_}
 use Rattle.morton.proofs.Checks.{checked}
 use Rattle.morton.proofs.Answers.{list-done, list-refused}
 use borrow.Author.Needs.{needs}
@@ -20,7 +19,7 @@ enum-told : tie.Need-enum-told
 enum-told c = search needs
 
 list-neighbours-requires : tie.Need-list-neighbours-requires
-list-neighbours-requires c κs = let s = c .before .before .before in checked (s .args .axes) (s .args .key) Done (sym (c .before .before .check-key .ensures) ∙ c .enum-told .given .1)
+list-neighbours-requires c κs = let s = c .before .before .before in checked (s .args .axes) (s .args .key) (sym (c .before .before .check-key .ensures) ∙ c .enum-told .given .1)
 
 returns : tie.Need-returns
 returns c = list-refused _ _ _ _ (sym (c .before .before .before .before .check-key .ensures) ∙ c .before .before .checked .given .1) (c .refused-list .ensures)

@@ -1,15 +1,14 @@
-use mathlib.Core.Path.{_≡_, refl, sym, ap, ap₂, _∙_, subst}
-use mathlib.Core.Bool.{true, false}
+use mathlib.Core.Path.{_≡_, sym, ap, _∙_, subst}
+use mathlib.Core.Bool.{true}
 use mathlib.Core.List.{List, [], map}
-use Prim.Native.Nat.{ℕ, _+_, _-_, _≤_, _<_}
+use Prim.Native.Nat.{ℕ, _-_, _≤_}
 use native.Mathlib.Omega.{arith}
 use lib.IntN.{ℤ}
 use lib.ListN.{length, getD}
-use Rattle.slices.specs.Lists.{range, filter, filled}
-use Rattle.codes.specs.Tables.{EncodeTables}
+use Rattle.slices.specs.Lists.{range, filter}
 use Rattle.morton.specs.Anchors.{keyAt, onLevel}
-use Rattle.morton.specs.Directions.{directions, directionRow, stays, moved, onBox, toward}
-use Rattle.morton.proofs.Runs.{Held, held-none, held-more, held-listed}
+use Rattle.morton.specs.Directions.{stays, moved, onBox, toward}
+use Rattle.morton.proofs.Runs.{Held, held-listed}
 use Rattle.morton.proofs.Along.{from-small, stays-is, moved-on, key-is, along-start, along-room, along-in, along-out}
 use borrow.Author.Needs.{needs}
 use Rattle.morton.proofs.neighbours.list_along.Statement.{statement}

@@ -1,5 +1,5 @@
 -- By the number of axes: each table has that number's rows.
-use mathlib.Core.Path.{_≡_, refl, sym, ap, _∙_}
+use mathlib.Core.Path.{_≡_, ap}
 use native.Mathlib.Omega.{arith}
 use Rattle.morton.specs.Directions.{directions}
 use borrow.Author.Needs.{needs}
