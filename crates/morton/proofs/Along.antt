@@ -8,8 +8,7 @@ use native.Mathlib.Nat.{zero-add, not-suc-le-zero}
 use native.Mathlib.Decide.{decLt}
 use lib.Dec.{leb, ltb}
 use lib.IntN.{ℤ}
-use lib.ListN.{length, getD, set, length-append, List·getD-eq-default, getD-replicate, replicate}
-use lib.Seq.{getD-append-add}
+use lib.ListN.{length, getD, set, replicate}
 use borrow.Author.Tests.{lt-ltb}
 use Rattle.slices.specs.Lists.{range, filter, filled}
 use Rattle.slices.specs.Every.{every}
@@ -21,7 +20,7 @@ use Rattle.codes.proofs.Entries.{tabled, length-tabled}
 use Rattle.morton.specs.Keys.{levelOf, codeOf, key, ValidKey}
 use Rattle.morton.specs.Anchors.{encode, anchors, keyAt, onLevel}
 use Rattle.morton.specs.Directions.{directions, directionRow, raised, none, ahead, stays, moved, onBox, toward, neighbours}
-use Rattle.morton.proofs.Placing.{anchors-at, anchors-length, anchor-small}
+use Rattle.morton.proofs.Placing.{past-filled, anchors-at, anchors-length, anchor-small}
 use Rattle.morton.proofs.Steps.{stays-at}
 use Rattle.morton.proofs.Runs.{Held, held-none, held-more}
 
@@ -32,17 +31,6 @@ rows-few (suc zero) = omega arith
 rows-few (suc (suc zero)) = omega arith
 rows-few (suc (suc (suc zero))) = omega arith
 rows-few (suc (suc (suc (suc d)))) = omega arith
-
--- past its list a filled array has 0
-past-filled : (n : ℕ) (xs : List ℕ) (a : ℕ) → length xs ≤ a → getD (filled n xs) a 0 ≡ 0
-past-filled n xs a h =
-    let e : a ≡ length xs + (a - length xs) = omega arith in
-    ap (λ (i : ℕ). getD (filled n xs) i 0) e ∙ getD-append-add xs (replicate (n - length xs) 0) (a - length xs) 0 ∙ zeros (n - length xs) (a - length xs)
-  where
-    zeros : (m i : ℕ) → _≡_ {A = ℕ} (getD (replicate m 0) i 0) 0
-    zeros zero i = refl
-    zeros (suc m) zero = refl
-    zeros (suc m) (suc i) = zeros m i
 
 module _ (d k level : ℕ) (v : ValidKey d k) (el : level ≡ levelOf k) (from : List ℕ) (ef : from ≡ filled 3 (anchors d k)) (i : ℕ) (row : List ℤ) (er : row ≡ directionRow d i) where
   from-at : (a : ℕ) → a < d → getD from a 0 ≡ getD (anchors d k) a 0

@@ -7,7 +7,8 @@ use native.Mathlib.Omega.{arith}
 use native.Mathlib.Nat.{not-suc-le-zero}
 use native.Mathlib.Decide.{decLt}
 use lib.Dec.{leb, ltb}
-use lib.ListN.{length, getD}
+use lib.ListN.{length, getD, replicate}
+use lib.Seq.{getD-append-add}
 use lib.Pow.{pow-mono}
 use borrow.Author.Tests.{ltb-true, le-leb, lt-leb}
 use Rattle.slices.specs.Lists.{range, filled}
@@ -18,8 +19,19 @@ use Rattle.codes.specs.Tables.{Bytes2}
 use Rattle.codes.proofs.Codes.{encode-same, encode-ends, encode-lt, anchor-ends, anchor-lt}
 use Rattle.codes.proofs.Entries.{tabled, length-tabled}
 use Rattle.morton.specs.Keys.{levelOf, codeOf, key, ValidKey}
-use Rattle.morton.specs.Anchors.{anchor, encode, anchors, anchorsOf, keyAt, onLevel, within1, near, OnAxes}
+use Rattle.morton.specs.Anchors.{anchor, encode, anchors, anchorsOf, keyAt, onLevel, within1, near, onAxes}
 use Rattle.morton.proofs.Checks.{width-le}
+
+-- past its list a filled array has 0
+pub past-filled : (n : ℕ) (xs : List ℕ) (a : ℕ) → length xs ≤ a → getD (filled n xs) a 0 ≡ 0
+past-filled n xs a h =
+    let e : a ≡ length xs + (a - length xs) = omega arith in
+    ap (λ (i : ℕ). getD (filled n xs) i 0) e ∙ getD-append-add xs (replicate (n - length xs) 0) (a - length xs) 0 ∙ zeros (n - length xs) (a - length xs)
+  where
+    zeros : (m i : ℕ) → _≡_ {A = ℕ} (getD (replicate m 0) i 0) 0
+    zeros zero i = refl
+    zeros (suc m) zero = refl
+    zeros (suc m) (suc i) = zeros m i
 
 -- ---- anchors of a valid key
 
@@ -59,13 +71,19 @@ module _ (d level : ℕ) (xs : List ℕ) (h : level ≤ 16) (on : onLevel d leve
   pub on-level-at : (a : ℕ) → a < d → getD xs a 0 < 2 ^ level
   on-level-at a l = ltb-true (getD xs a 0) (2 ^ level) (every-at (λ a. ltb (getD xs a 0) (2 ^ level)) d on a l)
 
-  module _ (ys : List ℕ) (u : OnAxes d xs ys) where
+  module _ (ys : List ℕ) (u : ys ≡ filled 3 (onAxes d xs)) (few : d ≤ 3) where
+    same : (a : ℕ) → a < d → getD ys a 0 ≡ getD xs a 0
+    same a l =
+        ap (λ (zs : List ℕ). getD zs a 0) u
+        ∙ getD-filled 3 (onAxes d xs) a (omega (arith, length-tabled (λ a. getD xs a 0) 0 d))
+        ∙ tabled (λ a. getD xs a 0) d a l
+
     below : (a : ℕ) → getD ys a 0 < 65536
     below a = go (decLt a d)
       where
         go : Dec (a < d) → getD ys a 0 < 65536
-        go (yes l) = omega (arith, u .same a l, on-level-at a l, pow-mono {i = level} {j = 16} h)
-        go (no n) = omega (arith, u .past a (omega arith))
+        go (yes l) = omega (arith, same a l, on-level-at a l, pow-mono {i = level} {j = 16} h)
+        go (no n) = omega (arith, ap (λ (zs : List ℕ). getD zs a 0) u, past-filled 3 (onAxes d xs) a (omega (arith, length-tabled (λ a. getD xs a 0) 0 d)))
 
     pub two-bytes : Bytes2 ys
     two-bytes = record { first = below 0; second = below 1; third = below 2 }
@@ -73,7 +91,7 @@ module _ (d level : ℕ) (xs : List ℕ) (h : level ≤ 16) (on : onLevel d leve
     pub code-used : encode d d 16 ys ≡ encode d d level xs
     code-used =
         let e : 16 ≡ level + (16 - level) = omega arith in
-        encode-same d d 16 xs ys (u .same) ∙ ap (λ (n : ℕ). encode d d n xs) e ∙ encode-ends d d level (16 - level) xs on-level-at
+        encode-same d d 16 xs ys same ∙ ap (λ (n : ℕ). encode d d n xs) e ∙ encode-ends d d level (16 - level) xs on-level-at
 
 pub code-fits : (d level : ℕ) (xs : List ℕ) → d ≤ 3 → level ≤ 16 → encode d d level xs < 2 ^ 48
 code-fits d level xs h k = omega (arith, encode-lt d level xs, pow-mono {i = d * level} {j = 48} (width-le d level h k))

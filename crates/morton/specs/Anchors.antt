@@ -1,10 +1,10 @@
 -- Document 01, "Keys": the anchors of a cell, and which cells touch.
 use mathlib.Core.Bool.{Bool, true, false, _&&_}
-use mathlib.Core.List.{List}
-use mathlib.Core.Path.{_≡_}
-use Prim.Native.Nat.{ℕ, zero, suc, _+_, _*_, _-_, _/_, _%_, _^_, _≤_, _<_, min}
+use mathlib.Core.List.{List, map}
+use Prim.Native.Nat.{ℕ, zero, suc, _+_, _*_, _-_, _/_, _%_, _^_, min}
 use lib.Dec.{leb, ltb, eqb}
 use lib.ListN.{getD}
+use Rattle.slices.specs.Lists.{range}
 use Rattle.slices.specs.Every.{every}
 unfoldable pub use Rattle.codes.specs.Codes.{anchor, spread, encode}
 pub use Rattle.codes.specs.Codes.{anchorsOf}
@@ -13,6 +13,10 @@ use Rattle.morton.specs.Keys.{key, levelOf, codeOf, above}
 -- a cell's anchors, one an axis
 abbrev pub anchors : ℕ → ℕ → List ℕ
 anchors d k = anchorsOf d (levelOf k) (codeOf k)
+
+-- the anchors on the axes, where there may be more
+abbrev pub onAxes : ℕ → List ℕ → List ℕ
+onAxes d xs = map (λ a. getD xs a 0) (range 0 d)
 
 -- the key of the cell with the anchors xs
 abbrev pub keyAt : ℕ → ℕ → List ℕ → ℕ
@@ -38,8 +42,3 @@ touching d j k = eqb (levelOf j) (levelOf k) && near d d (levelOf j) (codeOf j) 
 -- cells j and k, both taken at the coarser one's level, coincide or touch
 abbrev pub close : ℕ → ℕ → ℕ → Bool
 close d j k = let l = min (levelOf j) (levelOf k) in near d d l (above d (levelOf j - l) (codeOf j)) (above d (levelOf k - l) (codeOf k))
-
--- ys has the anchors of xs on the axes, and 0 past them
-pub record OnAxes (d : ℕ) (xs ys : List ℕ) : Type 0 where
-  pub same : (a : ℕ) → a < d → getD ys a 0 ≡ getD xs a 0
-  pub past : (a : ℕ) → d ≤ a → getD ys a 0 ≡ 0

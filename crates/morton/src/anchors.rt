@@ -12,7 +12,7 @@ ghost use lib.ListN.{getD};
 ghost use Rattle.slices.specs.Lists.{filled};
 ghost use Rattle.codes.specs.Tables.{EncodeTables};
 ghost use Rattle.morton.specs.Keys.{levelOf, codeOf, ValidKey};
-ghost use Rattle.morton.specs.Anchors.{anchors, keyAt, near, onLevel, OnAxes};
+ghost use Rattle.morton.specs.Anchors.{anchors, keyAt, near, onLevel, onAxes};
 ghost use Rattle.morton.specs.Answers.{anchorCheck, pairCheck, decodeAnswer, encodeAnswer, touchingAnswer};
 
 // Whether each anchor on the axes is one of its level.
@@ -52,14 +52,16 @@ fn check_anchor(axes: usize, anchor: [u64; 3], level: u64) -> Outcome
 
 // The anchors on the axes, and 0 past them.
 fn on_axes(axes: usize, anchor: [u64; 3]) -> [u64; 3]
-    requires { ⌜ (1 ≤ axes) × (axes ≤ 3) ⌝ }
-    ensures { λ r. ⌜ OnAxes axes anchor r ⌝ }
+    requires { ⌜ axes ≤ 3 ⌝ }
+    ensures { λ r. ⌜ r ≡ filled 3 (onAxes axes anchor) ⌝ }
 {
-    match axes {
-        1 => [anchor[0], 0, 0],
-        2 => [anchor[0], anchor[1], 0],
-        _ => [anchor[0], anchor[1], anchor[2]],
+    let mut used = [0u64; 3];
+    let mut a: usize = 0;
+    while a < axes {
+        used[a] = anchor[a];
+        a += 1;
     }
+    used
 }
 
 // The key of anchors of a level, by the encode tables of 1 to 3 axes.

@@ -1,83 +1,49 @@
--- By the number of axes, place by place.
-use mathlib.Core.Path.{_≡_, refl}
-use mathlib.Core.List.{List, [], _∷_}
-use Prim.Native.Nat.{ℕ, zero, suc, _≤_, _<_}
+-- After n turns the array holds the first n axes' anchors.
+use mathlib.Core.Path.{_≡_, refl, sym, ap, _∙_}
+use mathlib.Core.List.{map}
+use Prim.Native.Nat.{ℕ, _-_, _≤_}
 use native.Mathlib.Omega.{arith}
 use lib.ListN.{getD}
-use Rattle.morton.specs.Anchors.{OnAxes}
+use Rattle.slices.specs.Lists.{range, filled}
+use Rattle.morton.specs.Anchors.{onAxes}
+use Rattle.morton.proofs.Runs.{Held, values-start, values-next}
 use borrow.Author.Needs.{needs}
 use Rattle.morton.proofs.anchors.on_axes.Statement.{statement}
 use Rattle.morton.proofs.anchors.on_axes.Tie as tie
 
-one : (d : ℕ) (xs : List ℕ) → d ≡ 1 → OnAxes d xs (getD xs 0 0 ∷ 0 ∷ 0 ∷ [])
-one d xs e = record { same = same; past = past }
-  where
-    same : (a : ℕ) → a < d → getD (getD xs 0 0 ∷ 0 ∷ 0 ∷ []) a 0 ≡ getD xs a 0
-    same zero h = refl
-    same (suc a) h = absurd (omega arith)
+abbrev Inv-loop : tie.InvT-loop
+Inv-loop axes anchor used₀ a₀ used a = (a ≤ axes) × Held 3 used a (map (λ a. getD anchor a 0) (range 0 a))
 
-    past : (a : ℕ) → d ≤ a → getD (getD xs 0 0 ∷ 0 ∷ 0 ∷ []) a 0 ≡ 0
-    past zero h = absurd (omega arith)
-    past (suc zero) h = refl
-    past (suc (suc zero)) h = refl
-    past (suc (suc (suc a))) h = refl
+abbrev μ-loop : tie.MeasureT-loop
+μ-loop axes anchor used₀ a₀ used a = axes - a
 
-two : (d : ℕ) (xs : List ℕ) → d ≡ 2 → OnAxes d xs (getD xs 0 0 ∷ getD xs 1 0 ∷ 0 ∷ [])
-two d xs e = record { same = same; past = past }
-  where
-    same : (a : ℕ) → a < d → getD (getD xs 0 0 ∷ getD xs 1 0 ∷ 0 ∷ []) a 0 ≡ getD xs a 0
-    same zero h = refl
-    same (suc zero) h = refl
-    same (suc (suc a)) h = absurd (omega arith)
+loop-holds : tie.Need-loop-holds Inv-loop μ-loop
+loop-holds c = (search needs, values-start 3 _)
 
-    past : (a : ℕ) → d ≤ a → getD (getD xs 0 0 ∷ getD xs 1 0 ∷ 0 ∷ []) a 0 ≡ 0
-    past zero h = absurd (omega arith)
-    past (suc zero) h = absurd (omega arith)
-    past (suc (suc zero)) h = refl
-    past (suc (suc (suc a))) h = refl
+mul-used : tie.Need-mul-used Inv-loop μ-loop
+mul-used c = search needs
 
-three : (d : ℕ) (xs : List ℕ) → d ≡ 3 → OnAxes d xs (getD xs 0 0 ∷ getD xs 1 0 ∷ getD xs 2 0 ∷ [])
-three d xs e = record { same = same; past = past }
-  where
-    same : (a : ℕ) → a < d → getD (getD xs 0 0 ∷ getD xs 1 0 ∷ getD xs 2 0 ∷ []) a 0 ≡ getD xs a 0
-    same zero h = refl
-    same (suc zero) h = refl
-    same (suc (suc zero)) h = refl
-    same (suc (suc (suc a))) h = absurd (omega arith)
+array-read-used : tie.Need-array-read-used Inv-loop μ-loop
+array-read-used c = search needs
 
-    past : (a : ℕ) → d ≤ a → getD (getD xs 0 0 ∷ getD xs 1 0 ∷ getD xs 2 0 ∷ []) a 0 ≡ 0
-    past zero h = absurd (omega arith)
-    past (suc zero) h = absurd (omega arith)
-    past (suc (suc zero)) h = absurd (omega arith)
-    past (suc (suc (suc a))) h = refl
+mul-used-2 : tie.Need-mul-used-2 Inv-loop μ-loop
+mul-used-2 c = search needs
 
-array-read-t7 : tie.Need-array-read-t7
-array-read-t7 c = search needs
+array-write-used : tie.Need-array-write-used Inv-loop μ-loop
+array-write-used c = search needs
 
-array-read-t10 : tie.Need-array-read-t10
-array-read-t10 c = search needs
+add-a : tie.Need-add-a Inv-loop μ-loop
+add-a c = search needs
 
-array-read-t13 : tie.Need-array-read-t13
-array-read-t13 c = search needs
+loop-less : tie.Need-loop-less Inv-loop μ-loop
+loop-less c = search needs
 
-array-read-t16 : tie.Need-array-read-t16
-array-read-t16 c = search needs
+loop-again : tie.Need-loop-again Inv-loop μ-loop
+loop-again c = (omega arith, values-next 3 _ _ _ _ (c .before .loop .inv .1) (omega arith) refl)
 
-array-read-t19 : tie.Need-array-read-t19
-array-read-t19 c = search needs
-
-array-read-t22 : tie.Need-array-read-t22
-array-read-t22 c = search needs
-
-returns : tie.Need-returns
-returns c = one _ _ (omega arith)
-
-returns-2 : tie.Need-returns-2
-returns-2 c = two _ _ (omega arith)
-
-returns-3 : tie.Need-returns-3
-returns-3 c = three _ _ (omega arith)
+returns : tie.Need-returns Inv-loop μ-loop
+returns c = let s = c .before .before in c .before .loop .inv .1 .filled-by ∙ ap (λ (n : ℕ). filled 3 (onAxes n (s .args .t2))) (omega arith)
 
 pub on-axes-spec : {M : Type 1} → statement M
 on-axes-spec =
-    tie.close (tie.spec array-read-t7 array-read-t10 array-read-t13 array-read-t16 array-read-t19 array-read-t22 returns returns-2 returns-3)
+    tie.close (tie.spec Inv-loop μ-loop loop-holds mul-used array-read-used mul-used-2 array-write-used add-a loop-less loop-again returns)
