@@ -4,9 +4,5 @@ pub mod Checks
 pub mod Answers
 pub mod Arithmetic
 pub mod Placing
-pub mod Steps
 pub mod Runs
-pub mod ProvedTable
-pub mod Along
-pub mod Tied
 pub mod Laws

@@ -18,7 +18,6 @@ use Rattle.morton.specs.declared.KeyList.{KeyList}
 use Rattle.morton.specs.declared.AnchorAnswer.{AnchorAnswer}
 use Rattle.morton.specs.Keys.{deepest, axesKnown, valid, levelOf, codeOf, parent, childIndex, children, siblings, ancestors}
 use Rattle.morton.specs.Anchors.{anchors, keyAt, onLevel, touching}
-use Rattle.morton.specs.Directions.{neighbours}
 
 -- ---- the forms of an answer
 
@@ -78,9 +77,6 @@ siblingsAnswer d k = listed (belowRoot d k) (siblings d k)
 
 abbrev pub ancestorsAnswer : ℕ → ℕ → KeyList
 ancestorsAnswer d k = listed (keyCheck d k) (ancestors d k)
-
-abbrev pub neighboursAnswer : ℕ → ℕ → KeyList
-neighboursAnswer d k = listed (keyCheck d k) (neighbours d k)
 
 abbrev pub decodeAnswer : ℕ → ℕ → AnchorAnswer
 decodeAnswer d k = placed (keyCheck d k) (anchors d k) (levelOf k)

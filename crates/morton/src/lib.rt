@@ -5,7 +5,6 @@ use refusal::Refusal;
 pub mod axes; // axes.rt: the figures of each number of axes
 pub mod keys; // keys.rt: level, parent, children, siblings, ancestors
 pub mod anchors; // anchors.rt: encode, decode, touching
-pub mod neighbours; // neighbours.rt: the direction rows, and the neighbours along them
 
 pub use anchors::decode_key;
 pub use anchors::encode_morton_point;
@@ -16,7 +15,6 @@ pub use keys::get_children;
 pub use keys::get_level;
 pub use keys::get_parent;
 pub use keys::get_siblings;
-pub use neighbours::get_neighbours;
 
 // A key, a level or an index.
 pub enum NumberAnswer {

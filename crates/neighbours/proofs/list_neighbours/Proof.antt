@@ -1,10 +1,10 @@
 -- By the number of axes: each table has that number's rows.
 use mathlib.Core.Path.{_≡_, ap}
 use native.Mathlib.Omega.{arith}
-use Rattle.morton.specs.Directions.{directions}
+use Rattle.neighbours.specs.Directions.{directions}
 use borrow.Author.Needs.{needs}
-use Rattle.morton.proofs.neighbours.list_neighbours.Statement.{statement}
-use Rattle.morton.proofs.neighbours.list_neighbours.Tie as tie
+use Rattle.neighbours.proofs.list_neighbours.Statement.{statement}
+use Rattle.neighbours.proofs.list_neighbours.Tie as tie
 
 slice-aggregate-list-along : tie.Need-slice-aggregate-list-along
 slice-aggregate-list-along c = search needs

@@ -18,7 +18,7 @@ use Rattle.slices.specs.Every.{every}
 use Rattle.slices.proofs.Every.{every-at, every-fails, every-next, every-none}
 use Rattle.slices.proofs.Tests.{and-l, and-r, both}
 use Rattle.codes.specs.Tables.{Bytes2}
-use Rattle.morton.specs.Directions.{raised, ahead, stays, moved, none}
+use Rattle.neighbours.specs.Directions.{raised, ahead, stays, moved, none}
 
 -- a step that the code has read, as the row has it
 pub step-known : (z : ℤ) (r : ℕ) → SFits w64 z → r ≡ raised (toZ w64 (ofZ w64 z)) → r ≡ raised z

@@ -1,10 +1,10 @@
 -- The check decides, and a good key has its neighbours.
 use mathlib.Core.Path.{sym, _∙_}
 use Rattle.morton.proofs.Checks.{checked}
 use Rattle.morton.proofs.Answers.{list-done, list-refused}
 use borrow.Author.Needs.{needs}
-use Rattle.morton.proofs.neighbours.get_neighbours.Statement.{statement}
-use Rattle.morton.proofs.neighbours.get_neighbours.Tie as tie
+use Rattle.neighbours.proofs.get_neighbours.Statement.{statement}
+use Rattle.neighbours.proofs.get_neighbours.Tie as tie
 
 check-key-requires : tie.Need-check-key-requires
 check-key-requires c κs = search needs

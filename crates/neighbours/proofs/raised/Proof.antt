@@ -6,9 +6,9 @@ use lib.IntN.{ℤ, pos, negsuc}
 use mir.Facts.{toZ-ofZ}
 use mir.Syntax.{w64}
 use mir.Val.{SFits, toZ, ofZ}
-use Rattle.morton.specs.Directions.{raised}
-use Rattle.morton.proofs.neighbours.raised.Statement.{statement}
-use Rattle.morton.proofs.neighbours.raised.Tie as tie
+use Rattle.neighbours.specs.Directions.{raised}
+use Rattle.neighbours.proofs.raised.Statement.{statement}
+use Rattle.neighbours.proofs.raised.Tie as tie
 
 -- a step is known by the number that holds it
 held : (z : ℤ) (n : ℕ) → SFits w64 z → ofZ w64 z ≡ n → raised (toZ w64 n) ≡ raised z

@@ -1,7 +1,7 @@
 // The direction rows of `morton_constants.rs`, in its order, and the neighbours of a cell along them.
-use crate::KeyList;
-use crate::anchors;
-use crate::keys;
+use morton::KeyList;
+use morton::anchors;
+use morton::keys;
 use refusal::Outcome;
 ghost use mathlib.Core.Path.{_≡_};
 ghost use mathlib.Core.Bool.{true};
@@ -10,9 +10,10 @@ ghost use lib.ListN.{getD};
 ghost use Rattle.slices.specs.Lists.{filled};
 ghost use Rattle.refusal.specs.declared.Outcome.the-variants.{Done};
 ghost use Rattle.codes.specs.Tables.{Bytes2};
 ghost use Rattle.morton.specs.Keys.{ValidKey};
-ghost use Rattle.morton.specs.Directions.{directions, raised as raisedStep, ahead, stays as staysOn, moved as movedAlong, neighbours as neighboursOf};
-ghost use Rattle.morton.specs.Answers.{neighboursAnswer, listed};
+ghost use Rattle.neighbours.specs.Directions.{directions, raised as raisedStep, ahead, stays as staysOn, moved as movedAlong, neighbours as neighboursOf};
+ghost use Rattle.morton.specs.Answers.{listed};
+ghost use Rattle.neighbours.specs.Answer.{neighboursAnswer};
 
 // A row has a step for each of three axes, 0 past the number of axes.
 const DIRECTION_VECTORS_1D: [[i64; 3]; 2] = [[-1, 0, 0], [1, 0, 0]];

@@ -8,12 +8,12 @@ use lib.ListN.{getD}
 use mir.Syntax.{w64}
 use mir.Val.{SFits}
 use Rattle.slices.specs.Lists.{range, filled}
-use Rattle.morton.specs.Directions.{ahead}
-use Rattle.morton.proofs.Steps.{step-known, small-at, stays-at}
+use Rattle.neighbours.specs.Directions.{ahead}
+use Rattle.neighbours.proofs.Steps.{step-known, small-at, stays-at}
 use Rattle.morton.proofs.Runs.{Held, values-start, values-next}
 use borrow.Author.Needs.{needs}
-use Rattle.morton.proofs.neighbours.moved.Statement.{statement}
-use Rattle.morton.proofs.neighbours.moved.Tie as tie
+use Rattle.neighbours.proofs.moved.Statement.{statement}
+use Rattle.neighbours.proofs.moved.Tie as tie
 
 abbrev Inv-loop : tie.InvT-loop
 Inv-loop axes level from row to₀ a₀ to a = (a ≤ axes) × Held 3 to a (map (λ a. ahead from row a - 1) (range 0 a))

@@ -5,10 +5,10 @@ use mathlib.Core.List.{List, [], _∷_, map}
 use Prim.Native.Nat.{ℕ, zero, suc}
 use Rattle.slices.specs.Lists.{range, filter}
 use Rattle.slices.specs.Every.{every}
 use Rattle.morton.specs.Keys.{valid, parent, children, childIndex, levelOf, codeOf, ancestors}
 use Rattle.morton.specs.Anchors.{keyAt, encode, spread, anchor}
-use Rattle.morton.specs.Directions.{neighbours}
+use Rattle.neighbours.specs.Directions.{neighbours}
 use Rattle.morton.specs.Depth.{referenceDepth, depthFrom}
 
 pub proved-table :
     (keyAt 2 3 (3 ∷ 5 ∷ []) ≡ 1277955)

@@ -6,13 +6,13 @@ use native.Mathlib.Omega.{arith}
 use lib.IntN.{ℤ}
 use lib.ListN.{length, getD}
 use Rattle.slices.specs.Lists.{range, filter}
 use Rattle.morton.specs.Anchors.{keyAt, onLevel}
-use Rattle.morton.specs.Directions.{stays, moved, onBox, toward}
+use Rattle.neighbours.specs.Directions.{stays, moved, onBox, toward}
 use Rattle.morton.proofs.Runs.{Held, held-listed}
-use Rattle.morton.proofs.Along.{from-small, stays-is, moved-on, key-is, along-start, along-room, along-in, along-out}
+use Rattle.neighbours.proofs.Along.{from-small, stays-is, moved-on, key-is, along-start, along-room, along-in, along-out}
 use borrow.Author.Needs.{needs}
-use Rattle.morton.proofs.neighbours.list_along.Statement.{statement}
-use Rattle.morton.proofs.neighbours.list_along.Tie as tie
+use Rattle.neighbours.proofs.list_along.Statement.{statement}
+use Rattle.neighbours.proofs.list_along.Tie as tie
 
 abbrev Inv-loop : tie.InvT-loop
 Inv-loop rows axes key x y z level from found₀ len₀ i₀ found len i = (i ≤ length rows) × Held 26 found len (map (toward axes key) (filter (onBox axes key) (range 0 i)))

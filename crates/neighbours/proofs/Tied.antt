@@ -17,9 +17,9 @@ use Rattle.slices.proofs.Tests.{and-l, and-r, clash, or-not}
 use Rattle.slices.proofs.Counts.{any-elim}
 use Rattle.slices.proofs.Every.{every-at}
 use Rattle.slices.proofs.Members.{mem-range}
 use Rattle.morton.specs.Keys.{axesKnown}
-use Rattle.morton.specs.Directions.{directions, directionRow, raised, none}
+use Rattle.neighbours.specs.Directions.{directions, directionRow, raised, none}
 use Rattle.morton.proofs.Checks.{axes-facts}
 
 -- ---- steps on n axes as one number, a digit of base 3 an axis
 

@@ -17,12 +17,12 @@ use Rattle.slices.proofs.Every.{every-all, every-same}
 use Rattle.codes.specs.Tables.{Bytes2}
 use Rattle.codes.proofs.Codes.{encode-same}
 use Rattle.codes.proofs.Entries.{tabled, length-tabled}
 use Rattle.morton.specs.Keys.{levelOf, codeOf, key, ValidKey}
 use Rattle.morton.specs.Anchors.{encode, anchors, keyAt, onLevel}
-use Rattle.morton.specs.Directions.{directions, directionRow, raised, none, ahead, stays, moved, onBox, toward, neighbours}
+use Rattle.neighbours.specs.Directions.{directions, directionRow, raised, none, ahead, stays, moved, onBox, toward, neighbours}
 use Rattle.morton.proofs.Placing.{past-filled, anchors-at, anchors-length, anchor-small}
-use Rattle.morton.proofs.Steps.{stays-at}
+use Rattle.neighbours.proofs.Steps.{stays-at}
 use Rattle.morton.proofs.Runs.{Held, held-none, held-more}
 
 -- there are 2, 8 or 26 rows
 pub rows-few : (d : ℕ) → length (directions d) ≤ 26

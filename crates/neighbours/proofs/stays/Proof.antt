@@ -6,11 +6,11 @@ use lib.IntN.{pos}
 use lib.ListN.{getD}
 use mir.Syntax.{w64}
 use mir.Val.{SFits}
-use Rattle.morton.specs.Directions.{stays}
-use Rattle.morton.proofs.Steps.{step-known, small-at, end-is, stays-low, stays-high, stays-next, stays-none}
+use Rattle.neighbours.specs.Directions.{stays}
+use Rattle.neighbours.proofs.Steps.{step-known, small-at, end-is, stays-low, stays-high, stays-next, stays-none}
 use borrow.Author.Needs.{needs}
-use Rattle.morton.proofs.neighbours.stays.Statement.{statement}
-use Rattle.morton.proofs.neighbours.stays.Tie as tie
+use Rattle.neighbours.proofs.stays.Statement.{statement}
+use Rattle.neighbours.proofs.stays.Tie as tie
 
 abbrev Inv-loop : tie.InvT-loop
 Inv-loop axes level from row end n₀ n = (n ≤ axes) × (stays n level from row ≡ stays axes level from row)
