@@ -8,9 +8,9 @@ use Rattle.morton.specs.Keys.{levelOf, codeOf, key, ValidKey, parent, ch
 use Rattle.morton.proofs.Checks.{width-le}
 use Rattle.morton.proofs.Cells.{key-level, key-code, level-parent, code-parent}
 
--- 1 << axes
-pub one-shifted : (d : ℕ) → d ≤ 3 → 1 * 2 ^ d % 2 ^ 64 ≡ 2 ^ d
-one-shifted d h = let lt : 1 < 2 ^ 1 = omega arith in shl-exact 1 d 64 lt (omega arith) ∙ one-mul (2 ^ d)
+-- 1 << n
+pub one-shifted : (n : ℕ) → n ≤ 16 → 1 * 2 ^ n % 2 ^ 64 ≡ 2 ^ n
+one-shifted n h = let lt : 1 < 2 ^ 1 = omega arith in shl-exact 1 n 64 lt (omega arith) ∙ one-mul (2 ^ n)
 
 module _ (d k : ℕ) (v : ValidKey d k) where
   pub code-48 : codeOf k < 2 ^ 48

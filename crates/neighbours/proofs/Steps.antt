@@ -4,11 +4,9 @@ use mathlib.Core.Bool.{Bool, true, false, _&&_}
 use mathlib.Core.List.{List, [], _∷_, _++_, map}
 use Prim.Native.Nat.{ℕ, zero, suc, _+_, _*_, _-_, _/_, _%_, _^_, _≤_, _<_}
 use native.Mathlib.Omega.{arith}
-use native.Mathlib.Nat.{one-mul}
 use lib.Dec.{leb, ltb}
 use lib.IntN.{ℤ, pos, negsuc}
 use lib.ListN.{length, getD, set, replicate}
-use lib.Pow.{shl-exact}
 use mir.Facts.{toZ-ofZ}
 use mir.Syntax.{w64}
 use mir.Val.{SFits, toZ, ofZ}
@@ -29,10 +27,6 @@ small-at xs b zero h = b .first
 small-at xs b (suc zero) h = b .second
 small-at xs b (suc (suc zero)) h = b .third
 small-at xs b (suc (suc (suc a))) h = absurd (omega arith)
-
--- 1 << level
-pub end-is : (level : ℕ) → level ≤ 16 → 1 * 2 ^ level % 2 ^ 64 ≡ 2 ^ level
-end-is level h = let lt : 1 < 2 ^ 1 = omega arith in shl-exact 1 level 64 lt (omega arith) ∙ one-mul (2 ^ level)
 
 module _ (level : ℕ) (xs : List ℕ) (steps : List ℤ) where
   abbrev test : ℕ → Bool

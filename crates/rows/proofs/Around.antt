@@ -8,15 +8,18 @@ use native.Mathlib.Nat.{mul-add}
 use lib.Dec.{leb, ltb, eqb}
 use lib.ListN.{length, getD}
 use lib.Pow.{shr-lt}
-use borrow.Author.Tests.{ltb-true, leb-true, eqb-true, eqb-false, lt-ltb, le-leb, eq-eqb, ne-eqb}
+use borrow.Author.Tests.{ltb-true, leb-true, eqb-true, eqb-false, lt-ltb, le-leb, eq-eqb, ne-eqb, not-true}
 use Rattle.slices.specs.Every.{every}
 use Rattle.slices.specs.Lists.{any, Mem}
 use Rattle.slices.proofs.Tests.{and-l, and-r, both}
 use Rattle.slices.proofs.Counts.{here, there, any-intro, any-elim}
-use Rattle.morton.specs.Keys.{key, levelOf, codeOf, above, valid, parent, under}
-use Rattle.morton.specs.Anchors.{near, anchor, touching}
+use Rattle.morton.specs.Keys.{key, levelOf, codeOf, above, valid, ValidKey, parent, under}
+use Rattle.morton.specs.Anchors.{near, anchor, touching, within1}
+use Rattle.neighbours.specs.Directions.{neighbours}
+use Rattle.morton.proofs.Checks.{valid-facts, facts-valid}
+use Rattle.neighbours.proofs.Laws.{neighbours-are}
 use Rattle.morton.proofs.Cells.{above-one, key-parts, level-at, code-at, level-parent, code-parent}
-use Rattle.morton.proofs.Nearness.{within}
+use Rattle.morton.proofs.Nearness.{within, within-lo, within-hi}
 use Rattle.tree.specs.Nodes.{cellAt, childOf}
 use Rattle.slices.proofs.Tests.{same-test}
 use Rattle.tree.proofs.Sourced.{Under, under-facts, facts-under}
@@ -32,8 +35,30 @@ unfolding near every
 near-self zero d level x = refl
 near-self (suc n) d level x = both (within (anchor d n level x) (anchor d n level x) (omega arith) (omega arith)) (near-self n d level x)
 
+near-sym : (n d level x y : ℕ) → near n d level x y ≡ true → near n d level y x ≡ true
+unfolding near every
+near-sym zero d level x y h = refl
+near-sym (suc n) d level x y h =
+    let w : within1 (anchor d n level x) (anchor d n level y) ≡ true = and-l _ _ h in
+    both (within (anchor d n level y) (anchor d n level x) (within-hi (anchor d n level x) (anchor d n level y) w) (within-lo (anchor d n level x) (anchor d n level y) w))
+    (near-sym n d level x y (and-r (within1 (anchor d n level x) (anchor d n level y)) _ h))
+
+pub touching-sym : (d j k : ℕ) → touching d j k ≡ true → touching d k j ≡ true
+touching-sym d j k t =
+    let e = eqb-true (levelOf j) (levelOf k) (and-l _ _ t) in
+    both (eq-eqb (levelOf k) (levelOf j) (sym e))
+    (subst (λ l. near d d l (codeOf k) (codeOf j) ≡ true) e (near-sym d d (levelOf j) (codeOf j) (codeOf k) (and-r (eqb (levelOf j) (levelOf k)) _ t)))
+
 pub touching-self : (d k : ℕ) → touching d k k ≡ true
 touching-self d k = both (eq-eqb (levelOf k) (levelOf k) refl) (near-self d d (levelOf k) (codeOf k))
+
+-- the neighbours of a valid cell, which the key algebra lists
+pub around : (d k : ℕ) → ValidKey d k → Around d k (neighbours d k)
+around d k v = record {
+  are = λ c m. let (w, t, n) = neighbours-are d k v c .0 m in both (touching-sym d c k t) (rw (ne-eqb k c (λ e. n (sym e))));
+  all = λ c w h. neighbours-are d k v c .1
+      (valid-facts d c (facts-valid d k v .0) w, touching-sym d k c (and-l _ _ h), λ e. eqb-false k c (not-true _ (and-r (touching d k c) _ h)) (sym e));
+}
 
 -- what holds a valid cell is valid
 pub valid-at : (d l k : ℕ) → l ≤ levelOf k → valid d k ≡ true → valid d (cellAt d l k) ≡ true

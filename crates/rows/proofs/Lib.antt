@@ -4,6 +4,7 @@ pub mod RowTests
 pub mod Meetings
 pub mod Bound
 pub mod Around
+pub mod Literal
 pub mod Agree
 pub mod Demand3
 pub mod Examples

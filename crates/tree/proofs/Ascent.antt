@@ -1,18 +1,19 @@
--- The pass over the keys: the first i are valid and ascend.
+-- The pass over the rows, as it goes along the keys: the first i are valid and ascend.
 use mathlib.Core.Path.{_≡_, refl, sym, ap, _∙_}
 use mathlib.Core.Bool.{Bool, true, false, _&&_}
 use mathlib.Core.List.{List}
-use mathlib.Core.Logic.{_⊎_, inl, inr}
 use Prim.Native.Nat.{ℕ, zero, suc, _+_, _*_, _-_, _^_, _≤_, _<_}
 use native.Mathlib.Omega.{arith}
 use native.Mathlib.Nat.{mul-zero}
 use native.Mathlib.Decide.{decLt}
+use lib.Dec.{leb, ltb}
 use lib.ListN.{length, getD}
-use Rattle.slices.proofs.Tests.{clash, refute}
-use Rattle.morton.specs.Keys.{valid}
+use borrow.Author.Tests.{ltb-true}
+use Rattle.slices.proofs.Tests.{and-r}
+use Rattle.morton.specs.Keys.{levelOf, codeOf, valid}
 use Rattle.tree.specs.Nodes.{before}
-use Rattle.tree.specs.WellFormed.{keysAscend}
-use Rattle.tree.proofs.Rules.{Ascending, ascend-facts, facts-ascend}
+use Rattle.tree.proofs.Rules.{Ascending}
+use Rattle.tree.proofs.Stored.{earlier}
 
 pub record Ascended (d : ℕ) (keys : List ℕ) (i : ℕ) : Type 0 where
   pub some : 1 ≤ i
@@ -54,23 +55,21 @@ module _ (d : ℕ) (keys : List ℕ) where
           let f : j ≡ i - 1 = omega arith in
           rw (e, f) b
 
-  pub ascend-done : (i : ℕ) → Ascended d keys i → length keys ≤ i → true ≡ keysAscend d keys
-  ascend-done i a l = sym (facts-ascend d keys (record {
+  pub ascend-done : (i : ℕ) → Ascended d keys i → length keys ≤ i → Ascending d keys
+  ascend-done i a l = record {
     root = a .root;
     sound = λ j h. a .sound j (omega arith);
     ordered = λ j h. a .ordered j (omega arith);
-  }))
+  }
 
-  not-ascending : (Ascending d keys → ⊥) → false ≡ keysAscend d keys
-  not-ascending f = sym (refute (λ h. f (ascend-facts d keys h)))
-
-  pub bad-root : (getD keys 0 0 ≡ 0 → ⊥) → false ≡ keysAscend d keys
-  bad-root n = not-ascending (λ a. n (a .root))
-
-  pub bad-key : (i : ℕ) → i < length keys → valid d (getD keys i 0) ≡ false → false ≡ keysAscend d keys
-  bad-key i l v = not-ascending (λ a. clash (a .sound i l) v)
-
-  pub bad-order : (i : ℕ) → 1 ≤ i → i < length keys → before (getD keys (i - 1) 0) (getD keys i 0) ≡ false → false ≡ keysAscend d keys
-  bad-order i s l b = not-ascending (λ a.
-      let e : suc (i - 1) ≡ i = omega arith in
-      clash (rw e at (a .ordered (i - 1) (omega arith))) b)
+-- a valid key after which another stands before it is not the root's
+pub level-pos : (d x k : ℕ) → valid d k ≡ true → before x k ≡ true → 0 < levelOf k
+level-pos d x k v b = go (decLt 0 (levelOf k))
+  where
+    go : Dec (0 < levelOf k) → 0 < levelOf k
+    go (yes h) = h
+    go (no h) =
+        let z : levelOf k ≡ 0 = omega arith in
+        let e = earlier x k b in
+        let c = rw (z, mul-zero) at (ltb-true (codeOf k) (2 ^ (d * levelOf k)) (and-r (leb (levelOf k) 16) _ v)) in
+        absurd (omega (arith, e .0, e .1 (omega (arith, e .0)), c))

@@ -14,7 +14,8 @@ use Rattle.slices.specs.Lists.{any, Mem}
 use Rattle.slices.specs.Every.{every}
 use Rattle.slices.proofs.Tests.{and-l, and-r, both, clash, refute}
 use Rattle.slices.proofs.Counts.{any-intro, any-elim}
-use Rattle.morton.specs.Keys.{key, levelOf, codeOf, valid, parent}
+use Rattle.morton.specs.Keys.{key, levelOf, codeOf, axesKnown, valid, parent, childrenRoom}
+use Rattle.morton.proofs.Checks.{axes-facts}
 use Rattle.morton.proofs.Cells.{key-level, key-code, key-parts, level-parent, code-parent}
 use Rattle.tree.specs.Nodes.{before, stored, childOf, leaf}
 use Rattle.tree.specs.WellFormed.{inOrder, keysAscend}
@@ -89,7 +90,7 @@ between d k x first after lf la cf ca = go (decLt (levelOf x) (suc (levelOf k)))
         (ap (ltb (codeOf x)) (sym ca) ∙ before-same x after (omega arith) (omega arith))
 
 -- the keys of a cell's first child, and of the one after its last, are below 2 ^ 64
-pub kids-fit : (d k : ℕ) → d ≤ 3 → valid d k ≡ true → levelOf k < 16 → codeOf k * 2 ^ d + 2 ^ d ≤ 2 ^ 48
+kids-fit : (d k : ℕ) → d ≤ 3 → valid d k ≡ true → levelOf k < 16 → codeOf k * 2 ^ d + 2 ^ d ≤ 2 ^ 48
 kids-fit d k hd v hl =
     let c = ltb-true (codeOf k) (2 ^ (d * levelOf k)) (and-r (leb (levelOf k) 16) _ v) in
     let a : (codeOf k + 1) * 2 ^ d ≤ 2 ^ (d * levelOf k) * 2 ^ d = mul-le-mul-right (2 ^ d) (omega arith) in
@@ -98,8 +99,12 @@ kids-fit d k hd v hl =
     let f : 2 ^ (d * suc (levelOf k)) ≤ 2 ^ 48 = pow-mono (mul-le-mul {n₁ = d} {m₁ = suc (levelOf k)} {n₂ = 3} {m₂ = 16} hd hl) in
     omega arith
 
-pub kids-room : (d k f : ℕ) → d ≤ 3 → valid d k ≡ true → levelOf k < 16 → f ≡ 2 ^ d → codeOf k * f + f ≤ 2 ^ 48
-kids-room d k f hd v hl e = rw e (kids-fit d k hd v hl)
+-- a cell's children number 2 ^ d
+fan : (d f : ℕ) → axesKnown d ≡ true → f ≡ childrenRoom d → f ≡ 2 ^ d
+fan d f known e = e ∙ rw known
+
+pub kids-room : (d k f : ℕ) → axesKnown d ≡ true → valid d k ≡ true → levelOf k < 16 → f ≡ childrenRoom d → codeOf k * f + f ≤ 2 ^ 48
+kids-room d k f known v hl e = rw (fan d f known e) (kids-fit d k (axes-facts d known .1) v hl)
 
 not-ltb : (j r : ℕ) → not (ltb j r) ≡ leb r j
 not-ltb j r = go (decLt j r)
@@ -108,7 +113,7 @@ not-ltb j r = go (decLt j r)
     go (yes l) = rw (lt-ltb j r l, lt-leb r j l)
     go (no n) = rw (le-ltb j r (omega arith), le-leb r j (omega arith))
 
-module _ (d : ℕ) (keys : List ℕ) (k : ℕ) (ok : keysAscend d keys ≡ true) where
+module _ (d : ℕ) (keys : List ℕ) (k : ℕ) (known : axesKnown d ≡ true) (ok : keysAscend d keys ≡ true) where
   pub children-between : (first after from to : ℕ) → levelOf first ≡ suc (levelOf k) → levelOf after ≡ suc (levelOf k) → codeOf first ≡ codeOf k * 2 ^ d → codeOf after ≡ codeOf k * 2 ^ d + 2 ^ d
       → FirstFrom keys first from → FirstFrom keys after to → Children d keys k from to
   children-between first after from to lf la cf ca f t = record {
@@ -123,9 +128,10 @@ module _ (d : ℕ) (keys : List ℕ) (k : ℕ) (ok : keysAscend d keys ≡ true)
   kid-code : (q : ℕ) → levelOf k < 16 → codeOf (q * 32768 + (levelOf k + 1)) ≡ q
   kid-code q h = omega arith
 
-  pub children-found : (f from to : ℕ) → levelOf k < 16 → f ≡ 2 ^ d → FirstFrom keys (codeOf k * f * 32768 + (levelOf k + 1)) from → FirstFrom keys ((codeOf k * f + f) * 32768 + (levelOf k + 1)) to
+  pub children-found : (f from to : ℕ) → levelOf k < 16 → f ≡ childrenRoom d → FirstFrom keys (codeOf k * f * 32768 + (levelOf k + 1)) from → FirstFrom keys ((codeOf k * f + f) * 32768 + (levelOf k + 1)) to
       → Children d keys k from to
-  children-found f from to h e a b =
+  children-found f from to h r a b =
+      let e = fan d f known r in
       children-between (codeOf k * f * 32768 + (levelOf k + 1)) ((codeOf k * f + f) * 32768 + (levelOf k + 1)) from to (kid-level (codeOf k * f) h) (kid-level (codeOf k * f + f) h)
       (kid-code (codeOf k * f) h ∙ ap (codeOf k *_) e) (kid-code (codeOf k * f + f) h ∙ ap (λ n. codeOf k * n + n) e) a b
 

@@ -7,6 +7,7 @@ pub mod KeyTests
 pub mod Ascent
 pub mod Sums
 pub mod Walk
+pub mod Pass
 pub mod Verdict
 pub mod Halving
 pub mod Kids

@@ -1,4 +1,4 @@
--- The pass over own counts and begins: the first i begins are the running sums.
+-- The pass over the rows, as it goes along own counts and begins: the first i begins are the running sums.
 use mathlib.Core.Path.{_≡_, refl, sym, ap, _∙_}
 use mathlib.Core.Bool.{Bool, true, false, _&&_}
 use mathlib.Core.List.{List}
@@ -8,10 +8,8 @@ use native.Mathlib.Numerals.{add-one}
 use native.Mathlib.Decide.{decLt}
 use lib.ListN.{length, getD, take}
 use Rattle.slices.specs.Lists.{sum}
-use Rattle.slices.proofs.Tests.{refute}
-use Rattle.tree.specs.WellFormed.{mostSources, runsAdd}
-use Rattle.tree.proofs.Rules.{runs-facts, facts-runs}
-use Rattle.tree.proofs.Runs.{sum-take, sum-whole, sum-all}
+use Rattle.tree.specs.WellFormed.{mostSources}
+use Rattle.tree.proofs.Runs.{sum-take, sum-all}
 
 pub record Added (own begin : List ℕ) (run i : ℕ) : Type 0 where
   pub most : i ≤ length own
@@ -20,9 +18,15 @@ pub record Added (own begin : List ℕ) (run i : ℕ) : Type 0 where
   pub small : run ≤ mostSources
 
 module _ (own begin : List ℕ) where
-  pub add-start : Added own begin 0 0
+  -- the root owns none
+  pub add-start : 0 < length own → getD begin 0 0 ≡ 0 → getD own 0 0 ≡ 0 → Added own begin 0 1
   unfolding sum
-  add-start = record { most = zero-le; begins = λ j h. absurd (omega arith); adds = refl; small = zero-le }
+  add-start l b o = record {
+    most = l;
+    begins = λ j h. let e : j ≡ 0 = omega arith in rw e b;
+    adds = omega (arith, sum-take own 0 l);
+    small = zero-le;
+  }
 
   pub add-more : (run i : ℕ) → Added own begin run i → i < length own → getD begin i 0 ≡ run → getD own i 0 ≤ mostSources - run → Added own begin (run + getD own i 0) (i + 1)
   add-more run i a l b n = record {
@@ -36,14 +40,8 @@ module _ (own begin : List ℕ) where
       here j h (yes k) = a .begins j k
       here j h (no k) = let e : j ≡ i = omega arith in rw e (b ∙ a .adds)
 
-  pub add-done : (run i : ℕ) → Added own begin run i → length own ≤ i → true ≡ runsAdd own begin
+  pub add-done : (run i : ℕ) → Added own begin run i → length own ≤ i → ((j : ℕ) → j < length own → getD begin j 0 ≡ sum (take j own)) × (sum own ≤ mostSources)
   add-done run i a l =
       let e : i ≡ length own = omega (arith, a .most) in
       let whole : run ≡ sum own = a .adds ∙ ap (λ n. sum (take n own)) e ∙ sum-all own in
-      sym (facts-runs own begin (λ j h. a .begins j (omega arith)) (omega (arith, a .small)))
-
-  pub bad-begin : (run i : ℕ) → Added own begin run i → i < length own → (getD begin i 0 ≡ run → ⊥) → false ≡ runsAdd own begin
-  bad-begin run i a l n = sym (refute (λ h. n (runs-facts own begin h .0 i l ∙ sym (a .adds))))
-
-  pub too-many : (run i : ℕ) → Added own begin run i → i < length own → mostSources - run < getD own i 0 → false ≡ runsAdd own begin
-  too-many run i a l n = sym (refute (λ h. omega (arith, runs-facts own begin h .1, a .adds, a .small, sum-take own i l, sum-whole own (suc i))))
+      (λ j h. a .begins j (omega arith), omega (arith, a .small))

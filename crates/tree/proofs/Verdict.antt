@@ -1,15 +1,18 @@
--- The well-formed rule, clause by clause: each that fails decides, and all but the last hold before the last is asked.
+-- The well-formed rule at the axes, the lengths and the first row: each test that fails decides.
 use mathlib.Core.Path.{_≡_, refl, sym, ap, _∙_}
 use mathlib.Core.Bool.{Bool, true, false, _&&_}
 use mathlib.Core.List.{List}
 use Prim.Native.Nat.{ℕ, _≤_, _<_}
 use native.Mathlib.Omega.{arith}
 use lib.Dec.{leb, ltb, eqb}
-use lib.ListN.{length}
-use borrow.Author.Tests.{leb-true, ltb-true, eqb-true, le-leb, lt-ltb, eq-eqb}
-use Rattle.slices.proofs.Tests.{and-l, and-r, both, clash, refute}
+use lib.ListN.{length, getD, take}
+use borrow.Author.Tests.{leb-true, ltb-true, eqb-true}
+use Rattle.slices.specs.Lists.{sum}
+use Rattle.slices.proofs.Tests.{and-l, and-r, clash, refute}
 use Rattle.morton.specs.Keys.{axesKnown}
-use Rattle.tree.specs.WellFormed.{oneLength, keysAscend, parentsStored, leavesOwn, runsAdd, wellFormed}
+use Rattle.tree.specs.WellFormed.{oneLength, keysAscend, wellFormed}
+use Rattle.tree.proofs.Rules.{WellFormed, facts}
+use Rattle.tree.proofs.Walk.{root-no-leaf}
 
 module _ (d : ℕ) (keys own begin : List ℕ) where
   abbrev verdict : Bool
@@ -22,15 +25,8 @@ module _ (d : ℕ) (keys own begin : List ℕ) where
   unfolding wellFormed
   lengths h = and-l _ _ (and-r (axesKnown d) _ h)
 
-  rest : verdict ≡ true → (keysAscend d keys && (parentsStored d keys && (leavesOwn d keys own && runsAdd own begin))) ≡ true
-  unfolding wellFormed
-  rest h = and-r (oneLength keys own begin) _ (and-r (axesKnown d) _ h)
-
-  pub few-axes : d < 1 → false ≡ verdict
-  few-axes l = no (λ h. omega (arith, leb-true 1 d (and-l _ _ (and-l (axesKnown d) _ h))))
-
-  pub many-axes : 3 < d → false ≡ verdict
-  many-axes l = no (λ h. omega (arith, leb-true d 3 (and-r (leb 1 d) _ (and-l (axesKnown d) _ h))))
+  pub other-axes : axesKnown d ≡ false → false ≡ verdict
+  other-axes e = no (λ h. clash (and-l _ _ h) e)
 
   pub other-own : (length own ≡ length keys → ⊥) → false ≡ verdict
   other-own n = no (λ h. n (eqb-true (length own) (length keys) (and-l _ _ (lengths h))))
@@ -41,28 +37,21 @@ module _ (d : ℕ) (keys own begin : List ℕ) where
   pub no-nodes : length keys < 1 → false ≡ verdict
   no-nodes l = no (λ h. omega (arith, ltb-true 0 (length keys) (and-r (eqb (length begin) (length keys)) _ (and-r (eqb (length own) (length keys)) _ (lengths h)))))
 
-  pub bad-keys : keysAscend d keys ≡ false → false ≡ verdict
-  bad-keys e = no (λ h. clash (and-l _ _ (rest h)) e)
+  w : verdict ≡ true → WellFormed d keys own begin
+  w h = facts d keys own begin (and-r (axesKnown d) _ h)
 
-  pub bad-parents : (parentsStored d keys && leavesOwn d keys own) ≡ false → false ≡ verdict
-  bad-parents e = no (λ h.
-      let r = and-r (keysAscend d keys) _ (rest h) in
-      clash (both {a = parentsStored d keys} {b = leavesOwn d keys own} (and-l _ _ r) (and-l _ _ (and-r (parentsStored d keys) _ r))) e)
+  pub other-root : (getD keys 0 0 ≡ 0 → ⊥) → false ≡ verdict
+  other-root n = no (λ h. n (w h .ascending .root))
 
-  pub but-runs : 1 ≤ d → d ≤ 3 → length own ≡ length keys → length begin ≡ length keys → 1 ≤ length keys
-      → keysAscend d keys ≡ true → (parentsStored d keys && leavesOwn d keys own) ≡ true → runsAdd own begin ≡ verdict
-  unfolding wellFormed
-  but-runs a b c e f g h =
-      rw (
-        le-leb 1 d a,
-        le-leb d 3 b,
-        eq-eqb (length own) (length keys) c,
-        eq-eqb (length begin) (length keys) e,
-        lt-ltb 0 (length keys) f,
-        g,
-        and-l (parentsStored d keys) _ h,
-        and-r (parentsStored d keys) _ h,
-      )
+  pub root-owns : (getD own 0 0 ≡ 0 → ⊥) → false ≡ verdict
+  root-owns n = no (λ h. n (w h .inner 0 (w h .some) (root-no-leaf d keys (getD keys 0 0) (w h .ascending .root))))
+
+  pub other-first : (getD begin 0 0 ≡ 0 → ⊥) → false ≡ verdict
+  unfolding sum
+  other-first n = no (λ h. n (w h .runs 0 (w h .some)))
+
+  pub by-rows : (r : Bool) → axesKnown d ≡ true → r ≡ wellFormed d keys own begin → r ≡ verdict
+  by-rows r a e = e ∙ rw a
 
   -- what a caller has once the verdict is true
   pub keys-of : wellFormed d keys own begin ≡ true → keysAscend d keys ≡ true

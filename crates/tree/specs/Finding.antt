@@ -20,12 +20,12 @@ pub record FirstFrom (keys : List ℕ) (k r : ℕ) : Type 0 where
   pub within : r ≤ length keys
   pub splits : inOrder keys ≡ true → (j : ℕ) → j < length keys → before (getD keys j 0) k ≡ ltb j r
 
--- r is the number of the first node from p on with key k, or the number of nodes
-pub record Sought (keys : List ℕ) (p k r : ℕ) : Type 0 where
+-- r is the number of the first node from p up to end with key k, or end
+pub record Sought (keys : List ℕ) (p end k r : ℕ) : Type 0 where
   pub from : p ≤ r
-  pub within : r ≤ length keys
+  pub within : r ≤ end
   pub skipped : (j : ℕ) → p ≤ j → j < r → getD keys j 0 ≡ k → ⊥
-  pub there : r < length keys → getD keys r 0 ≡ k
+  pub there : r < end → getD keys r 0 ≡ k
 
 -- the children of cell k are the nodes from one number up to another
 pub record Children (d : ℕ) (keys : List ℕ) (k from to : ℕ) : Type 0 where

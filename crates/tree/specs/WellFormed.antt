@@ -1,4 +1,5 @@
 -- Document 01, "Lists, lookup, sourced cells": when a tree handed in is well formed, for any three columns.
+use mathlib.Core.Path.{_≡_}
 use mathlib.Core.Bool.{Bool, true, false, _&&_, _||_, not}
 use mathlib.Core.List.{List, [], _∷_}
 use Prim.Native.Nat.{ℕ, zero, suc, _+_, _-_, _≤_, _<_}
@@ -6,7 +7,7 @@ use lib.Dec.{leb, ltb, eqb}
 use lib.ListN.{length, getD, take}
 use Rattle.slices.specs.Lists.{any, sum}
 use Rattle.slices.specs.Every.{every}
-use Rattle.morton.specs.Keys.{valid, parent}
+use Rattle.morton.specs.Keys.{axesKnown, valid, parent}
 use Rattle.tree.specs.Nodes.{before, stored, leaf}
 
 -- the most sources of a tree
@@ -45,6 +46,16 @@ unfoldable pub wellFormed : ℕ → List ℕ → List ℕ → List ℕ → Bool
 unfolding keysAscend parentsStored leavesOwn runsAdd
 wellFormed d keys own begin =
     oneLength keys own begin && (keysAscend d keys && (parentsStored d keys && (leavesOwn d keys own && runsAdd own begin)))
+
+-- the number of axes, the lengths and the first row are right
+pub record Rooted (d : ℕ) (keys own begin : List ℕ) : Type 0 where
+  pub axes : axesKnown d ≡ true
+  pub owns : length own ≡ length keys
+  pub begins : length begin ≡ length keys
+  pub some : 0 < length keys
+  pub root : getD keys 0 0 ≡ 0
+  pub rootless : getD own 0 0 ≡ 0
+  pub first : getD begin 0 0 ≡ 0
 
 -- A source of a tree is one place in its runs: place p lies in the run of node j
 pub record Run (own begin : List ℕ) (j p : ℕ) : Type 0 where

@@ -1,11 +1,14 @@
 // What a tree is: its columns, when they are well formed, finding a node, and a leaf's sources.
+use morton::axes;
+use morton::keys;
+use refusal::Outcome;
 ghost use mathlib.Core.Path.{_≡_};
 ghost use mathlib.Core.Bool.{true, _&&_};
-ghost use Prim.Native.Nat.{ℕ, _^_, _≤_, _<_};
+ghost use Prim.Native.Nat.{ℕ, _≤_, _<_};
 ghost use lib.ListN.{length, getD};
-ghost use Rattle.morton.specs.Keys.{levelOf, axesKnown, valid, parent};
-ghost use Rattle.tree.specs.Nodes.{before, leaf};
-ghost use Rattle.tree.specs.WellFormed.{keysAscend, parentsStored, leavesOwn, runsAdd, wellFormed};
+ghost use Rattle.morton.specs.Keys.{axesKnown, valid};
+ghost use Rattle.tree.specs.Nodes.{before, leaf, depthOf};
+ghost use Rattle.tree.specs.WellFormed.{keysAscend, wellFormed, Rooted};
 ghost use Rattle.tree.specs.Finding.{FoundNode, FirstFrom, Sought, Children};
 ghost use Rattle.tree.specs.Sources.{leafSources};
 
@@ -40,41 +43,39 @@ pub fn comes_before(a: u64, b: u64) -> bool
 
 // Whether a key is valid.
 fn is_valid(axes: usize, key: u64) -> bool
-    requires { ⌜ axes ≤ 3 ⌝ }
+    requires { ⌜ axesKnown axes ≡ true ⌝ }
     ensures { λ r. ⌜ r ≡ valid axes key ⌝ }
 {
-    let level = key % 32768;
-    if 16 < level {
-        return false;
+    let checked = keys::check_key(axes, key);
+    match checked {
+        Outcome::Done => true,
+        Outcome::Refused(_) => false,
     }
-    let bits = (axes as u64) * level;
-    (key / 32768) >> bits == 0
 }
 
-// The key of a cell's parent.
-fn parent_of(axes: usize, key: u64) -> u64
-    requires { ⌜ (axes ≤ 3) × (0 < levelOf key) ⌝ }
-    ensures { λ r. ⌜ r ≡ parent axes key ⌝ }
+// The number of the first node from p up to end with key k, or end.
+fn seek(key: &[u64], p: usize, end: usize, k: u64) -> usize
+    requires { ⌜ (p ≤ end) × (end ≤ length (now key)) ⌝ }
+    ensures { λ r. ⌜ Sought (now (key .entry)) p end k r ⌝ }
 {
-    ((key / 32768) >> axes) * 32768 + (key % 32768 - 1)
-}
-
-// How many children a cell can have.
-fn fan_of(axes: usize) -> u64
-    requires { ⌜ axes ≤ 3 ⌝ }
-    ensures { λ r. ⌜ r ≡ 2 ^ axes ⌝ }
-{
-    1 << axes
-}
-
-// Whether the keys are valid and strictly ascend by level then code, from 0.
-fn keys_ascend(axes: usize, key: &[u64]) -> bool
-    requires { ⌜ (axes ≤ 3) × (0 < length (now key)) ⌝ }
-    ensures { λ r. ⌜ r ≡ keysAscend axes (now (key .entry)) ⌝ }
-{
-    if key[0] != 0 {
-        return false;
+    let mut i = p;
+    while i < end {
+        if key[i] == k {
+            return i;
+        }
+        i += 1;
     }
+    i
+}
+
+// Whether the rows after the root's are right: one pass, beside which a second index runs along the parents.
+// Parents ascend as their children do, and stand before them.
+fn rows_right(axes: usize, key: &[u64], own: &[usize], begin: &[usize]) -> bool
+    requires { ⌜ Rooted axes (now key) (now own) (now begin) ⌝ }
+    ensures { λ r. ⌜ r ≡ wellFormed axes (now (key .entry)) (now (own .entry)) (now (begin .entry)) ⌝ }
+{
+    let mut parent = 0;
+    let mut run = 0;
     let mut i = 1;
     while i < key.len() {
         let k = key[i];
@@ -84,58 +85,13 @@ fn keys_ascend(axes: usize, key: &[u64]) -> bool
         if !comes_before(key[i - 1], k) {
             return false;
         }
-        i += 1;
-    }
-    true
-}
-
-// The number of the first node from p on with key k, or the number of nodes.
-fn seek(key: &[u64], p: usize, k: u64) -> usize
-    requires { ⌜ p ≤ length (now key) ⌝ }
-    ensures { λ r. ⌜ Sought (now (key .entry)) p k r ⌝ }
-{
-    let mut i = p;
-    while i < key.len() {
-        if key[i] == k {
-            return i;
-        }
-        i += 1;
-    }
-    i
-}
-
-// Whether every node but the root has its parent, and neither the root nor a parent owns sources.
-// The parents of ascending nodes ascend, so one index runs along them.
-fn parents_right(axes: usize, key: &[u64], own: &[usize]) -> bool
-    requires { ⌜ (axes ≤ 3) × (0 < length (now key)) × (length (now own) ≡ length (now key)) × (keysAscend axes (now key) ≡ true) ⌝ }
-    ensures { λ r. ⌜ r ≡ (parentsStored axes (now (key .entry)) && leavesOwn axes (now (key .entry)) (now (own .entry))) ⌝ }
-{
-    if own[0] != 0 {
-        return false;
-    }
-    let mut p = 0;
-    let mut i = 1;
-    while i < key.len() {
-        p = seek(key, p, parent_of(axes, key[i]));
-        if key.len() <= p {
+        parent = seek(key, parent, i, keys::parent_of(axes, k));
+        if i <= parent {
             return false;
         }
-        if own[p] != 0 {
+        if own[parent] != 0 {
             return false;
         }
-        i += 1;
-    }
-    true
-}
-
-// Whether the begins are the running sums, and the total is no larger than it may be.
-fn runs_add(own: &[usize], begin: &[usize]) -> bool
-    requires { ⌜ length (now begin) ≡ length (now own) ⌝ }
-    ensures { λ r. ⌜ r ≡ runsAdd (now (own .entry)) (now (begin .entry)) ⌝ }
-{
-    let mut run = 0;
-    let mut i = 0;
-    while i < own.len() {
         if begin[i] != run {
             return false;
         }
@@ -149,14 +105,11 @@ fn runs_add(own: &[usize], begin: &[usize]) -> bool
     true
 }
 
-// Whether any three columns are a well-formed tree over 1 to 3 axes.
+// Whether any three columns are a well-formed tree over 1 to 3 axes: their lengths, the root's row, and then the others.
 pub fn is_well_formed(axes: usize, key: &[u64], own: &[usize], begin: &[usize]) -> bool
     ensures { λ r. ⌜ r ≡ (axesKnown axes && wellFormed axes (now (key .entry)) (now (own .entry)) (now (begin .entry))) ⌝ }
 {
-    if axes < 1 {
-        return false;
-    }
-    if 3 < axes {
+    if !axes::axes_known(axes) {
         return false;
     }
     if own.len() != key.len() {
@@ -168,13 +121,30 @@ pub fn is_well_formed(axes: usize, key: &[u64], own: &[usize], begin: &[usize]) 
     if key.len() < 1 {
         return false;
     }
-    if !keys_ascend(axes, key) {
+    if key[0] != 0 {
         return false;
     }
-    if !parents_right(axes, key, own) {
+    if own[0] != 0 {
         return false;
     }
-    runs_add(own, begin)
+    if begin[0] != 0 {
+        return false;
+    }
+    rows_right(axes, key, own, begin)
+}
+
+// The depth: the last node's level, at least 1.
+pub fn depth_of(key: &[u64]) -> u64
+    ensures { λ r. ⌜ r ≡ depthOf (now (key .entry)) ⌝ }
+{
+    if key.len() < 1 {
+        return 1;
+    }
+    let level = keys::level_of(key[key.len() - 1]);
+    if level < 1 {
+        return 1;
+    }
+    level
 }
 
 // The number of the first node that does not come before k, by halving.
@@ -210,14 +180,14 @@ pub fn find_node(key: &[u64], k: u64) -> Found
 
 // The children of cell k, which stand next to each other.
 pub fn children_of(axes: usize, key: &[u64], k: u64) -> Span
-    requires { ⌜ (axes ≤ 3) × (keysAscend axes (now key) ≡ true) × (valid axes k ≡ true) ⌝ }
+    requires { ⌜ (axesKnown axes ≡ true) × (keysAscend axes (now key) ≡ true) × (valid axes k ≡ true) ⌝ }
     ensures { λ r. ⌜ Children axes (now (key .entry)) k (r .from) (r .to) ⌝ }
 {
     let level = k % 32768;
     if 16 <= level {
         return Span { from: 0, to: 0 };
     }
-    let fan = fan_of(axes);
+    let fan = axes::children_of(axes) as u64;
     let first = (k / 32768) * fan;
     let from = first_from(key, first * 32768 + (level + 1));
     let to = first_from(key, (first + fan) * 32768 + (level + 1));
@@ -226,7 +196,7 @@ pub fn children_of(axes: usize, key: &[u64], k: u64) -> Span
 
 // Whether a node is a leaf.
 pub fn is_leaf(axes: usize, key: &[u64], node: usize) -> bool
-    requires { ⌜ (axes ≤ 3) × (keysAscend axes (now key) ≡ true) × (node < length (now key)) ⌝ }
+    requires { ⌜ (axesKnown axes ≡ true) × (keysAscend axes (now key) ≡ true) × (node < length (now key)) ⌝ }
     ensures { λ r. ⌜ r ≡ leaf axes (now (key .entry)) (getD (now (key .entry)) node 0) ⌝ }
 {
     let k = key[node];

@@ -12,13 +12,13 @@ use Rattle.tree.proofs.seek.Reads as reads
 use Rattle.tree.proofs.seek.Lts as lts
 
 abbrev Inv-loop : tie.InvT-loop
-Inv-loop key p k i₀ i = Seeking key p k i
+Inv-loop key p end k i₀ i = Seeking key p end k i
 
 abbrev μ-loop : tie.MeasureT-loop
-μ-loop key p k i₀ i = length key - i
+μ-loop key p end k i₀ i = end - i
 
 loop-holds : tie.Need-loop-holds Inv-loop μ-loop
-loop-holds c = seek-start _ _ _ (c .pre)
+loop-holds c = seek-start _ _ _ _ (c .pre .0)
 
 mul-if1 : tie.Need-mul-if1 Inv-loop μ-loop
 mul-if1 c = search needs

@@ -2,19 +2,15 @@
 use mathlib.Core.Path.{_≡_, refl, sym, _∙_}
 use Prim.Native.Nat.{ℕ, _*_, _-_, _%_, _^_, _≤_, _<_}
 use native.Mathlib.Omega.{arith}
-use native.Mathlib.Nat.{one-mul}
 use lib.Dec.{ltb}
 use lib.ListN.{getD}
-use lib.Pow.{shl-exact}
 use borrow.Author.Tests.{lt-ltb, le-ltb}
 use Rattle.slices.proofs.Every.{every-fails, every-next, every-none}
 use Rattle.morton.specs.Anchors.{onLevel}
+use Rattle.morton.proofs.Arithmetic.{one-shifted}
 use borrow.Author.Needs.{needs}
 use Rattle.morton.proofs.anchors.on_level.Statement.{statement}
 use Rattle.morton.proofs.anchors.on_level.Tie as tie
-
-end-is : (level : ℕ) → level ≤ 16 → 1 * 2 ^ level % 2 ^ 64 ≡ 2 ^ level
-end-is level h = let lt : 1 < 2 ^ 1 = omega arith in shl-exact 1 level 64 lt (omega arith) ∙ one-mul (2 ^ level)
 
 abbrev Inv-loop : tie.InvT-loop
 Inv-loop axes level anchor end n₀ n = (n ≤ axes) × (onLevel n level anchor ≡ onLevel axes level anchor)
@@ -38,13 +34,13 @@ array-read-if1 : tie.Need-array-read-if1 Inv-loop μ-loop
 array-read-if1 c = search needs
 
 returns : tie.Need-returns Inv-loop μ-loop
-returns c = let s = c .before .before .before in sym (every-fails (λ a. ltb (getD (s .args .t2) a 0) (2 ^ s .args .level)) (c .before .before .loop .n) (c .before .before .loop .n - 1) (omega arith) (le-ltb (getD (s .args .t2) (c .before .before .loop .n - 1) 0) (2 ^ s .args .level) (omega (arith, end-is (s .args .level) (s .pre .1))))) ∙ c .before .before .loop .inv .1
+returns c = let s = c .before .before .before in sym (every-fails (λ a. ltb (getD (s .args .t2) a 0) (2 ^ s .args .level)) (c .before .before .loop .n) (c .before .before .loop .n - 1) (omega arith) (le-ltb (getD (s .args .t2) (c .before .before .loop .n - 1) 0) (2 ^ s .args .level) (omega (arith, one-shifted (s .args .level) (s .pre .1))))) ∙ c .before .before .loop .inv .1
 
 loop-less : tie.Need-loop-less Inv-loop μ-loop
 loop-less c = search needs
 
 loop-again : tie.Need-loop-again Inv-loop μ-loop
-loop-again c = let s = c .before .before .before in (omega arith, sym (every-next (λ a. ltb (getD (s .args .t2) a 0) (2 ^ s .args .level)) (c .before .before .loop .n) (c .before .before .loop .n - 1) (omega arith) (lt-ltb (getD (s .args .t2) (c .before .before .loop .n - 1) 0) (2 ^ s .args .level) (omega (arith, end-is (s .args .level) (s .pre .1))))) ∙ c .before .before .loop .inv .1)
+loop-again c = let s = c .before .before .before in (omega arith, sym (every-next (λ a. ltb (getD (s .args .t2) a 0) (2 ^ s .args .level)) (c .before .before .loop .n) (c .before .before .loop .n - 1) (omega arith) (lt-ltb (getD (s .args .t2) (c .before .before .loop .n - 1) 0) (2 ^ s .args .level) (omega (arith, one-shifted (s .args .level) (s .pre .1))))) ∙ c .before .before .loop .inv .1)
 
 returns-2 : tie.Need-returns-2 Inv-loop μ-loop
 returns-2 c = sym (every-none _ (c .before .loop .n) (omega arith)) ∙ c .before .loop .inv .1

@@ -26,13 +26,13 @@ shl-t8 : tie.Need-shl-t8
 shl-t8 c = let s = c .before .before .before .before in omega (arith, checked (s .args .axes) (s .args .key) (sym (c .before .before .before .check-key .ensures) ∙ c .before .enum-told .given .1) .most)
 
 rem-t9 : tie.Need-rem-t9
-rem-t9 c = let s = c .before .before .before .before in omega (arith, one-shifted (s .args .axes) (checked (s .args .axes) (s .args .key) (sym (c .before .before .before .check-key .ensures) ∙ c .before .enum-told .given .1) .most), pow-pos (s .args .axes))
+rem-t9 c = let s = c .before .before .before .before in omega (arith, one-shifted (s .args .axes) (omega (arith, checked (s .args .axes) (s .args .key) (sym (c .before .before .before .check-key .ensures) ∙ c .before .enum-told .given .1) .most)), pow-pos (s .args .axes))
 
 returns : tie.Need-returns
 returns c = number-refused _ _ _ (sym (c .before .before .before .check-key .ensures) ∙ c .before .checked .given .1)
 
 returns-2 : tie.Need-returns-2
-returns-2 c = let s = c .before .before .before .before in number-done _ _ _ (sym (c .before .before .before .check-key .ensures) ∙ c .before .enum-told .given .1) (ap₂ (λ (a b : ℕ). a % b) (c .code-of .ensures) (one-shifted (s .args .axes) (checked (s .args .axes) (s .args .key) (sym (c .before .before .before .check-key .ensures) ∙ c .before .enum-told .given .1) .most)))
+returns-2 c = let s = c .before .before .before .before in number-done _ _ _ (sym (c .before .before .before .check-key .ensures) ∙ c .before .enum-told .given .1) (ap₂ (λ (a b : ℕ). a % b) (c .code-of .ensures) (one-shifted (s .args .axes) (omega (arith, checked (s .args .axes) (s .args .key) (sym (c .before .before .before .check-key .ensures) ∙ c .before .enum-told .given .1) .most))))
 
 pub get-child-index-spec : {M : Type 1} → statement M
 get-child-index-spec =

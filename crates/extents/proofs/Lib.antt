@@ -1,0 +1,4 @@
+pub mod Wholes
+pub mod Values
+pub mod Spans
+pub mod Examples

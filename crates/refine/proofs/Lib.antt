@@ -1,0 +1,9 @@
+pub mod Depths
+pub mod Limits
+pub mod Spans
+pub mod Lifting
+pub mod Sums
+pub mod Peers
+pub mod Factors
+pub mod Splits
+pub mod Examples

@@ -1,0 +1,31 @@
+-- The literals of the code, which come as bit patterns, and the values that the definitions name.
+use mathlib.Core.Path.{_≡_, refl}
+use mathlib.Core.Bool.{false}
+use lib.IntN.{pos, negsuc}
+use lib.Ieee.{fin, binary64, ofBits}
+use Rattle.space.specs.Centres.{half, tolerance}
+
+pub zero-is : ofBits binary64 0 ≡ fin false 0 (pos 0)
+unfolding ofBits
+zero-is = refl
+
+pub quarter-is : ofBits binary64 4598175219545276416 ≡ fin false 1 (negsuc 1)
+unfolding ofBits
+quarter-is = refl
+
+pub radius-limit-is : ofBits binary64 4697254411347427328 ≡ fin false 1 (pos 20)
+unfolding ofBits
+radius-limit-is = refl
+
+pub centre-limit-is : ofBits binary64 4715268809856909312 ≡ fin false 1 (pos 24)
+unfolding ofBits
+centre-limit-is = refl
+
+pub half-is : ofBits binary64 4602678819172646912 ≡ half
+unfolding ofBits
+half-is = refl
+
+-- 1e-6
+pub tolerance-is : ofBits binary64 4517329193108106637 ≡ tolerance
+unfolding ofBits tolerance lib.Ieee.round
+tolerance-is = refl

@@ -1,0 +1,96 @@
+-- Document 01, "The box and a point's cell": the quotient that IEEE 754 gives, and the cell that its floor names.
+use mathlib.Core.Path.{_≡_}
+use mathlib.Core.Bool.{Bool, true, false, _&&_}
+use mathlib.Core.List.{List, [], _∷_, map}
+use Prim.Native.Nat.{ℕ, _-_, _/_, _^_, _<_}
+use lib.IntN.{pos, negsuc}
+use lib.Dec.{ltb}
+use lib.Ieee.{Float, nan, fin, binary64, sub, mul, div, ofInt}
+use lib.ListN.{getD}
+use Rattle.morton.specs.Anchors.{encode}
+use Rattle.space.specs.declared.Box.{Box}
+use Rattle.space.specs.declared.Frame.{Frame}
+use Rattle.space.specs.declared.Located.{Located}
+use Rattle.space.specs.declared.Place.{Place}
+use Rattle.space.specs.declared.Place.the-variants.{At, Outside}
+use Rattle.space.specs.Floats.{Floor, none, whole, floor}
+
+-- an entry past the axes is 0
+abbrev pub onAxis : Bool → Float → Float
+onAxis true x = x
+onAxis false x = fin false 0 (pos 0)
+
+-- centre minus radius
+abbrev pub displacement : Box → ℕ → Float
+displacement b a = onAxis (ltb a (b .axes)) (sub binary64 (getD (b .centre) a nan) (b .radius))
+
+-- 2 * radius / 2 ^ level
+abbrev pub side : Float → ℕ → Float
+side radius level = div binary64 (mul binary64 (fin false 1 (pos 1)) radius) (ofInt binary64 (pos (2 ^ level)))
+
+-- (coordinate - displacement) / side: one subtraction and one division
+abbrev pub quotient : Float → Float → Float → Float
+quotient coordinate displacement side = div binary64 (sub binary64 coordinate displacement) side
+
+abbrev pub pick : Bool → Place → Place → Place
+pick true p q = p
+pick false p q = q
+
+-- of n cells in a row, numbered from 0, the one that a floor names; any other floor is outside
+abbrev pub cellIn : ℕ → Floor → Place
+cellIn n none = Outside
+cellIn n (whole (negsuc k)) = Outside
+cellIn n (whole (pos k)) = pick (ltb k n) (At k) Outside
+
+-- a box's own numbers at level 16, which all its points share
+abbrev pub frameOf : Box → Frame
+frameOf b = record { displacement = displacement b 0 ∷ displacement b 1 ∷ displacement b 2 ∷ []; side = side (b .radius) 16; axes = b .axes }
+
+-- A point is a list of numbers, one for each axis, and more are not read. Its level-16 cell on axis a; past the axes the anchor is 0.
+unfoldable pub cell16 : Frame → List Float → ℕ → Place
+cell16 f xs a = pick (ltb a (f .axes)) (cellIn 65536 (floor (quotient (getD xs a nan) (getD (f .displacement) a nan) (f .side)))) (At 0)
+
+abbrev pub isAt : Place → Bool
+isAt (At k) = true
+isAt Outside = false
+
+abbrev pub numberAt : Place → ℕ
+numberAt (At k) = k
+numberAt Outside = 0
+
+-- on all axes the level-16 anchor is one of 0..65535
+unfoldable pub inside : Frame → List Float → Bool
+unfolding cell16
+inside f xs = isAt (cell16 f xs 0) && (isAt (cell16 f xs 1) && isAt (cell16 f xs 2))
+
+unfoldable pub anchors16 : Frame → List Float → List ℕ
+unfolding cell16
+anchors16 f xs = numberAt (cell16 f xs 0) ∷ numberAt (cell16 f xs 1) ∷ numberAt (cell16 f xs 2) ∷ []
+
+-- the level-16 anchors divided by 2 ^ (16 - level), rounded down
+abbrev pub anchors : Frame → List Float → ℕ → List ℕ
+anchors f xs level = map (λ k. k / 2 ^ (16 - level)) (anchors16 f xs)
+
+-- the code of a point's level-16 cell
+unfoldable pub code16 : Frame → List Float → ℕ
+unfolding anchors16 encode
+code16 f xs = encode (f .axes) (f .axes) 16 (anchors16 f xs)
+
+abbrev pub placeOf : Frame → List Float → Place
+placeOf f xs = pick (inside f xs) (At (code16 f xs)) Outside
+
+-- ---- the level's own quotient
+abbrev pub cellAt : Box → ℕ → ℕ → Float → Place
+cellAt b level a x = cellIn (2 ^ level) (floor (quotient x (displacement b a) (side (b .radius) level)))
+
+-- cells are those that the level's own quotients name, on each of the axes
+abbrev pub Nests : Box → List Float → ℕ → List ℕ → Type 0
+Nests b xs level cells = (a : ℕ) → a < b .axes → cellAt b level a (getD xs a nan) ≡ At (getD cells a 0)
+
+-- ---- one point
+abbrev pub kept : Bool → List ℕ → List ℕ
+kept true cells = cells
+kept false cells = 0 ∷ 0 ∷ 0 ∷ []
+
+abbrev pub locatedOf : Frame → List Float → Located
+locatedOf f xs = record { inside = inside f xs; anchor = kept (inside f xs) (anchors16 f xs) }

@@ -1,0 +1,26 @@
+-- Numbers of IEEE 754 binary64: a size, and a floor.
+use Prim.Native.Nat.{ℕ, _+_, _-_, _*_, _/_}
+use mathlib.Core.Bool.{Bool, true, false}
+use lib.IntN.{ℤ, pos, negℤ}
+use lib.Ieee.{Float, nan, inf, fin, up, down}
+
+-- the same number with its sign off
+unfoldable pub sizeOf : Float → Float
+sizeOf nan = nan
+sizeOf (inf s) = inf false
+sizeOf (fin s m e) = fin false m e
+
+-- a NaN and an infinity have no floor
+pub data Floor : Type 0 where
+  none : Floor
+  whole : ℤ → Floor
+
+-- the greatest integer that is no more than n / d, or than -(n / d) where the sign is set, for a d above 0
+abbrev pub floorOf : Bool → ℕ → ℕ → ℤ
+floorOf false n d = pos (n / d)
+floorOf true n d = negℤ (pos ((n + (d - 1)) / d))
+
+unfoldable pub floor : Float → Floor
+floor nan = none
+floor (inf s) = none
+floor (fin s m e) = whole (floorOf s (m * up e) (down e))

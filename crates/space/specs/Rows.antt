@@ -1,0 +1,33 @@
+-- Points in a flat slice, one row of `axes` numbers after the other.
+use mathlib.Core.Bool.{Bool, true, false, cond}
+use mathlib.Core.List.{List, [], _∷_, _++_}
+use Prim.Native.Nat.{ℕ, zero, suc}
+use lib.Dec.{ltb}
+use lib.Ieee.{Float}
+use lib.ListN.{drop}
+use Rattle.space.specs.declared.Frame.{Frame}
+use Rattle.space.specs.declared.Rows.{Rows}
+use Rattle.space.specs.declared.Rows.the-variants.{Inside, Outside}
+use Rattle.space.specs.Cells.{inside, code16}
+
+-- of n rows, how many stand before the first that is outside
+unfoldable pub insideRows : ℕ → Frame → List Float → ℕ
+insideRows zero f xs = 0
+insideRows (suc n) f xs = cond (inside f xs) (suc (insideRows n f (drop (f .axes) xs))) 0
+
+-- the level-16 codes of n rows
+unfoldable pub codes16 : ℕ → Frame → List Float → List ℕ
+codes16 zero f xs = []
+codes16 (suc n) f xs = code16 f xs ∷ codes16 n f (drop (f .axes) xs)
+
+abbrev pub orInside : Bool → Rows → Rows
+orInside true r = r
+orInside false r = Inside
+
+-- the first of n rows that is outside, if one is
+abbrev pub firstOutside : ℕ → Frame → List Float → Rows
+firstOutside n f xs = orInside (ltb (insideRows n f xs) n) (Outside (insideRows n f xs))
+
+-- a slice's end content: the codes of the rows before the first that is outside, and the rest as it was
+abbrev pub coded : ℕ → Frame → List Float → List ℕ → List ℕ
+coded n f xs old = codes16 (insideRows n f xs) f xs ++ drop (insideRows n f xs) old
