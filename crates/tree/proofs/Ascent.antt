@@ -62,7 +62,7 @@ module _ (d : ℕ) (keys : List ℕ) where
     ordered = λ j h. a .ordered j (omega arith);
   }
 
--- a valid key after which another stands before it is not the root's
+-- a valid key that comes after another has a level of at least 1
 pub level-pos : (d x k : ℕ) → valid d k ≡ true → before x k ≡ true → 0 < levelOf k
 level-pos d x k v b = go (decLt 0 (levelOf k))
   where

@@ -1,4 +1,4 @@
--- The order of nodes and the validity of keys, as the code tests them.
+-- The order of nodes, the validity of keys and the depth, as the code tests them.
 use mathlib.Core.Path.{_≡_, refl, sym, ap, ap₂, _∙_}
 use mathlib.Core.Bool.{Bool, true, false, _&&_, _||_}
 use mathlib.Core.List.{List, [], _∷_}
