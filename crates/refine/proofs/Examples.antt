@@ -1,8 +1,7 @@
 -- Document 01's examples of the factor, and cells that split by one target.
 use mathlib.Core.Path.{_≡_, refl}
 use mathlib.Core.Bool.{true, false}
-use mathlib.Core.List.{List, [], _∷_}
-use Prim.Native.Nat.{ℕ, zero, suc}
+use mathlib.Core.List.{[], _∷_}
 use lib.ListN.{replicate}
 use Rattle.slices.specs.Lists.{count, sum, filter, range}
 use Rattle.slices.specs.Every.{every}

@@ -1,22 +1,20 @@
 -- The factor by what was found around a cell: its three cases, its size, and the sizes of what the test multiplies.
-use mathlib.Core.Path.{_≡_, refl, sym, ap, ap₂, _∙_}
+use mathlib.Core.Path.{_≡_, sym, ap, _∙_}
 use mathlib.Core.Bool.{Bool, true, false, _&&_, cond}
 use mathlib.Core.List.{List, [], _∷_, map, map-map}
 use mathlib.Core.Logic.{_≢_}
-use Prim.Native.Nat.{ℕ, zero, suc, _+_, _*_, _^_, _≤_, _<_}
+use Prim.Native.Nat.{ℕ, suc, _+_, _*_, _^_, _≤_, _<_}
 use native.Mathlib.Nat.{mul-le-mul, suc-mul}
 use native.Mathlib.Omega.{arith}
 use lib.Dec.{leb, eqb}
 use lib.ListN.{length, length-map}
 use borrow.Author.Tests.{le-leb, lt-leb, eq-eqb, ne-eqb}
 use Rattle.slices.specs.Lists.{sum}
-use Rattle.morton.specs.Keys.{levelOf, codeOf}
-use Rattle.neighbours.specs.Directions.{neighbours}
+use Rattle.morton.specs.Keys.{levelOf}
 use Rattle.refine.specs.declared.Around.{Around}
-use Rattle.refine.specs.Counts.{sourcesIn}
-use Rattle.refine.specs.Refinement.{lifted, peers, squares, alike, aroundBy, countsAround, factorBy, factor, Refinable}
+use Rattle.refine.specs.Refinement.{peers, squares, alike, aroundBy, countsAround, factor, Refinable}
 use Rattle.refine.proofs.Sums.{square-small}
-use Rattle.refine.proofs.Peers.{neighbours-few, few-seen}
+use Rattle.refine.proofs.Peers.{neighbours-few, seen, few-seen}
 
 -- a sum of at most 27 small numbers
 sum-small : (f : ℕ → ℕ) (b : ℕ) → ((p : ℕ) → f p ≤ b) → (xs : List ℕ) → sum (map f xs) ≤ length xs * b
@@ -28,7 +26,7 @@ sum-small f b h (x ∷ xs) =
 
 module _ (d depth k : ℕ) (sources : List ℕ) (g : Refinable d k depth sources) where
   abbrev look : ℕ → ℕ
-  look p = sourcesIn d sources (lifted d depth p)
+  look = seen d depth sources
 
   abbrev around : List ℕ
   around = countsAround d depth sources k

@@ -1,8 +1,8 @@
 -- A cell at or below the reference depth, and its ancestor one level above that depth.
-use mathlib.Core.Path.{_≡_, refl, sym, ap, ap₂, _∙_}
+use mathlib.Core.Path.{_≡_, sym, ap, ap₂, _∙_}
 use mathlib.Core.Logic.{⊎-elim}
 use mathlib.Core.Bool.{true}
-use Prim.Native.Nat.{ℕ, zero, suc, _+_, _*_, _-_, _/_, _^_, _≤_, _<_}
+use Prim.Native.Nat.{ℕ, _+_, _*_, _-_, _/_, _^_, _≤_, _<_}
 use native.Mathlib.Nat.{mul-add}
 use native.Mathlib.Omega.{arith}
 use lib.Pow.{shr-lt, shr-le}
@@ -47,7 +47,6 @@ module _ (d depth k : ℕ) (v : ValidKey d k) (deep : 1 ≤ depth) where
   ancestor-valid : depth ≤ levelOf k → ValidKey d ancestor
   unfolding ancestor
   ancestor-valid h =
-      let up : ℕ = levelOf k - (depth - 1) in
       let e : (depth - 1) + (levelOf k - (depth - 1)) ≡ levelOf k = omega arith in
       let bits : d * (depth - 1) + d * (levelOf k - (depth - 1)) ≡ d * levelOf k = sym (mul-add d (depth - 1) (levelOf k - (depth - 1))) ∙ ap (λ (n : ℕ). d * n) e in
       let lt : codeOf k < 2 ^ (d * (depth - 1) + d * (levelOf k - (depth - 1))) = rw bits (v .code) in

@@ -1,6 +1,6 @@
 -- The near limit: powers of an order, and the larger of two numbers.
-use mathlib.Core.Path.{_≡_, refl, sym, ap, _∙_}
-use Prim.Native.Nat.{ℕ, zero, suc, _+_, _*_, _^_, _≤_, _<_, max}
+use mathlib.Core.Path.{_≡_, sym, ap, _∙_}
+use Prim.Native.Nat.{ℕ, zero, suc, _+_, _*_, _^_, _≤_, _<_}
 use native.Mathlib.Nat.{pow-zero, pow-suc, pow-le-pow-left, max-eq-left, max-eq-right}
 use native.Mathlib.Omega.{arith}
 use Rattle.refine.specs.Refinement.{nearLimit}

@@ -1,12 +1,12 @@
 -- The codes at level 16 of one cell stand next to each other: from its first up to the next cell's first.
-use mathlib.Core.Path.{_≡_, refl, sym, ap, ap₂, _∙_}
-use mathlib.Core.Bool.{Bool, true, false, _&&_}
+use mathlib.Core.Path.{_≡_, sym, ap, ap₂, _∙_}
+use mathlib.Core.Bool.{true, _&&_}
 use mathlib.Core.List.{List}
-use Prim.Native.Nat.{ℕ, zero, suc, _+_, _*_, _-_, _/_, _%_, _^_, _≤_, _<_}
+use Prim.Native.Nat.{ℕ, _+_, _*_, _-_, _/_, _%_, _^_, _≤_}
 use native.Mathlib.Nat.{div-eq-of-lt-le, div-mul-le-self, lt-div-mul-add, add-mul, one-mul, mul-add}
 use native.Mathlib.Omega.{arith}
 use lib.Dec.{leb, ltb, eqb}
-use lib.Pow.{pow-pos, pow-lt, pow-mono, shl-exact}
+use lib.Pow.{pow-pos, pow-lt, shl-exact}
 use borrow.Author.Tests.{leb-true, ltb-true, eqb-true, le-leb, lt-ltb, eq-eqb}
 use Rattle.slices.specs.Lists.{count}
 use Rattle.slices.specs.Order.{countIn, InRange, Sorted}

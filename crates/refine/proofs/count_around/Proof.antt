@@ -9,7 +9,7 @@ use Rattle.refine.proofs.count_around.Statement.{statement}
 use Rattle.refine.proofs.count_around.Tie as tie
 
 abbrev Inv-loop : tie.InvT-loop
-Inv-loop axes key depth sources others len own sum₀ squares₀ i₀ sum squares i = Counting axes depth key sources others len sum squares i
+Inv-loop axes key depth sources others len own sum₀ squares₀ i₀ sum squares i = Counting axes depth sources key others len sum squares i
 
 abbrev μ-loop : tie.MeasureT-loop
 μ-loop axes key depth sources others len own sum₀ squares₀ i₀ sum squares i = len - i

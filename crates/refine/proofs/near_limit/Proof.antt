@@ -28,10 +28,10 @@ loop-again : tie.Need-loop-again Inv-loop μ-loop
 loop-again c = let s = c .before .before in power-more (s .args .axes) (s .args .order) (s .pre .0) (s .pre .1) _ _ (c .before .loop .inv) (c .loop-test .taken)
 
 returns : tie.Need-returns Inv-loop μ-loop
-returns c = let s = c .before .before .before in limit-larger (s .args .axes) (s .args .order) (s .pre .0) (s .pre .1) _ _ _ (c .before .before .loop .inv) (c .before .loop-test .left) (c .if1 .taken)
+returns c = let s = c .before .before .before in limit-larger (s .args .axes) (s .args .order) (s .pre .0) (s .pre .1) (s .args .limit) _ _ (c .before .before .loop .inv) (c .before .loop-test .left) (omega (arith, c .if1 .taken))
 
 returns-2 : tie.Need-returns-2 Inv-loop μ-loop
-returns-2 c = let s = c .before .before .before in power-larger (s .args .axes) (s .args .order) (s .pre .0) (s .pre .1) _ _ _ (c .before .before .loop .inv) (c .before .loop-test .left) (c .if1 .left)
+returns-2 c = let s = c .before .before .before in power-larger (s .args .axes) (s .args .order) (s .pre .0) (s .pre .1) (s .args .limit) _ _ (c .before .before .loop .inv) (c .before .loop-test .left) (omega (arith, c .if1 .left))
 
 pub near-limit-spec : {M : Type 1} → statement M
 near-limit-spec =

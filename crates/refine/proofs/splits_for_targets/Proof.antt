@@ -2,7 +2,6 @@
 use native.Mathlib.Omega.{arith}
 use denote.Ref.{now}
 use Rattle.refine.proofs.Splits.{few-held, product-fits, splits-is}
-use borrow.Author.Needs.{needs}
 use Rattle.refine.proofs.splits_for_targets.Statement.{statement}
 use Rattle.refine.proofs.splits_for_targets.Tie as tie
 
