@@ -1,0 +1,10 @@
+pub mod Values
+pub mod Blocks
+pub mod Arranged
+pub mod Counting
+pub mod Placing
+pub mod Verdict
+pub mod Climbing
+pub mod Batch
+pub mod Calls
+pub mod Leaves

@@ -1,0 +1,83 @@
+-- Document 01: lookup of a batch. The lowest failing index decides between 7 and 12; a batch reports the sum of the steps.
+use mathlib.Core.Bool.{Bool, true, false}
+use mathlib.Core.List.{List, map}
+use Prim.Native.Nat.{ℕ, _/_, _%_}
+use lib.Dec.{leb, eqb}
+use lib.Ieee.{Float}
+use lib.ListN.{length}
+use Rattle.refusal.specs.declared.Refusal.{Refusal}
+use Rattle.refusal.specs.declared.Refusal.the-variants.{Shape, Count, Room, Tree, Point, Unstored}
+use Rattle.refusal.specs.declared.Outcome.{Outcome}
+use Rattle.refusal.specs.declared.Outcome.the-variants.{Done, Refused}
+use Rattle.refusal.specs.Chain.{ask, _then_}
+use Rattle.slices.specs.Lists.{sum}
+use Rattle.space.specs.declared.Box.{Box}
+use Rattle.space.specs.declared.Rows.{Rows}
+use Rattle.space.specs.declared.Rows.the-variants.{Inside, Outside}
+use Rattle.space.specs.Domain.{boxOutcome}
+use Rattle.space.specs.Cells.{frameOf}
+use Rattle.space.specs.Rows.{insideRows, codes16}
+use Rattle.tree.specs.WellFormed.{wellFormed}
+use Rattle.lookup.specs.declared.Climbs.{Climbs}
+use Rattle.lookup.specs.declared.Climbs.the-variants.{Ended, Failed}
+use Rattle.lookup.specs.declared.LookedUp.{LookedUp}
+use Rattle.lookup.specs.declared.LookedUp.the-variants.{Found, Refused as NotFound}
+use Rattle.lookup.specs.Grouping.{mostPoints, passing}
+use Rattle.lookup.specs.Lookup.{held, leafKey, stepsTo}
+
+-- how many of the codes stand before the first that no leaf holds
+abbrev pub heldBefore : ℕ → List ℕ → List ℕ → ℕ
+heldBefore d keys codes = passing (held d keys) codes
+
+-- the key of each code's leaf, and the sum of the steps
+abbrev pub leafKeys : ℕ → List ℕ → List ℕ → List ℕ
+leafKeys d keys codes = map (leafKey d keys) codes
+
+abbrev pub stepsSum : ℕ → List ℕ → List ℕ → ℕ
+stepsSum d keys codes = sum (map (stepsTo d keys) codes)
+
+abbrev pub endedOr : Bool → ℕ → ℕ → Climbs
+endedOr true steps row = Ended steps
+endedOr false steps row = Failed row
+
+abbrev pub climbsOf : ℕ → List ℕ → List ℕ → Climbs
+climbsOf d keys codes = endedOr (eqb (heldBefore d keys codes) (length codes)) (stepsSum d keys codes) (heldBefore d keys codes)
+
+-- how many rows stand before the first that is outside
+abbrev pub insideOf : Rows → ℕ → ℕ
+insideOf Inside n = n
+insideOf (Outside row) n = row
+
+-- ---- the points of a call, one row after the other
+abbrev pub rowsOf : Box → List Float → ℕ
+rowsOf b points = length points / b .axes
+
+-- how many rows stand before the first that is outside, and their codes
+abbrev pub rowsInside : Box → List Float → ℕ
+rowsInside b points = insideRows (rowsOf b points) (frameOf b) points
+
+abbrev pub codesInside : Box → List Float → List ℕ
+codesInside b points = codes16 (rowsInside b points) (frameOf b) points
+
+-- 1 DIMS, 2 BOX, 3 SHAPE, 4 COUNT, 13 TREE, 8 ROOM
+unfoldable pub callOutcome : Box → List ℕ → List ℕ → List ℕ → List Float → ℕ → Outcome
+callOutcome b keys own begin points room =
+    boxOutcome b
+    then ask (eqb (length points % b .axes) 0) Shape
+    then ask (leb (rowsOf b points) mostPoints) Count
+    then ask (wellFormed (b .axes) keys own begin) Tree
+    then ask (leb (rowsOf b points) room) (Room 8)
+
+-- 12 UNSTORED for one before the first that is outside, else 7 POINT for that one
+unfoldable pub pointsOutcome : Box → List ℕ → List Float → Outcome
+pointsOutcome b keys points =
+    ask (eqb (heldBefore (b .axes) keys (codesInside b points)) (rowsInside b points)) (Unstored (heldBefore (b .axes) keys (codesInside b points)))
+    then ask (eqb (rowsInside b points) (rowsOf b points)) (Point (rowsInside b points))
+
+abbrev pub lookupOutcome : Box → List ℕ → List ℕ → List ℕ → List Float → ℕ → Outcome
+lookupOutcome b keys own begin points room = callOutcome b keys own begin points room then pointsOutcome b keys points
+
+-- the sum of the steps, or the refusal
+abbrev pub foundOr : Outcome → ℕ → LookedUp
+foundOr Done steps = Found steps
+foundOr (Refused r) steps = NotFound r

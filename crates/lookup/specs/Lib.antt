@@ -1,0 +1,4 @@
+pub mod Grouping
+pub mod Passes
+pub mod Lookup
+pub mod Batch
