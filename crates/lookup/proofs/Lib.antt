@@ -7,4 +7,3 @@ pub mod Verdict
 pub mod Climbing
 pub mod Batch
 pub mod Calls
-pub mod Leaves
