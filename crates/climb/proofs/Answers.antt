@@ -55,7 +55,7 @@ module _ (d code : ℕ) where
       ap (key (levelOf k)) (sym (ap₂ (λ (n x : ℕ). above d (n - levelOf k) x) l c) ∙ u .code) ∙ key-parts k
 
   module _ (keys : List ℕ) where
-    climb-le : (l : ℕ) → climbed d keys code l ≤ l
+    pub climb-le : (l : ℕ) → climbed d keys code l ≤ l
     unfolding climbed
     climb-le zero = omega arith
     climb-le (suc l) = go (leaf d keys (cellOf d (suc l) code)) (climb-le l)

@@ -18,28 +18,12 @@ use Rattle.tree.proofs.Rules.{ascend-facts}
 use Rattle.lookup.specs.declared.Climb.the-variants.{Leaf, Unstored}
 use Rattle.lookup.specs.declared.Climbs.the-variants.{Ended, Failed}
 use Rattle.lookup.specs.Grouping.{mostPoints, passing}
+use Rattle.grouping.proofs.Values.{up-more, up-next}
 use Rattle.climb.specs.Leaves.{held, leafKey, stepsTo}
 use Rattle.climb.proofs.Answers.{depth-most}
 use Rattle.lookup.specs.Lookup.{leafOr, climbTo}
 use Rattle.lookup.specs.Batch.{heldBefore, leafKeys, stepsSum, endedOr, climbsOf}
 use Rattle.lookup.proofs.Verdict.{Passed, pass-start, pass-more, pass-stop, pass-done}
-
--- ---- a column that is filled from the front
-abbrev upTo : (ℕ → ℕ) → ℕ → List ℕ → List ℕ → List ℕ
-upTo f i xs old = map f (take i xs) ++ drop i old
-
-module _ (f : ℕ → ℕ) where
-  up-more : (i : ℕ) (xs old : List ℕ) → i < length xs → length xs ≤ length old → set (upTo f i xs old) i (f (getD xs i 0)) ≡ upTo f (suc i) xs old
-  up-more i [] old h l = absurd (not-suc-le-zero h)
-  up-more i (x ∷ xs) [] h l = absurd (not-suc-le-zero l)
-  up-more zero (x ∷ xs) (y ∷ old) h l = refl
-  up-more (suc i) (x ∷ xs) (y ∷ old) h l = ap (λ (t : List ℕ). f x ∷ t) (up-more i xs old (le-of-suc-le-suc h) (le-of-suc-le-suc l))
-
-  up-next : (i : ℕ) (xs old : List ℕ) → i < length xs → length xs ≤ length old → getD (upTo f i xs old) i 0 ≡ getD old i 0
-  up-next i [] old h l = absurd (not-suc-le-zero h)
-  up-next i (x ∷ xs) [] h l = absurd (not-suc-le-zero l)
-  up-next zero (x ∷ xs) (y ∷ old) h l = refl
-  up-next (suc i) (x ∷ xs) (y ∷ old) h l = up-next i xs old (le-of-suc-le-suc h) (le-of-suc-le-suc l)
 
 -- ---- one climb
 pub depth-le : (d : ℕ) (keys : List ℕ) → keysAscend d keys ≡ true → depthOf keys ≤ 16

@@ -1,0 +1,4 @@
+pub mod Mapped
+pub mod Numbers
+pub mod Passing
+pub mod Filling
