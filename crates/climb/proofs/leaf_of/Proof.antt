@@ -41,7 +41,7 @@ enum-known-leaf : tie.Need-enum-known-leaf Inv-loop μ-loop
 enum-known-leaf c = search needs
 
 returns : tie.Need-returns Inv-loop μ-loop
-returns c = climb-found _ _ _ _ (c .before .before .before .before .before .loop .level) (c .before .before .before .before .before .loop .inv) (c .before .before .before .before .loop-test .taken) _ (c .before .before .before .leaf-with .ensures) _ (c .before .leaf .given .1)
+returns c = climb-found _ _ _ _ (c .before .before .before .before .before .loop .level) (c .before .before .before .before .before .loop .inv) (omega (arith, c .before .before .before .before .loop-test .taken)) _ (c .before .before .before .leaf-with .ensures) _ (c .before .leaf .given .1)
 
 enum-told : tie.Need-enum-told Inv-loop μ-loop
 enum-told c = search needs
@@ -53,10 +53,10 @@ loop-less : tie.Need-loop-less Inv-loop μ-loop
 loop-less c = search needs
 
 loop-again : tie.Need-loop-again Inv-loop μ-loop
-loop-again c = climb-more _ _ _ _ (c .before .before .before .before .loop .level) (c .before .before .before .before .loop .inv) (c .before .before .before .loop-test .taken) _ (c .before .before .leaf-with .ensures) (c .enum-told .given .1)
+loop-again c = climb-more _ _ _ _ (c .before .before .before .before .loop .level) (c .before .before .before .before .loop .inv) (omega (arith, c .before .before .before .loop-test .taken)) _ (c .before .before .leaf-with .ensures) (c .enum-told .given .1)
 
 returns-2 : tie.Need-returns-2 Inv-loop μ-loop
-returns-2 c = climb-none _ _ _ _ (c .before .loop .level) (c .before .loop .inv) (c .loop-test .left)
+returns-2 c = climb-none _ _ _ _ (c .before .loop .level) (c .before .loop .inv) (omega (arith, c .loop-test .left))
 
 pub leaf-of-spec : {M : Type 1} → statement M
 leaf-of-spec =
