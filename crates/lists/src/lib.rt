@@ -32,10 +32,10 @@ fn is_close(axes: usize, b: u64, k: u64) -> bool
     let level = b % 32768;
     if level < k % 32768 {
         let c = holder_of(axes, k, level);
-        return morton::anchors::touch_at_level(axes, b, c);
+        return anchors::touch_at_level(axes, b, c);
     }
     let c = holder_of(axes, b, k % 32768);
-    morton::anchors::touch_at_level(axes, c, k)
+    anchors::touch_at_level(axes, c, k)
 }
 
 // Whether a node is in the U row of a leaf: a sourced leaf that is close to it.

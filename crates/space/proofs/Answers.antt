@@ -9,7 +9,7 @@ use Rattle.refusal.specs.declared.Refusal.{Refusal}
 use Rattle.refusal.specs.declared.Outcome.the-variants.{Done, Refused}
 use Rattle.refusal.proofs.Chain.{never}
 use Rattle.morton.specs.Anchors.{keyAt}
-use Rattle.morton.proofs.Placing.{code-fits}
+use Rattle.anchors.proofs.Placing.{code-fits}
 use Rattle.space.specs.declared.Box.{Box}
 use Rattle.space.specs.declared.Frame.{Frame}
 use Rattle.space.specs.declared.Anchored.{Anchored}

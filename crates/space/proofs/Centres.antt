@@ -18,7 +18,7 @@ use Rattle.morton.specs.Keys.{levelOf, codeOf, axesKnown, valid, ValidKey}
 use Rattle.morton.specs.Anchors.{anchors}
 use Rattle.morton.specs.Answers.{keyCheck}
 use Rattle.morton.proofs.Checks.{axes-known, checked}
-use Rattle.morton.proofs.Placing.{held-at, anchor-small}
+use Rattle.anchors.proofs.Placing.{held-at, anchor-small}
 use Rattle.space.specs.declared.Box.{Box}
 use Rattle.space.specs.Floats.{sizeOf}
 use Rattle.refusal.specs.Chain.{ask}

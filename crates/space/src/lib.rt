@@ -1,5 +1,4 @@
 // The float side: the box, a point's cell in it, and the two calls on the centres of cells.
-use morton::anchors;
 use morton::keys;
 use refusal::Outcome;
 use refusal::Refusal;
