@@ -1,12 +1,12 @@
 -- `space::get_side_length` meets its contract.
 use mathlib.Core.Path.{sym, ap, _∙_}
 use Rattle.space.specs.Cells.{side}
-use Rattle.space.specs.declared.SideLength.the-variants.{Side}
-use Rattle.space.specs.Centres.{sideOr}
+use Rattle.centres.specs.declared.SideLength.the-variants.{Side}
+use Rattle.centres.specs.Centres.{sideOr}
 use Rattle.space.proofs.Refusals.{level-done}
 use borrow.Author.Needs.{needs}
-use Rattle.space.proofs.get_side_length.Statement.{statement}
-use Rattle.space.proofs.get_side_length.Tie as tie
+use Rattle.centres.proofs.get_side_length.Statement.{statement}
+use Rattle.centres.proofs.get_side_length.Tie as tie
 
 level-outcome-requires : tie.Need-level-outcome-requires
 level-outcome-requires c κs = search needs

@@ -13,14 +13,14 @@ use lib.Pow.{high}
 use Rattle.slices.proofs.Tests.{and-l, and-r}
 use Rattle.codes.proofs.Codes.{encode-split, encode-lt}
 use Rattle.morton.specs.Anchors.{encode}
 use Rattle.space.specs.declared.Box.{Box}
 use Rattle.space.specs.declared.Frame.{Frame}
 use Rattle.space.specs.declared.Place.{Place}
 use Rattle.space.specs.declared.Place.the-variants.{At, Outside}
 use Rattle.space.specs.Domain.{radiusKnown}
 use Rattle.space.specs.Cells.{displacement, frameOf, cellIn, cell16, isAt, numberAt, inside, anchors16, anchors, code16, cellAt, Nests}
-use Rattle.space.proofs.Sides.{radius, cells-nest, not-finite}
+use Rattle.points.proofs.Sides.{radius, cells-nest, not-finite}
 use Rattle.space.proofs.Points.{cell-on}
 
 -- for every box of the domain, every axis and every coordinate
 module _ (b : Box) (held : fits binary64 (b .radius) ≡ true) (known : radiusKnown (b .radius) ≡ true) where

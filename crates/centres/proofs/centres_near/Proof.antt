@@ -4,12 +4,12 @@ use Prim.Native.Nat.{_-_, _≤_}
 use native.Mathlib.Omega.{arith}
 use lib.Ieee.{binary64, add, mul, ofBits}
 use borrow.Author.Tests.{not-true, not-false}
 use Rattle.space.specs.Cells.{side}
-use Rattle.space.specs.Centres.{nearOn}
-use Rattle.space.proofs.Centres.{Axis, reach-is, near-next, near-stop, near-none}
+use Rattle.centres.specs.Centres.{nearOn}
+use Rattle.centres.proofs.Centres.{Axis, reach-is, near-next, near-stop, near-none}
 use borrow.Author.Needs.{needs}
-use Rattle.space.proofs.centres_near.Statement.{statement}
-use Rattle.space.proofs.centres_near.Tie as tie
+use Rattle.centres.proofs.centres_near.Statement.{statement}
+use Rattle.centres.proofs.centres_near.Tie as tie
 
 abbrev Inv-loop : tie.InvT-loop
 Inv-loop b first second length-a length-b length anchor-a anchor-b n₀ n = (n ≤ b .axes) × (nearOn n b first second ≡ nearOn (b .axes) b first second)

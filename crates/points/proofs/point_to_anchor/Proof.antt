@@ -6,12 +6,13 @@ use lib.ListN.{length}
 use borrow.Author.Needs.{needs}
 use borrow.Author.Tests.{not-true, not-false}
 use Rattle.refusal.specs.declared.Refusal.the-variants.{Point}
 use Rattle.space.specs.Cells.{frameOf, locatedOf}
 use Rattle.space.proofs.Points.{located-in, located-out}
-use Rattle.space.proofs.Refusals.{Fine, level-done, point-refused, point-out}
-use Rattle.space.proofs.Answers.{refused-anchors, done-anchors}
-use Rattle.space.proofs.point_to_anchor.Statement.{statement}
-use Rattle.space.proofs.point_to_anchor.Tie as tie
+use Rattle.space.proofs.Refusals.{Fine, level-done}
+use Rattle.points.proofs.Checked.{point-refused, point-out}
+use Rattle.points.proofs.Answers.{refused-anchors, done-anchors}
+use Rattle.points.proofs.point_to_anchor.Statement.{statement}
+use Rattle.points.proofs.point_to_anchor.Tie as tie
 
 level-outcome-requires : tie.Need-level-outcome-requires
 level-outcome-requires c κs = search needs

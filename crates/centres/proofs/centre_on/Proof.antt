@@ -1,11 +1,11 @@
 -- `space::centre_on` meets its contract: the operations are those of the definition.
 use mathlib.Core.Path.{ap, _∙_}
 use native.Mathlib.Omega.{arith}
 use Rattle.space.specs.Cells.{side}
-use Rattle.space.proofs.Centres.{centre-past, held-float, centre-at}
+use Rattle.centres.proofs.Centres.{centre-past, held-float, centre-at}
 use borrow.Author.Needs.{needs}
-use Rattle.space.proofs.centre_on.Statement.{statement}
-use Rattle.space.proofs.centre_on.Tie as tie
+use Rattle.centres.proofs.centre_on.Statement.{statement}
+use Rattle.centres.proofs.centre_on.Tie as tie
 
 returns : tie.Need-returns
 returns c = centre-past (c .before .before .args .b) (c .before .before .args .key) (c .before .before .args .a) (c .if1 .taken)

@@ -1,26 +1,20 @@
--- Document 01: what the calls on one point and on cells answer, and when they are refused.
+-- Document 01: what the calls on one point answer, and when they are refused.
 use mathlib.Core.List.{List, [], _∷_}
 use Prim.Native.Nat.{ℕ}
-use lib.Dec.{leb}
 use lib.Ieee.{Float}
-use Rattle.refusal.specs.declared.Refusal.the-variants.{Point, Key}
+use Rattle.refusal.specs.declared.Refusal.the-variants.{Point}
 use Rattle.refusal.specs.declared.Outcome.{Outcome}
 use Rattle.refusal.specs.declared.Outcome.the-variants.{Done, Refused}
-use Rattle.morton.specs.Keys.{deepest}
 use Rattle.morton.specs.Anchors.{keyAt}
 use Rattle.space.specs.declared.Box.{Box}
-use Rattle.space.specs.declared.Anchored.{Anchored}
-use Rattle.space.specs.declared.PointKey.{PointKey}
-use Rattle.space.specs.declared.PointKey.the-variants.{Cell, Refused as NoCell}
+use Rattle.points.specs.declared.Anchored.{Anchored}
+use Rattle.points.specs.declared.PointKey.{PointKey}
+use Rattle.points.specs.declared.PointKey.the-variants.{Cell, Refused as NoCell}
 use Rattle.refusal.specs.Chain.{ask, _then_}
-use Rattle.space.specs.Domain.{boxOutcome}
+use Rattle.space.specs.Domain.{levelOutcome}
 use Rattle.space.specs.Cells.{frameOf, inside, anchors}
 
--- 1 DIMS, 2 BOX, then 9 KEY
-abbrev pub levelOutcome : Box → ℕ → Outcome
-levelOutcome b level = boxOutcome b then ask (leb level deepest) Key
-
--- and then 7 POINT
+-- 1 DIMS, 2 BOX, 9 KEY, and then 7 POINT
 abbrev pub pointOutcome : Box → List Float → ℕ → Outcome
 pointOutcome b xs level = levelOutcome b level then ask (inside (frameOf b) xs) (Point 0)
 

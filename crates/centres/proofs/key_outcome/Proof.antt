@@ -1,9 +1,9 @@
 -- `space::key_outcome` meets its contract: the box is checked first, then the key.
 use mathlib.Core.Path.{sym, _∙_}
-use Rattle.space.proofs.Centres.{key-box-refused, key-checked}
+use Rattle.centres.proofs.Centres.{key-box-refused, key-checked}
 use borrow.Author.Needs.{needs}
-use Rattle.space.proofs.key_outcome.Statement.{statement}
-use Rattle.space.proofs.key_outcome.Tie as tie
+use Rattle.centres.proofs.key_outcome.Statement.{statement}
+use Rattle.centres.proofs.key_outcome.Tie as tie
 
 box-outcome-requires : tie.Need-box-outcome-requires
 box-outcome-requires c κs = search needs

@@ -7,12 +7,14 @@ use lib.ListN.{length}
 use lib.Pow.{shr-le}
 use borrow.Author.Needs.{needs}
 use Rattle.refusal.specs.declared.Refusal.the-variants.{Point}
 use Rattle.space.specs.Cells.{frameOf, inside, code16, placeOf}
 use Rattle.space.proofs.Points.{tables-for, placed-in, placed-out}
-use Rattle.space.proofs.Refusals.{Fine, level-done, point-refused, point-out}
-use Rattle.space.proofs.Answers.{refused-key, done-key, code-small}
-use Rattle.space.proofs.point_to_key.Statement.{statement}
-use Rattle.space.proofs.point_to_key.Tie as tie
+use Rattle.space.proofs.Refusals.{Fine, level-done}
+use Rattle.points.proofs.Checked.{point-refused, point-out}
+use Rattle.points.proofs.Answers.{refused-key, done-key}
+use Rattle.space.proofs.Points.{code-small}
+use Rattle.points.proofs.point_to_key.Statement.{statement}
+use Rattle.points.proofs.point_to_key.Tie as tie
 
 level-outcome-requires : tie.Need-level-outcome-requires
 level-outcome-requires c κs = search needs

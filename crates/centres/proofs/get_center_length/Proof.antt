@@ -3,12 +3,12 @@ use mathlib.Core.Path.{sym, ap, _∙_}
 use native.Mathlib.Omega.{arith}
 use lib.Dec.{lit<}
 use Rattle.morton.specs.Keys.{ValidKey}
 use Rattle.space.specs.Cells.{side}
-use Rattle.space.proofs.Centres.{key-done}
-use Rattle.space.proofs.Answers.{refused-centre, done-centre}
+use Rattle.centres.proofs.Centres.{key-done}
+use Rattle.centres.proofs.Answers.{refused-centre, done-centre}
 use borrow.Author.Needs.{needs}
-use Rattle.space.proofs.get_center_length.Statement.{statement}
-use Rattle.space.proofs.get_center_length.Tie as tie
+use Rattle.centres.proofs.get_center_length.Statement.{statement}
+use Rattle.centres.proofs.get_center_length.Tie as tie
 
 key-outcome-requires : tie.Need-key-outcome-requires
 key-outcome-requires c κs = search needs

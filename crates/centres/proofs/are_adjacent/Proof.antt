@@ -2,13 +2,13 @@
 use mathlib.Core.Path.{sym, ap, _∙_}
 use Rattle.morton.specs.Keys.{ValidKey}
 use Rattle.morton.proofs.Checks.{checked}
-use Rattle.space.specs.declared.Adjacent.the-variants.{Is}
-use Rattle.space.specs.Centres.{isOr, nearOn}
+use Rattle.centres.specs.declared.Adjacent.the-variants.{Is}
+use Rattle.centres.specs.Centres.{isOr, nearOn}
 use Rattle.space.proofs.Refusals.{Fine}
-use Rattle.space.proofs.Centres.{key-done, keys-refused, keys-checked}
+use Rattle.centres.proofs.Centres.{key-done, keys-refused, keys-checked}
 use borrow.Author.Needs.{needs}
-use Rattle.space.proofs.are_adjacent.Statement.{statement}
-use Rattle.space.proofs.are_adjacent.Tie as tie
+use Rattle.centres.proofs.are_adjacent.Statement.{statement}
+use Rattle.centres.proofs.are_adjacent.Tie as tie
 
 key-outcome-requires : tie.Need-key-outcome-requires
 key-outcome-requires c κs = search needs

@@ -3,24 +3,21 @@ use mathlib.Core.Path.{_≡_, refl, sym, ap, ap₂, _∙_, subst}
 use mathlib.Core.Bool.{true}
 use mathlib.Core.List.{List, [], _∷_}
 use Prim.Native.Nat.{ℕ, _+_, _-_, _*_, _/_, _^_, _≤_, _<_}
-use lib.Ieee.{Float, binary64, fits, ofBits}
+use lib.Ieee.{Float, binary64, fits}
 use lib.ListN.{getD}
 use Rattle.refusal.specs.declared.Refusal.{Refusal}
 use Rattle.refusal.specs.declared.Outcome.the-variants.{Done, Refused}
 use Rattle.refusal.proofs.Chain.{never}
 use Rattle.morton.specs.Anchors.{keyAt}
-use Rattle.anchors.proofs.Placing.{code-fits}
 use Rattle.space.specs.declared.Box.{Box}
-use Rattle.space.specs.declared.Frame.{Frame}
-use Rattle.space.specs.declared.Anchored.{Anchored}
-use Rattle.space.specs.declared.PointKey.the-variants.{Cell, Refused as NoCell}
-use Rattle.space.specs.Cells.{side, frameOf, inside, anchors16, anchors, code16, Nests}
-use Rattle.morton.specs.Keys.{levelOf, codeOf}
-use Rattle.space.specs.Centres.{keyOutcome, centreOn, centreOr, centreLength}
-use Rattle.space.proofs.Literals.{zero-is}
-use Rattle.space.specs.Calls.{levelOutcome, pointOutcome, anchorsOr, pointToAnchor, cellOr, pointToKey}
-use Rattle.space.proofs.Refusals.{Fine, point-in}
-use Rattle.space.proofs.Nesting.{nests, code-above}
+use Rattle.points.specs.declared.Anchored.{Anchored}
+use Rattle.points.specs.declared.PointKey.the-variants.{Cell, Refused as NoCell}
+use Rattle.space.specs.Cells.{frameOf, inside, anchors16, anchors, code16, Nests}
+use Rattle.space.specs.Domain.{levelOutcome}
+use Rattle.points.specs.Calls.{pointOutcome, anchorsOr, pointToAnchor, cellOr, pointToKey}
+use Rattle.space.proofs.Refusals.{Fine}
+use Rattle.points.proofs.Checked.{point-in}
+use Rattle.points.proofs.Nesting.{nests, code-above}
 
 module _ (b : Box) (xs : List Float) (level : ℕ) where
   pub refused-anchors : (x : Refusal) (r : Anchored) (P : Type 0) → r ≡ anchorsOr (Refused x) [] → Refused x ≡ pointOutcome b xs level
@@ -51,28 +48,3 @@ module _ (b : Box) (xs : List Float) (level : ℕ) where
   done-key code small done i e =
       ap (λ k. Cell (k * 32768 + level)) (ap (λ k. k / 2 ^ (b .axes * (16 - level))) e ∙ code-above (frameOf b) xs level small)
       ∙ ap (λ o. cellOr o (keyAt (b .axes) level (anchors (frameOf b) xs level))) (point-in b xs level done i)
-
--- a level-16 code has at most 48 bits
-pub code-small : (f : Frame) (xs : List Float) → f .axes ≤ 3 → code16 f xs < 281474976710656
-unfolding code16
-code-small f xs h = code-fits (f .axes) 16 (anchors16 f xs) h (native.Mathlib.Nat.le-of-eq refl)
-
--- ---- a cell's centre
-module _ (b : Box) (k : ℕ) where
-  abbrev centre : List Float
-  centre = centreOn b (levelOf k) (codeOf k) 0 ∷ centreOn b (levelOf k) (codeOf k) 1 ∷ centreOn b (levelOf k) (codeOf k) 2 ∷ []
-
-  abbrev zero-bits : Float
-  zero-bits = ofBits binary64 0
-
-  pub refused-centre : (r : Refusal) → Refused r ≡ keyOutcome b k
-      → record { outcome = Refused r; centre = zero-bits ∷ zero-bits ∷ zero-bits ∷ []; length = zero-bits } ≡ centreLength b k
-  refused-centre r h =
-      ap (λ x. record { outcome = Refused r; centre = x ∷ x ∷ x ∷ []; length = x }) zero-is ∙ ap (λ o. centreOr o centre (side (b .radius) (levelOf k))) h
-
-  pub done-centre : (x y z l : Float) → Done ≡ keyOutcome b k
-      → x ≡ centreOn b (levelOf k) (codeOf k) 0 → y ≡ centreOn b (levelOf k) (codeOf k) 1 → z ≡ centreOn b (levelOf k) (codeOf k) 2 → l ≡ side (b .radius) (levelOf k)
-      → record { outcome = Done; centre = x ∷ y ∷ z ∷ []; length = l } ≡ centreLength b k
-  done-centre x y z l h e f g s =
-      ap₂ (λ c l. record { outcome = Done; centre = c; length = l }) (ap₂ (λ x y. x ∷ y ∷ z ∷ []) e f ∙ ap (λ z. centreOn b (levelOf k) (codeOf k) 0 ∷ centreOn b (levelOf k) (codeOf k) 1 ∷ z ∷ []) g) s
-      ∙ ap (λ o. centreOr o centre (side (b .radius) (levelOf k))) h

@@ -11,17 +11,16 @@ use Rattle.refusal.specs.declared.Outcome.the-variants.{Done, Refused}
 use Rattle.slices.specs.Every.{every}
 use Rattle.morton.specs.Keys.{levelOf, codeOf, valid}
 use Rattle.morton.specs.Anchors.{anchor}
 use Rattle.space.specs.declared.Box.{Box}
-use Rattle.space.specs.declared.SideLength.{SideLength}
-use Rattle.space.specs.declared.SideLength.the-variants.{Side, Refused as NoSide}
-use Rattle.space.specs.declared.Centred.{Centred}
-use Rattle.space.specs.declared.Adjacent.{Adjacent}
-use Rattle.space.specs.declared.Adjacent.the-variants.{Is, Refused as NoAnswer}
+use Rattle.centres.specs.declared.SideLength.{SideLength}
+use Rattle.centres.specs.declared.SideLength.the-variants.{Side, Refused as NoSide}
+use Rattle.centres.specs.declared.Centred.{Centred}
+use Rattle.centres.specs.declared.Adjacent.{Adjacent}
+use Rattle.centres.specs.declared.Adjacent.the-variants.{Is, Refused as NoAnswer}
 use Rattle.space.specs.Floats.{sizeOf}
 use Rattle.refusal.specs.Chain.{ask, _then_}
-use Rattle.space.specs.Domain.{boxOutcome}
+use Rattle.space.specs.Domain.{boxOutcome, levelOutcome}
 use Rattle.space.specs.Cells.{onAxis, displacement, side}
-use Rattle.space.specs.Calls.{levelOutcome}
 
 -- 1 DIMS, 2 BOX, then 9 KEY
 abbrev pub keyOutcome : Box → ℕ → Outcome

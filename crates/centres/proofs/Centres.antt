@@ -19,16 +19,17 @@ use Rattle.morton.specs.Anchors.{anchors}
 use Rattle.morton.specs.Answers.{keyCheck}
 use Rattle.morton.proofs.Checks.{axes-known, checked}
 use Rattle.anchors.proofs.Placing.{held-at, anchor-small}
 use Rattle.space.specs.declared.Box.{Box}
 use Rattle.space.specs.Floats.{sizeOf}
 use Rattle.refusal.specs.Chain.{ask}
 use Rattle.refusal.proofs.Chain.{both-done, after-done, after-refused}
 use Rattle.space.specs.Domain.{boxOutcome}
 use Rattle.space.specs.Cells.{displacement, side}
-use Rattle.space.specs.Centres.{keyOutcome, keysOutcome, half, tolerance, centreOn, reach, nearAt, nearOn}
-use Rattle.space.proofs.Literals.{zero-is, half-is, tolerance-is}
+use Rattle.centres.specs.Centres.{keyOutcome, keysOutcome, half, tolerance, centreOn, reach, nearAt, nearOn}
+use Rattle.space.proofs.Literals.{zero-is}
+use Rattle.centres.proofs.Literals.{half-is, tolerance-is}
 use Rattle.space.proofs.Patterns.{le→leb}
 use Rattle.space.proofs.Refusals.{Fine, fine}
 
 -- a centre on axis a, by an array of anchors
 module _ (b : Box) (key a : ℕ) where
