@@ -113,6 +113,11 @@ def check_rows(path, nodes, by_key):
         for key in node.near + node.far:
             if key not in by_key:
                 raise Refused("%s: line %d: key %d in a row is not listed as a node" % (path, i + 2, key))
+        if node.near and not node.is_leaf:
+            raise Refused("%s: line %d: a U row, but node %d is no leaf" % (path, i + 2, node.number))
+        for key in node.near:
+            if not by_key[key].is_leaf:
+                raise Refused("%s: line %d: key %d in the U row is no leaf" % (path, i + 2, key))
 
 
 def source_keys(survey, survey_name):

@@ -10,7 +10,7 @@ PLOT, LEFT, TOP, ROW = 640, 112, 84, 38
 LEGEND = LEFT + PLOT + 34
 PAGE_WIDTH = LEGEND + 400
 
-# Orange against blues of different lightness: told apart with any kind of colour blindness, and in grey
+# Orange and yellow against blues of different lightness, which the usual kinds of colour blindness leave apart
 UNSTORED, PLAIN, LINE = "url(#hatch)", "#ffffff", "#8c8c8c"
 CHOSEN, NEAR, FAULT = "#f0e442", "#e69f00", "#cc0066"
 FAR_DARK, FAR_LIGHT = (0x2b, 0x6c, 0xb0), (0xb9, 0xd6, 0xf0)
@@ -141,8 +141,8 @@ def up_tick(place, text):
             words(LEFT - 10, TOP + PLOT - place + 4, text, 12, text_anchor="end")]
 
 
-def swatch(colour, stroke_width=1.2):
-    return lambda spot: box((spot[0] - 12, spot[1] - 8, 24, 16), fill=colour, stroke="#333333", stroke_width=stroke_width)
+def swatch(colour, line=1.2):
+    return lambda spot: box((spot[0] - 12, spot[1] - 8, 24, 16), fill=colour, stroke="#333333", stroke_width=line)
 
 
 def sample_mark(kind):

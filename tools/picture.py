@@ -119,7 +119,8 @@ class Picture:
         x, y, width, height = rect
         if max(width, height) >= 10:
             return []
-        return [tag("circle", cx=x + width / 2, cy=y + height / 2, r=13, fill="none", stroke="#000000", stroke_width=3.5)]
+        middle = {"cx": x + width / 2, "cy": y + height / 2}
+        return [tag("circle", **middle, r=13, fill="none", stroke="#000000", stroke_width=3.5)]
 
     def points(self):
         shapes = [mark("target", self.view.spot(row)) for row in self.targets]
@@ -134,7 +135,7 @@ class Picture:
         leaf = self.listing.leaf_at(key) if key is not None else None
         return leaf is not None and self.view.rect(leaf.key) is not None
 
-    # The legend: entries of a sample and one or two lines of text
+    # The legend: entries of a sample and lines of text
 
     def legend(self):
         """The legend's shapes and its height."""
@@ -179,7 +180,8 @@ class Picture:
 
     def ground_entries(self):
         shown = [node for node in self.listing.nodes if self.view.shows(node) and self.view.rect(node.key)]
-        listed = {key for _, row in self.far for key in row} | set(self.leaf.near + [self.leaf.key] if self.leaf else [])
+        listed = {key for _, row in self.far for key in row}
+        listed |= set(self.leaf.near + [self.leaf.key] if self.leaf else [])
         entries = []
         if any(listed.isdisjoint(house.ancestors(self.listing.axes, node.key)) for node in shown):
             entries.append((swatch(PLAIN), ["cell in none of these lists" if self.leaf else "cell"]))
@@ -190,7 +192,7 @@ class Picture:
 
     def mark_entries(self):
         names = {"single": "reading summed singly" if self.leaf else "reading", "grouped": "reading in a group",
-                 "fault": "reading met not at all or twice: FAULT"}
+                 "fault": "reading in no list or in several: FAULT"}
         here = Counter(self.kinds[i] for i in self.shown)
         entries = [(sample_mark(kind), ["%s: %d%s" % (name, self.marks[kind], self.in_slice(here[kind]))])
                    for kind, name in names.items() if self.marks[kind]]
