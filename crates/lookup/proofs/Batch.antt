@@ -12,15 +12,15 @@ use lib.Seq.{drop-cons, getD-take, take-all}
 use borrow.Author.Tests.{eq-eqb, ne-eqb}
 use Rattle.slices.specs.Lists.{sum}
 use Rattle.slices.proofs.Tests.{clash}
-use Rattle.morton.specs.Keys.{levelOf}
 use Rattle.tree.specs.Nodes.{depthOf}
 use Rattle.tree.specs.WellFormed.{keysAscend}
 use Rattle.tree.proofs.Rules.{ascend-facts}
-use Rattle.tree.proofs.Stored.{level-le}
 use Rattle.lookup.specs.declared.Climb.the-variants.{Leaf, Unstored}
 use Rattle.lookup.specs.declared.Climbs.the-variants.{Ended, Failed}
 use Rattle.lookup.specs.Grouping.{mostPoints, passing}
-use Rattle.lookup.specs.Lookup.{held, leafKey, stepsTo, leafOr, climbFrom}
+use Rattle.climb.specs.Leaves.{held, leafKey, stepsTo}
+use Rattle.climb.proofs.Answers.{depth-most}
+use Rattle.lookup.specs.Lookup.{leafOr, climbTo}
 use Rattle.lookup.specs.Batch.{heldBefore, leafKeys, stepsSum, endedOr, climbsOf}
 use Rattle.lookup.proofs.Verdict.{Passed, pass-start, pass-more, pass-stop, pass-done}
 
@@ -42,11 +42,11 @@ module _ (f : ℕ → ℕ) where
   up-next (suc i) (x ∷ xs) (y ∷ old) h l = up-next i xs old (le-of-suc-le-suc h) (le-of-suc-le-suc l)
 
 -- ---- one climb
-pub depth-le : (d : ℕ) (keys : List ℕ) → keysAscend d keys ≡ true → 0 < length keys → depthOf keys ≤ 16
-depth-le d keys a l = omega (arith, level-le d keys (ascend-facts d keys a) (getD keys (length keys - 1) 0) (length keys - 1, omega arith, refl))
+pub depth-le : (d : ℕ) (keys : List ℕ) → keysAscend d keys ≡ true → depthOf keys ≤ 16
+depth-le d keys a = depth-most d keys (ascend-facts d keys a)
 
 module _ (d : ℕ) (keys : List ℕ) (code : ℕ) where
-  pub climb-leaf : (k s : ℕ) → climbFrom d keys (depthOf keys) code ≡ Leaf k s → (held d keys code ≡ true) × (k ≡ leafKey d keys code) × (s ≡ stepsTo d keys code)
+  pub climb-leaf : (k s : ℕ) → climbTo d keys (depthOf keys) code ≡ Leaf k s → (held d keys code ≡ true) × (k ≡ leafKey d keys code) × (s ≡ stepsTo d keys code)
   climb-leaf k s h = go (held d keys code) refl h
     where
       go : (t : Bool) → held d keys code ≡ t → leafOr t (leafKey d keys code) (stepsTo d keys code) ≡ Leaf k s
@@ -54,7 +54,7 @@ module _ (d : ℕ) (keys : List ℕ) (code : ℕ) where
       go true e g = (e, (cc), (cc))
       go false e g = let z : _≡_ {A = ℕ} 0 1 = cc in absurd (omega arith)
 
-  pub climb-not : climbFrom d keys (depthOf keys) code ≡ Unstored → held d keys code ≡ false
+  pub climb-not : climbTo d keys (depthOf keys) code ≡ Unstored → held d keys code ≡ false
   climb-not h = go (held d keys code) refl h
     where
       go : (t : Bool) → held d keys code ≡ t → leafOr t (leafKey d keys code) (stepsTo d keys code) ≡ Unstored → held d keys code ≡ false

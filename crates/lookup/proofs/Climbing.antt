@@ -1,56 +1,38 @@
--- The climb, level by level.
-use mathlib.Core.Path.{_≡_, refl, sym, ap, ap₂, _∙_}
-use mathlib.Core.Bool.{Bool, true, false, cond}
+-- A climb's end, as the leaf's key and the steps.
+use mathlib.Core.Path.{_≡_, sym, ap, ap₂, _∙_}
+use mathlib.Core.Bool.{Bool, true, false}
 use mathlib.Core.List.{List}
-use Prim.Native.Nat.{ℕ, zero, suc, _+_, _*_, _-_, _/_, _%_, _^_, _≤_, _<_, max}
-use native.Mathlib.Omega.{arith}
-use native.Mathlib.Nat.{mul-le-mul, lt-of-le-of-lt}
+use Prim.Native.Nat.{ℕ, _-_, _≤_, _<_}
 use lib.Dec.{ltb}
-use lib.Pow.{shr-le}
-use borrow.Author.Tests.{lt-ltb, le-ltb}
-use Rattle.tree.specs.Nodes.{leaf}
-use Rattle.lookup.specs.Lookup.{cellOf, climbed, leafOr, climbFrom}
+use lib.ListN.{length, getD}
+use borrow.Author.Tests.{lt-ltb}
+use Rattle.morton.specs.Keys.{levelOf}
+use Rattle.tree.specs.Nodes.{leaf, placeOf}
+use Rattle.tree.specs.declared.Found.{Found}
+use Rattle.tree.specs.declared.Found.the-variants.{At, Nothing}
+use Rattle.climb.specs.Leaves.{cellOf, climbed, leafWith, climbFrom}
+use Rattle.climb.proofs.Climbing.{found-if, nothing-if}
+use Rattle.climb.proofs.Answers.{Ended, climb-end}
+use Rattle.lookup.specs.Lookup.{leafOr, climbTo}
 use Rattle.lookup.specs.declared.Climb.the-variants.{Leaf, Unstored}
 
--- no leaf from level `top` down to level l
-pub record Climbing (d : ℕ) (keys : List ℕ) (code top l : ℕ) : Type 0 where
-  pub within : l ≤ top
-  pub same : climbed d keys code top ≡ climbed d keys code l
+module _ (d : ℕ) (keys : List ℕ) (k : ℕ) (r : Found) (q : r ≡ leafWith d keys k) where
+  pub is-leaf : (node : ℕ) → r ≡ At node → true ≡ leaf d keys k
+  is-leaf node e = sym (found-if (leaf d keys k) (placeOf keys k) node (sym q ∙ e) .0)
 
-module _ (d : ℕ) (keys : List ℕ) (code top : ℕ) where
-  pub climb-start : Climbing d keys code top top
-  climb-start = record { within = omega arith; same = refl }
+  pub no-leaf : r ≡ Nothing → false ≡ leaf d keys k
+  no-leaf e = sym (nothing-if (leaf d keys k) (placeOf keys k) (sym q ∙ e))
 
-  module _ (l : ℕ) (c : Climbing d keys code top l) (some : 0 < l) where
-    step : climbed d keys code l ≡ cond (leaf d keys (cellOf d l code)) l (climbed d keys code (l - 1))
-    unfolding climbed
-    step = let e : l ≡ suc (l - 1) = omega arith in
-        ap (climbed d keys code) e ∙ sym (ap (λ (n : ℕ). cond (leaf d keys (cellOf d n code)) n (climbed d keys code (l - 1))) e)
+module _ (d : ℕ) (keys : List ℕ) (top code : ℕ) (r : Found) (q : r ≡ climbFrom d keys top code) where
+  pub climb-ended : (node : ℕ) → top ≤ 16 → r ≡ At node → Ended d keys top code node
+  climb-ended node m e = climb-end d keys top code node m (sym q ∙ e)
 
-    pub climb-more : leaf d keys (cellOf d l code) ≡ false → Climbing d keys code top (l - 1)
-    climb-more f = record { within = omega (arith, c .within); same = c .same ∙ step ∙ ap (λ b. cond b l (climbed d keys code (l - 1))) f }
+  pub climb-key : (node : ℕ) → Ended d keys top code node → Leaf (getD keys node 0) (top - levelOf (getD keys node 0)) ≡ climbTo d keys top code
+  climb-key node s =
+      ap₂ Leaf (s .key-is) (ap (top -_) (s .level-is))
+      ∙ sym (ap (λ b. leafOr b (cellOf d (climbed d keys code top) code) (top - climbed d keys code top)) (lt-ltb 0 (climbed d keys code top) (s .some)))
 
-    pub climb-found : leaf d keys (cellOf d l code) ≡ true → Leaf (cellOf d l code) (top - l) ≡ climbFrom d keys top code
-    climb-found t =
-        let e : climbed d keys code top ≡ l = c .same ∙ step ∙ ap (λ b. cond b l (climbed d keys code (l - 1))) t in
-        sym (ap (λ (n : ℕ). leafOr (ltb 0 n) (cellOf d n code) (top - n)) e ∙ ap (λ b. leafOr b (cellOf d l code) (top - l)) (lt-ltb 0 l some))
-
-  pub climb-none : (l : ℕ) → Climbing d keys code top l → l ≤ 0 → Unstored ≡ climbFrom d keys top code
-  unfolding climbed
-  climb-none l c z =
-      let n : l ≡ 0 = omega arith in
-      let e : climbed d keys code top ≡ 0 = c .same ∙ ap (climbed d keys code) n in
-      sym (ap (λ (n : ℕ). leafOr (ltb 0 n) (cellOf d n code) (top - n)) e ∙ ap (λ b. leafOr b (cellOf d 0 code) (top - 0)) (le-ltb 0 0 (omega arith)))
-
--- what the shifts need
-pub above-few : (d l : ℕ) → d ≤ 3 → d * (16 - l) ≤ 48
-above-few d l h = let s : 16 - l ≤ 16 = omega arith in mul-le-mul h s
-
-pub above-small : (code n : ℕ) → code < 281474976710656 → code / 2 ^ n < 281474976710656
-above-small code n h = lt-of-le-of-lt (shr-le code n) h
-
-pub depth-one : (x : ℕ) → x < 1 → 1 ≡ max 1 x
-depth-one x h = omega arith
-
-pub depth-last : (x : ℕ) → 1 ≤ x → x ≡ max 1 x
-depth-last x h = omega arith
+  pub climb-nowhere : r ≡ Nothing → Unstored ≡ climbTo d keys top code
+  climb-nowhere e =
+      let f = nothing-if (ltb 0 (climbed d keys code top)) (placeOf keys (cellOf d (climbed d keys code top) code)) (sym q ∙ e) in
+      sym (ap (λ b. leafOr b (cellOf d (climbed d keys code top) code) (top - climbed d keys code top)) f)

@@ -1,10 +1,5 @@
-pub mod Values
-pub mod Blocks
-pub mod Arranged
-pub mod Counting
-pub mod Placing
 pub mod Verdict
+pub mod Starts
 pub mod Climbing
 pub mod Batch
 pub mod Calls
-pub mod Leaves

@@ -1,4 +1,3 @@
 pub mod Grouping
-pub mod Passes
 pub mod Lookup
 pub mod Batch

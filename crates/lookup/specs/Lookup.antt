@@ -1,42 +1,16 @@
--- Document 01, "Lists, lookup, sourced cells": lookup starts at the depth and climbs to a leaf, whose key it answers.
--- A point inside the box is its level-16 code.
-use mathlib.Core.Bool.{Bool, true, false, cond}
+-- Document 01, "Lists, lookup, sourced cells": lookup answers the key of the leaf that holds a point, and the steps to it.
+use mathlib.Core.Bool.{Bool, true, false}
 use mathlib.Core.List.{List}
-use Prim.Native.Nat.{ℕ, zero, suc, _-_}
+use Prim.Native.Nat.{ℕ, _-_}
 use lib.Dec.{ltb}
-use Rattle.morton.specs.Keys.{deepest, key, above}
-use Rattle.tree.specs.Nodes.{leaf, depthOf}
+use Rattle.climb.specs.Leaves.{cellOf, climbed}
 use Rattle.lookup.specs.declared.Climb.{Climb}
 use Rattle.lookup.specs.declared.Climb.the-variants.{Leaf, Unstored}
-
--- the cell at level l that holds the code
-abbrev pub cellOf : ℕ → ℕ → ℕ → ℕ
-cellOf d l code = key l (above d (deepest - l) code)
-
--- the level of the first leaf on the way up from level l; 0, the level of the root, which is no leaf, where there is none
-unfoldable pub climbed : ℕ → List ℕ → ℕ → ℕ → ℕ
-climbed d keys code zero = 0
-climbed d keys code (suc l) = cond (leaf d keys (cellOf d (suc l) code)) (suc l) (climbed d keys code l)
-
-abbrev pub leafLevel : ℕ → List ℕ → ℕ → ℕ
-leafLevel d keys code = climbed d keys code (depthOf keys)
-
--- a leaf holds the code
-abbrev pub held : ℕ → List ℕ → ℕ → Bool
-held d keys code = ltb 0 (leafLevel d keys code)
-
--- that leaf's key
-abbrev pub leafKey : ℕ → List ℕ → ℕ → ℕ
-leafKey d keys code = cellOf d (leafLevel d keys code) code
-
--- the steps: the depth less the leaf's level
-abbrev pub stepsTo : ℕ → List ℕ → ℕ → ℕ
-stepsTo d keys code = depthOf keys - leafLevel d keys code
 
 abbrev pub leafOr : Bool → ℕ → ℕ → Climb
 leafOr true k steps = Leaf k steps
 leafOr false k steps = Unstored
 
--- a climb from level `top`
-abbrev pub climbFrom : ℕ → List ℕ → ℕ → ℕ → Climb
-climbFrom d keys top code = leafOr (ltb 0 (climbed d keys code top)) (cellOf d (climbed d keys code top) code) (top - climbed d keys code top)
+-- the end of a climb from level `top`: the leaf's key, and the levels climbed
+abbrev pub climbTo : ℕ → List ℕ → ℕ → ℕ → Climb
+climbTo d keys top code = leafOr (ltb 0 (climbed d keys code top)) (cellOf d (climbed d keys code top) code) (top - climbed d keys code top)

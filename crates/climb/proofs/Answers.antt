@@ -1,4 +1,4 @@
--- Lookup answers the only leaf of the tree that holds the code, after at most 15 steps.
+-- A climb from the depth ends at the only leaf of the tree that holds the code, after at most 15 steps.
 use mathlib.Core.Path.{_≡_, refl, sym, ap, ap₂, subst, _∙_}
 use mathlib.Core.Bool.{Bool, true, false, _&&_, not, cond}
 use mathlib.Core.List.{List, [], _∷_}
@@ -9,18 +9,19 @@ use native.Mathlib.Nat.{mul-zero, mul-add, not-suc-le-zero}
 use lib.Dec.{leb, ltb, eqb}
 use lib.ListN.{length, getD}
 use lib.Pow.{shr-shr}
-use borrow.Author.Tests.{lt-ltb, ltb-true, eq-eqb, not-true}
+use borrow.Author.Tests.{lt-ltb, ltb-true, eq-eqb, ne-eqb, eqb-true, not-true}
 use Rattle.slices.specs.Lists.{any, Mem}
-use Rattle.slices.proofs.Tests.{and-l, and-r, clash, refute, lt-or-le}
-use Rattle.morton.specs.Keys.{key, levelOf, codeOf, above, under}
-use Rattle.morton.proofs.Cells.{above-zero, key-parts, key-level, key-code}
-use Rattle.tree.specs.Nodes.{stored, childOf, leaf, depthOf}
-use Rattle.tree.specs.WellFormed.{wellFormed}
-use Rattle.tree.proofs.Rules.{WellFormed, facts}
-use Rattle.tree.proofs.Stored.{stored-mem, earlier-at, code-lt, level-le, leaf-under}
+use Rattle.slices.proofs.Tests.{and-l, and-r, both, clash, refute, lt-or-le}
+use Rattle.slices.proofs.Counts.{any-elim}
+use Rattle.morton.specs.Keys.{key, levelOf, codeOf, above, parent, under}
+use Rattle.morton.proofs.Cells.{above-zero, key-parts, key-level, key-code, level-parent}
+use Rattle.tree.specs.Nodes.{placeOf, stored, childOf, leaf, depthOf}
+use Rattle.tree.proofs.Rules.{Ascending}
+use Rattle.tree.proofs.Stored.{stored-mem, mem-stored, earlier-at, code-lt, level-le, leaf-under}
 use Rattle.tree.proofs.Sourced.{Under, under-facts, facts-under}
-use Rattle.lookup.specs.Lookup.{cellOf, climbed, leafLevel, held, leafKey, stepsTo}
-use Rattle.lookup.proofs.Verdict.{leaf-stored}
+use Rattle.tree.specs.declared.Found.the-variants.{At}
+use Rattle.climb.specs.Leaves.{cellOf, climbed, leafLevel, held, leafKey, stepsTo, climbFrom}
+use Rattle.climb.proofs.Climbing.{place-stored, leaf-stored, found-if}
 
 -- cell k holds the code
 abbrev pub holds : ℕ → ℕ → ℕ → Bool
@@ -73,21 +74,59 @@ module _ (d code : ℕ) where
         go true e h rest = e
         go false e h rest = rest h
 
-module _ (d : ℕ) (keys own begin : List ℕ) (form : wellFormed d keys own begin ≡ true) (code : ℕ) where
-  w : WellFormed d keys own begin
-  w = facts d keys own begin form
+-- a climb that ended at a node: it is the leaf of the code
+pub record Ended (d : ℕ) (keys : List ℕ) (top code node : ℕ) : Type 0 where
+  pub some : 0 < climbed d keys code top
+  pub number : node < length keys
+  pub key-is : getD keys node 0 ≡ cellOf d (climbed d keys code top) code
+  pub level-is : levelOf (getD keys node 0) ≡ climbed d keys code top
+  pub within : climbed d keys code top ≤ top
 
+pub climb-end : (d : ℕ) (keys : List ℕ) (top code node : ℕ) → top ≤ 16 → climbFrom d keys top code ≡ At node → Ended d keys top code node
+climb-end d keys top code node m h =
+    let l = climbed d keys code top in
+    let f = found-if (ltb 0 l) (placeOf keys (cellOf d l code)) node h in
+    let some = ltb-true 0 l (f .0) in
+    let within = climb-le d code keys top in
+    let s = place-stored keys (cellOf d l code) (leaf-stored d keys (cellOf d l code) (climb-leaf d code keys top some)) in
+    let is = ap (λ (n : ℕ). getD keys n 0) (f .1) ∙ s .1 in
+    record {
+      some = some;
+      number = omega (arith, f .1, s .0);
+      key-is = is;
+      level-is = ap levelOf is ∙ key-level l (above d (16 - l) code) (omega arith);
+      within = within;
+    }
+
+pub depth-most : (d : ℕ) (keys : List ℕ) → Ascending d keys → depthOf keys ≤ 16
+depth-most d [] asc = omega arith
+depth-most d (x ∷ xs) asc =
+    let last = length (x ∷ xs) - 1 in
+    omega (arith, level-le d (x ∷ xs) asc (getD (x ∷ xs) last 0) (last, omega arith, refl))
+
+module _ (d : ℕ) (keys : List ℕ) (asc : Ascending d keys) where
   level-depth : (k : ℕ) → Mem k keys → levelOf k ≤ depthOf keys
   level-depth k m = go (lt-or-le (m .0) (length keys - 1))
     where
       go : (m .0 < length keys - 1) ⊎ (length keys - 1 ≤ m .0) → levelOf k ≤ depthOf keys
-      go (inl l) = omega (arith, earlier-at d keys (w .ascending) (m .0) (length keys - 1) l (omega (arith, m .1)) .0, ap levelOf (m .2))
+      go (inl l) = omega (arith, earlier-at d keys asc (m .0) (length keys - 1) l (omega (arith, m .1)) .0, ap levelOf (m .2))
       go (inr l) =
           let e : m .0 ≡ length keys - 1 = omega (arith, m .1) in
           omega (arith, ap levelOf (sym (m .2)), ap (λ (i : ℕ). levelOf (getD keys i 0)) e)
 
-  depth-most : depthOf keys ≤ 16
-  depth-most = omega (arith, level-le d keys (w .ascending) (getD keys (length keys - 1) 0) (length keys - 1, omega (arith, w .some), refl))
+  -- below the root, a node of the last level is a leaf
+  pub last-leaf : (i : ℕ) → i < length keys → 0 < levelOf (getD keys i 0) → levelOf (getD keys (length keys - 1) 0) ≤ levelOf (getD keys i 0) → leaf d keys (getD keys i 0) ≡ true
+  unfolding leaf
+  last-leaf i l p h = both (mem-stored keys k (i, l, refl)) (both (ap not (ne-eqb k 0 (λ e. omega (arith, ap levelOf e)))) (ap not (refute none)))
+    where
+      k : ℕ
+      k = getD keys i 0
+
+      none : any (childOf d k) keys ≡ true → ⊥
+      none a =
+          let (x, m, c) = any-elim (childOf d k) keys a in
+          let e = ap levelOf (eqb-true (parent d x) k (and-r (ltb 0 (levelOf x)) _ c)) in
+          omega (arith, ltb-true 0 (levelOf x) (and-l _ _ c), sym (level-parent d x) ∙ e, level-depth x m)
 
   -- a leaf is below the root
   leaf-below : (k : ℕ) → leaf d keys k ≡ true → 0 < levelOf k
@@ -101,10 +140,11 @@ module _ (d : ℕ) (keys own begin : List ℕ) (form : wellFormed d keys own beg
       go (inl l) = l
       go (inr z) =
           let e : levelOf k ≡ 0 = omega arith in
-          let c = code-lt d keys (w .ascending) k (stored-mem keys k (leaf-stored d keys k h)) in
+          let c = code-lt d keys asc k (stored-mem keys k (leaf-stored d keys k h)) in
           let n : codeOf k < 1 = subst (λ (x : ℕ). codeOf k < 2 ^ x) (ap (d *_) e ∙ mul-zero d) c in
           absurd (clash (eq-eqb k 0 (omega (arith, key-parts k))) some)
 
+module _ (d : ℕ) (keys : List ℕ) (asc : Ascending d keys) (parents : (i : ℕ) → 0 < i → i < length keys → stored keys (parent d (getD keys i 0)) ≡ true) (code : ℕ) where
   -- no other cell on the way up is a leaf
   climb-only : (k : ℕ) → leaf d keys k ≡ true → cellOf d (levelOf k) code ≡ k → (top : ℕ) → top ≤ 16 → levelOf k ≤ top → climbed d keys code top ≡ levelOf k
   unfolding climbed
@@ -115,7 +155,7 @@ module _ (d : ℕ) (keys own begin : List ℕ) (form : wellFormed d keys own beg
       higher l t =
           let s = cellOf d (suc top) code in
           let u : under d k s ≡ true = subst (λ (x : ℕ). under d x s ≡ true) at (cell-under d code (levelOf k) (suc top) h m) in
-          let e = leaf-under d keys (w .ascending) (w .parents) k s lk (stored-mem keys s (leaf-stored d keys s t)) u in
+          let e = leaf-under d keys asc parents k s lk (stored-mem keys s (leaf-stored d keys s t)) u in
           omega (arith, ap levelOf e, key-level (suc top) (above d (16 - suc top) code) (omega arith))
 
       go : (levelOf k < suc top) ⊎ (suc top ≤ levelOf k) → (levelOf k ≤ top → climbed d keys code top ≡ levelOf k)
@@ -129,16 +169,22 @@ module _ (d : ℕ) (keys own begin : List ℕ) (form : wellFormed d keys own beg
   pub answer-holds : held d keys code ≡ true → (leaf d keys (leafKey d keys code) ≡ true) × (holds d (leafKey d keys code) code ≡ true)
   answer-holds h = (
     climb-leaf d code keys (depthOf keys) (ltb-true 0 (leafLevel d keys code) h),
-    cell-holds d code (leafLevel d keys code) (omega (arith, climb-le d code keys (depthOf keys), depth-most)),
+    cell-holds d code (leafLevel d keys code) (omega (arith, climb-le d code keys (depthOf keys), depth-most d keys asc)),
   )
 
   -- and each leaf that holds the code is the answer
+  answer-level : (k : ℕ) → leaf d keys k ≡ true → cellOf d (levelOf k) code ≡ k → leafLevel d keys code ≡ levelOf k
+  answer-level k lk at = climb-only k lk at (depthOf keys) (depth-most d keys asc) (level-depth d keys asc k (stored-mem keys k (leaf-stored d keys k lk)))
+
+  pub answer-cell : (k : ℕ) → leaf d keys k ≡ true → cellOf d (levelOf k) code ≡ k → leafKey d keys code ≡ k
+  answer-cell k lk at = ap (λ (l : ℕ). cellOf d l code) (answer-level k lk at) ∙ at
+
   pub answer-only : (k : ℕ) → leaf d keys k ≡ true → holds d k code ≡ true
       → (held d keys code ≡ true) × (leafKey d keys code ≡ k) × (stepsTo d keys code ≡ depthOf keys - levelOf k)
   answer-only k lk h =
       let at = held-cell d code k h in
-      let e : leafLevel d keys code ≡ levelOf k = climb-only k lk at (depthOf keys) depth-most (level-depth k (stored-mem keys k (leaf-stored d keys k lk))) in
-      (ap (ltb 0) e ∙ lt-ltb 0 (levelOf k) (leaf-below k lk), ap (λ (l : ℕ). cellOf d l code) e ∙ at, ap (λ (l : ℕ). depthOf keys - l) e)
+      let e = answer-level k lk at in
+      (ap (ltb 0) e ∙ lt-ltb 0 (levelOf k) (leaf-below d keys asc k lk), answer-cell k lk at, ap (λ (l : ℕ). depthOf keys - l) e)
 
   pub few-steps : held d keys code ≡ true → stepsTo d keys code ≤ 15
-  few-steps h = omega (arith, ltb-true 0 (leafLevel d keys code) h, depth-most)
+  few-steps h = omega (arith, ltb-true 0 (leafLevel d keys code) h, depth-most d keys asc)

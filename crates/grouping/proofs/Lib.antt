@@ -1,0 +1,5 @@
+pub mod Values
+pub mod Blocks
+pub mod Arranged
+pub mod Counting
+pub mod Placing

@@ -1,0 +1,1 @@
+// Points grouped by node: definitions and laws alone.
