@@ -1,10 +1,14 @@
 -- Document 01's example, one axis, limit 1: sources 0.5, 1.5, 6.5 and 7.5 of a box from 0 to 8, computed.
 use mathlib.Core.Path.{_≡_, refl}
-use mathlib.Core.Bool.{Bool, true, false}
+use mathlib.Core.Bool.{false}
 use mathlib.Core.List.{List, [], _∷_}
 use Prim.Native.Nat.{ℕ}
 use Rattle.slices.specs.Lists.{filter, concatMap, range, sum, count, any}
+use Rattle.slices.specs.Every.{every}
+use Rattle.morton.specs.Anchors.{encode, spread, anchor}
+use Rattle.morton.specs.Depth.{depthFrom}
 use Rattle.refine.specs.Counts.{countAt}
+use Rattle.refine.specs.Refinement.{factor, countsAround}
 use Rattle.tree.specs.Nodes.{leaf}
 use Rattle.growth.specs.declared.Rule.{Rule}
 use Rattle.growth.specs.Nodes.{splits, kids, cellsAt, nodesTo, nodes}
@@ -19,18 +23,18 @@ sources = 4096 ∷ 12288 ∷ 53248 ∷ 61440 ∷ []
 abbrev keys : List ℕ
 keys = 0 ∷ 1 ∷ 32769 ∷ 2 ∷ 98306 ∷ 3 ∷ 32771 ∷ 196611 ∷ 229379 ∷ []
 
-grown : nodesTo rule sources [] 3 ≡ keys
-unfolding nodesTo cellsAt kids splits filter concatMap range countAt count
+pub grown : nodes rule sources [] ≡ keys
+unfolding nodes nodesTo cellsAt kids splits factor countsAround countAt count sum encode spread anchor range filter every depthFrom concatMap
 grown = refl
 
-owned : ownColumn 1 keys sources ≡ 0 ∷ 0 ∷ 0 ∷ 0 ∷ 0 ∷ 1 ∷ 1 ∷ 1 ∷ 1 ∷ []
+pub owned : ownColumn 1 keys sources ≡ 0 ∷ 0 ∷ 0 ∷ 0 ∷ 0 ∷ 1 ∷ 1 ∷ 1 ∷ 1 ∷ []
 unfolding ownColumn leaf any countAt count
 owned = refl
 
-begun : beginColumn (0 ∷ 0 ∷ 0 ∷ 0 ∷ 0 ∷ 1 ∷ 1 ∷ 1 ∷ 1 ∷ []) ≡ 0 ∷ 0 ∷ 0 ∷ 0 ∷ 0 ∷ 0 ∷ 1 ∷ 2 ∷ 3 ∷ []
+pub begun : beginColumn (0 ∷ 0 ∷ 0 ∷ 0 ∷ 0 ∷ 1 ∷ 1 ∷ 1 ∷ 1 ∷ []) ≡ 0 ∷ 0 ∷ 0 ∷ 0 ∷ 0 ∷ 0 ∷ 1 ∷ 2 ∷ 3 ∷ []
 unfolding beginColumn range sum
 begun = refl
 
-ordered : orderColumn 1 keys sources ≡ 0 ∷ 1 ∷ 2 ∷ 3 ∷ []
+pub ordered : orderColumn 1 keys sources ≡ 0 ∷ 1 ∷ 2 ∷ 3 ∷ []
 unfolding orderColumn concatMap filter leaf any indicesIn range
 ordered = refl

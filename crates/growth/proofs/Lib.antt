@@ -1,1 +1,14 @@
 pub mod Examples
+pub mod Grown
+pub mod AnyOrder
+pub mod Joined
+pub mod Kids
+pub mod Leaves
+pub mod Order
+pub mod Closed
+pub mod Held
+pub mod Arranged
+pub mod Runs
+pub mod Formed
+pub mod Found
+pub mod Meets

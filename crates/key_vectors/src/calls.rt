@@ -1,8 +1,8 @@
 // The answer of each key call in one form, and whether two answers are one.
-use morton::AnchorAnswer;
+use anchors::AnchorAnswer;
+use anchors::TouchAnswer;
 use morton::KeyList;
 use morton::NumberAnswer;
-use morton::TouchAnswer;
 use refusal::Outcome;
 use refusal::Refusal;
 ghost use mathlib.Core.Path.{_≡_};
@@ -127,7 +127,7 @@ fn answer_of_key(call: Call, axes: usize, key: u64) -> Answer {
         Call::Siblings => of_keys(morton::get_siblings(axes, key)),
         Call::Ancestors => of_keys(morton::get_ancestors(axes, key)),
         Call::Neighbours => of_keys(neighbours::get_neighbours(axes, key)),
-        Call::Decode => of_anchors(morton::decode_key(axes, key)),
+        Call::Decode => of_anchors(anchors::decode_key(axes, key)),
         Call::Encode => no_answer(),
         Call::Touching => no_answer(),
         Call::Unknown => no_answer(),
@@ -143,13 +143,13 @@ pub fn answer_of(call: Call, given: [u64; 26], len: usize) -> Answer {
                 return no_answer();
             }
             let anchor = [given[1], given[2], given[3]];
-            of_number(morton::encode_morton_point(axes, anchor, given[4]))
+            of_number(anchors::encode_morton_point(axes, anchor, given[4]))
         }
         Call::Touching => {
             if len != 3 {
                 return no_answer();
             }
-            of_touch(morton::touching(axes, given[1], given[2]))
+            of_touch(anchors::touching(axes, given[1], given[2]))
         }
         _ => {
             if len != 2 {

@@ -13,28 +13,28 @@ use Rattle.rows.specs.Lists.{inU, inV, uRow, vRow}
 use Rattle.sourced.specs.Room.{Puts}
 use Rattle.sourced.specs.Trees.{SoundTree}
 use Rattle.sourced.proofs.Below.{tree-facts}
-use Rattle.lists.specs.Descent.{takes, PutsThose, rowOf, PutsRow}
+use Rattle.lists.specs.Descent.{takes, PutsThose, listRow, PutsRow}
 
 module _ (d : ℕ) (keys own : List ℕ) where
-  row-is : (far : Bool) (b : ℕ) → (far || leaf d keys b) ≡ true → ascending (filter (λ x. takes d keys own far b x) keys) ≡ rowOf d keys own far b
+  row-is : (far : Bool) (b : ℕ) → (far || leaf d keys b) ≡ true → ascending (filter (λ x. takes d keys own far b x) keys) ≡ listRow d keys own far b
   unfolding uRow vRow
   row-is true b h = refl
   row-is false b h = sym (ap (λ t. cond t (ascending (filter (inU d keys own b) keys)) []) h)
 
   pub row-put : (far : Bool) (b : ℕ) → (far || leaf d keys b) ≡ true → (out out' : List ℕ) (n n' : ℕ) → PutsThose keys (λ x. takes d keys own far b x) out n out' n'
-      → PutsRow (rowOf d keys own far b) out n out' n'
+      → PutsRow (listRow d keys own far b) out n out' n'
   row-put far b h out out' n n' a = record {
     cells = a .cells;
     puts = a .puts;
     sorted = ascending-same (a .cells) (filter (λ x. takes d keys own far b x) keys) (a .those) ∙ row-is far b h;
   }
 
-  none-is : (far : Bool) (b : ℕ) → (far || leaf d keys b) ≡ false → [] ≡ rowOf d keys own far b
+  none-is : (far : Bool) (b : ℕ) → (far || leaf d keys b) ≡ false → [] ≡ listRow d keys own far b
   unfolding uRow
   none-is true b h = absurd (clash refl h)
   none-is false b h = sym (ap (λ t. cond t (ascending (filter (inU d keys own b) keys)) []) h)
 
-  pub row-none : (far : Bool) (b : ℕ) → (far || leaf d keys b) ≡ false → (out : List ℕ) (n : ℕ) → PutsRow (rowOf d keys own far b) out n out n
+  pub row-none : (far : Bool) (b : ℕ) → (far || leaf d keys b) ≡ false → (out : List ℕ) (n : ℕ) → PutsRow (listRow d keys own far b) out n out n
   row-none far b h out n = record { cells = []; puts = λ done g. rw (append-nil done) g; sorted = none ∙ none-is far b h }
     where
       none : ascending [] ≡ []

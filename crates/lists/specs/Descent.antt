@@ -32,10 +32,10 @@ pub record PutsThose (keys : List ℕ) (p : ℕ → Bool) (out : List ℕ) (n : 
   pub puts : Puts out n cells out' n'
   pub those : (x : ℕ) → count (λ c. eqb c x) cells ≡ count (λ c. eqb c x) (filter p keys)
 
--- the row of b
-abbrev pub rowOf : ℕ → List ℕ → List ℕ → Bool → ℕ → List ℕ
-rowOf d keys own true b = vRow d keys own b
-rowOf d keys own false b = uRow d keys own b
+-- the row of b in its list
+abbrev pub listRow : ℕ → List ℕ → List ℕ → Bool → ℕ → List ℕ
+listRow d keys own true b = vRow d keys own b
+listRow d keys own false b = uRow d keys own b
 
 -- the keys of a row were put into a slice, in some order
 pub record PutsRow (row out : List ℕ) (n : ℕ) (out' : List ℕ) (n' : ℕ) : Type 0 where

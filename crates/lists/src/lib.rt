@@ -11,7 +11,7 @@ ghost use Rattle.tree.specs.Nodes.{cellAt, leaf};
 ghost use Rattle.tree.specs.WellFormed.{keysAscend};
 ghost use Rattle.rows.specs.Lists.{inU, inV};
 ghost use Rattle.sourced.specs.Trees.{SoundTree, LevelsLeft};
-ghost use Rattle.lists.specs.Descent.{takes as takesTest, leads, underOne, PutsThose, rowOf, PutsRow, WritesRows, keysRoom, WritesList};
+ghost use Rattle.lists.specs.Descent.{takes as takesTest, leads, underOne, PutsThose, listRow, PutsRow, WritesRows, keysRoom, WritesList};
 
 pub const MOST_KEYS: usize = 16777216;
 
@@ -32,10 +32,10 @@ fn is_close(axes: usize, b: u64, k: u64) -> bool
     let level = b % 32768;
     if level < k % 32768 {
         let c = holder_of(axes, k, level);
-        return morton::anchors::touch_at_level(axes, b, c);
+        return anchors::touch_at_level(axes, b, c);
     }
     let c = holder_of(axes, b, k % 32768);
-    morton::anchors::touch_at_level(axes, c, k)
+    anchors::touch_at_level(axes, c, k)
 }
 
 // Whether a node is in the U row of a leaf: a sourced leaf that is close to it.
@@ -199,7 +199,7 @@ pub fn put_row(
     n: usize,
 ) -> usize
     requires { ⌜ SoundTree axes (now key) (now own) × (node < length (now key)) ⌝ }
-    ensures { λ r. ⌜ PutsRow (rowOf axes (now (key .entry)) (now (own .entry)) far (getD (now (key .entry)) node 0)) (now (out .entry)) n (now (out .exit)) r ⌝ }
+    ensures { λ r. ⌜ PutsRow (listRow axes (now (key .entry)) (now (own .entry)) far (getD (now (key .entry)) node 0)) (now (out .entry)) n (now (out .exit)) r ⌝ }
 {
     if !has_row(axes, key, far, node) {
         return n;
@@ -218,7 +218,7 @@ fn write_rows(
     out: &mut [u64],
 ) -> usize
     requires { ⌜ SoundTree axes (now key) (now own) × (length (now key) < length (now starts)) ⌝ }
-    ensures { λ r. ⌜ WritesRows (rowOf axes (now (key .entry)) (now (own .entry)) far) (now (key .entry)) (now (starts .exit)) (now (out .exit)) r ⌝ }
+    ensures { λ r. ⌜ WritesRows (listRow axes (now (key .entry)) (now (own .entry)) far) (now (key .entry)) (now (starts .exit)) (now (out .exit)) r ⌝ }
 {
     starts[0] = 0;
     let mut n: usize = 0;
@@ -247,7 +247,7 @@ fn room_of(len: usize) -> usize
 }
 
 // Writes one list whole, and 0 in the unused rest; or says that the keys have no room.
-fn write_list(
+pub fn write_list(
     axes: usize,
     key: &[u64],
     own: &[usize],
@@ -256,7 +256,7 @@ fn write_list(
     out: &mut [u64],
 ) -> bool
     requires { ⌜ SoundTree axes (now key) (now own) × (length (now key) < length (now starts)) ⌝ }
-    ensures { λ r. ⌜ WritesList (rowOf axes (now (key .entry)) (now (own .entry)) far) (now (key .entry)) (length (now (starts .entry))) (length (now (out .entry))) (now (starts .exit)) (now (out .exit)) r ⌝ }
+    ensures { λ r. ⌜ WritesList (listRow axes (now (key .entry)) (now (own .entry)) far) (now (key .entry)) (length (now (starts .entry))) (length (now (out .entry))) (now (starts .exit)) (now (out .exit)) r ⌝ }
 {
     let room = room_of(out.len());
     let n = write_rows(axes, key, own, far, starts, &mut out[..room]);

@@ -25,7 +25,7 @@ use Rattle.space.specs.Domain.{boxOutcome}
 use Rattle.space.specs.Cells.{frameOf, code16}
 use Rattle.space.specs.Rows.{insideRows, codes16, orInside, firstOutside, coded}
 use Rattle.space.proofs.Batches.{codes-length, rows-le, code-at-row}
-use Rattle.space.proofs.Answers.{code-small}
+use Rattle.space.proofs.Points.{code-small}
 use Rattle.space.proofs.Refusals.{Fine, fine}
 use Rattle.morton.specs.Keys.{axesKnown}
 use Rattle.morton.proofs.Checks.{axes-known}

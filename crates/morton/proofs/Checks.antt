@@ -14,28 +14,9 @@ use Rattle.refusal.specs.declared.Outcome.the-variants.{Done, Refused}
 use Rattle.refusal.specs.Chain.{ask, _then_}
 use Rattle.refusal.proofs.Chain.{asked, both-done}
 use Rattle.slices.proofs.Tests.{and-l, and-r, both}
+pub use Rattle.axes.proofs.Known.{axes-known, axes-few, axes-many, axes-other, axes-facts}
 use Rattle.morton.specs.Keys.{axesKnown, valid, ValidKey, levelOf, codeOf}
-use Rattle.morton.specs.Anchors.{onLevel}
-use Rattle.morton.specs.Answers.{keyCheck, belowRoot, aboveDeepest, pairCheck, anchorCheck}
-
-pub axes-known : (d : ℕ) → 1 ≤ d → d ≤ 3 → axesKnown d ≡ true
-axes-known d l h = both (le-leb 1 d l) (le-leb d 3 h)
-
-pub axes-few : (d : ℕ) → d < 1 → axesKnown d ≡ false
-axes-few d h = rw (lt-leb 1 d h)
-
-pub axes-many : (d : ℕ) → 3 < d → axesKnown d ≡ false
-axes-many d h = rw (le-leb 1 d (omega arith), lt-leb d 3 h)
-
-pub axes-other : (d : ℕ) → (d ≡ 1 → ⊥) → (d ≡ 2 → ⊥) → (d ≡ 3 → ⊥) → axesKnown d ≡ false
-axes-other zero a b c = refl
-axes-other (suc zero) a b c = absurd (a refl)
-axes-other (suc (suc zero)) a b c = absurd (b refl)
-axes-other (suc (suc (suc zero))) a b c = absurd (c refl)
-axes-other (suc (suc (suc (suc d)))) a b c = axes-many (suc (suc (suc (suc d)))) (omega arith)
-
-pub axes-facts : (d : ℕ) → axesKnown d ≡ true → (1 ≤ d) × (d ≤ 3)
-axes-facts d h = (leb-true 1 d (and-l _ _ h), leb-true d 3 (and-r (leb 1 d) _ h))
+use Rattle.morton.specs.Answers.{keyCheck, belowRoot, aboveDeepest}
 
 -- a code's bits from bit d * level on: none where the key is valid
 pub width-le : (d level : ℕ) → d ≤ 3 → level ≤ 16 → d * level ≤ 48
@@ -81,14 +62,3 @@ below-root d k e = let p = both-done (keyCheck d k) (ask (ltb 0 (levelOf k)) Roo
 
 pub above-deepest : (d k : ℕ) → aboveDeepest d k ≡ Done → ValidKey d k × (levelOf k < 16)
 above-deepest d k e = let p = both-done (keyCheck d k) (ask (ltb (levelOf k) 16) Deep) e in (checked d k (p .0), ltb-true (levelOf k) 16 (asked (ltb (levelOf k) 16) Deep (p .1)))
-
-pub pair-checked : (d j k : ℕ) → pairCheck d j k ≡ Done → ValidKey d j × ValidKey d k
-pair-checked d j k e = let p = both-done (keyCheck d j) (keyCheck d k) e in (checked d j (p .0), checked d k (p .1))
-
--- anchors that are not refused are on a valid level
-pub anchor-checked : (d level : ℕ) (xs : List ℕ) → anchorCheck d level xs ≡ Done → (1 ≤ d) × (d ≤ 3) × (level ≤ 16) × (onLevel d level xs ≡ true)
-anchor-checked d level xs e =
-    let p = both-done (ask (axesKnown d) Dims) (ask (leb level 16 && onLevel d level xs) Key) e in
-    let f = axes-facts d (asked (axesKnown d) Dims (p .0)) in
-    let g = asked (leb level 16 && onLevel d level xs) Key (p .1) in
-    (f .0, f .1, leb-true level 16 (and-l _ _ g), and-r (leb level 16) _ g)

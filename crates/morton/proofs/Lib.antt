@@ -3,6 +3,4 @@ pub mod Nearness
 pub mod Checks
 pub mod Answers
 pub mod Arithmetic
-pub mod Placing
 pub mod Runs
-pub mod Laws

@@ -4,7 +4,7 @@ use mathlib.Core.List.{List, [], _∷_, map}
 use Prim.Native.Nat.{ℕ, zero, suc, _+_, _*_, _-_, _/_, _%_, _^_, _≤_, _<_}
 use lib.Dec.{leb, ltb, eqb}
 use Rattle.slices.specs.Lists.{range}
-use Rattle.codes.specs.Tables.{when}
+pub use Rattle.axes.specs.Axes.{axesKnown, childrenRoom, neighboursRoom, farRoom}
 
 abbrev pub deepest : ℕ
 deepest = 16
@@ -17,10 +17,6 @@ levelOf k = k % 32768
 
 abbrev pub codeOf : ℕ → ℕ
 codeOf k = k / 32768
-
--- 1 to 3 axes
-abbrev pub axesKnown : ℕ → Bool
-axesKnown d = leb 1 d && leb d 3
 
 abbrev pub valid : ℕ → ℕ → Bool
 valid d k = leb (levelOf k) deepest && ltb (codeOf k) (2 ^ (d * levelOf k))
@@ -62,16 +58,3 @@ ancestors d k = upwards (levelOf k) d k
 -- cell j is cell k or lies in it
 abbrev pub under : ℕ → ℕ → ℕ → Bool
 under d k j = leb (levelOf k) (levelOf j) && eqb (above d (levelOf j - levelOf k) (codeOf j)) (codeOf k)
-
--- Each number of axes has three figures of its own; 0 where it is not 1 to 3.
--- 2, 4, 8
-abbrev pub childrenRoom : ℕ → ℕ
-childrenRoom d = when (axesKnown d) (2 ^ d)
-
--- 2, 8, 26
-abbrev pub neighboursRoom : ℕ → ℕ
-neighboursRoom d = when (axesKnown d) (3 ^ d - 1)
-
--- 3, 27, 189
-abbrev pub farRoom : ℕ → ℕ
-farRoom d = when (axesKnown d) (6 ^ d - 3 ^ d)

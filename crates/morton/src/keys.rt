@@ -1,7 +1,6 @@
 // A cell's level, parent, children, siblings and ancestors, by its key.
 use crate::KeyList;
 use crate::NumberAnswer;
-use crate::axes;
 use refusal::Outcome;
 use refusal::Refusal;
 ghost use mathlib.Core.Path.{_≡_};

@@ -20,7 +20,7 @@ use Rattle.codes.proofs.Entries.{tabled, length-tabled}
 use Rattle.morton.specs.Keys.{levelOf, codeOf, key, ValidKey}
 use Rattle.morton.specs.Anchors.{encode, anchors, keyAt, onLevel}
 use Rattle.neighbours.specs.Directions.{directions, directionRow, raised, none, ahead, stays, moved, onBox, toward, neighbours}
-use Rattle.morton.proofs.Placing.{past-filled, anchors-at, anchors-length, anchor-small}
+use Rattle.anchors.proofs.Placing.{past-filled, anchors-at, anchors-length, anchor-small}
 use Rattle.neighbours.proofs.Steps.{stays-at}
 use Rattle.morton.proofs.Runs.{Held, held-none, held-more}
 

@@ -18,10 +18,10 @@ use Rattle.morton.specs.Anchors.{anchor, anchors, onLevel, within1, near, touch
 use Rattle.neighbours.specs.Directions.{directions, directionRow, ahead, moved, onBox, toward, neighbours, none}
 use Rattle.morton.proofs.Nearness.{within, within-lo, within-hi}
 use Rattle.morton.proofs.Checks.{facts-valid}
-use Rattle.morton.proofs.Placing.{anchors-at}
+use Rattle.anchors.proofs.Placing.{anchors-at}
 use Rattle.neighbours.proofs.Steps.{stays-at}
 use Rattle.neighbours.proofs.Tied.{step, step-le, rows-tell, row-moves, row-for}
-use Rattle.morton.proofs.Laws.{level-made, made-anchor, encode-valid, same-cell}
+use Rattle.anchors.proofs.Laws.{level-made, made-anchor, encode-valid, same-cell}
 
 module _ (d k : ℕ) (v : ValidKey d k) where
   known : axesKnown d ≡ true

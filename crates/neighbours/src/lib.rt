@@ -1,6 +1,5 @@
 // The direction rows of `morton_constants.rs`, in its order, and the neighbours of a cell along them.
 use morton::KeyList;
-use morton::anchors;
 use morton::keys;
 use refusal::Outcome;
 ghost use mathlib.Core.Path.{_≡_};

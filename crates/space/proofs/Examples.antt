@@ -3,21 +3,16 @@ use mathlib.Core.Path.{_≡_, refl}
 use mathlib.Core.Bool.{true, false}
 use mathlib.Core.List.{[], _∷_}
 use lib.IntN.{pos, negsuc}
-use lib.Ieee.{Float, nan, inf, fin, binary64, ofBits, le, add, sub, mul, div, ofInt}
+use lib.Ieee.{Float, nan, inf, fin, binary64, ofBits, le, sub, mul, div, ofInt}
 use Rattle.slices.specs.Every.{every}
-use Rattle.refusal.specs.declared.Refusal.the-variants.{Dims, Box as OutOfDomain, Key, Point}
+use Rattle.refusal.specs.declared.Refusal.the-variants.{Dims, Box as OutOfDomain}
 use Rattle.refusal.specs.declared.Outcome.the-variants.{Done, Refused}
-use Rattle.morton.specs.Anchors.{anchor, spread, encode}
 use Rattle.space.specs.declared.Box.{Box}
 use Rattle.space.specs.declared.Place.{Place}
 use Rattle.space.specs.declared.Place.the-variants.{At, Outside}
-use Rattle.space.specs.declared.PointKey.the-variants.{Cell, Refused as NoCell}
-use Rattle.space.specs.declared.Adjacent.the-variants.{Is}
 use Rattle.space.specs.Floats.{sizeOf, whole, floor}
 use Rattle.space.specs.Domain.{centresKnown, boxOutcome}
-use Rattle.space.specs.Cells.{quotient, side, displacement, frameOf, cell16, inside, anchors16}
-use Rattle.space.specs.Calls.{pointToKey}
-use Rattle.space.specs.Centres.{tolerance, centreOn, nearAt, areAdjacent}
+use Rattle.space.specs.Cells.{quotient, side, displacement, frameOf, cell16}
 
 -- one axis; what stands past it is not read
 abbrev one : Float → Float → Box
@@ -46,24 +41,6 @@ out-of-b4 = (refl, refl)
 pub eight : (floor (quotient (fin false 1 (pos 3)) (displacement b4 0) (side four 16)) ≡ whole (pos 65536)) × (cell b4 (fin false 1 (pos 3)) ≡ Outside)
 unfolding cell16 sub div mul ofInt floor
 eight = (refl, refl)
-
--- the keys of the listing's four sources at level 3: 0.5, 1.5, 6.5, 7.5
-pub listed :
-    (pointToKey b4 (fin false 1 (negsuc 0) ∷ []) 3 ≡ Cell 3)
-    × (pointToKey b4 (fin false 3 (negsuc 0) ∷ []) 3 ≡ Cell 32771)
-    × (pointToKey b4 (fin false 13 (negsuc 0) ∷ []) 3 ≡ Cell 196611)
-    × (pointToKey b4 (fin false 15 (negsuc 0) ∷ []) 3 ≡ Cell 229379)
-unfolding cell16 inside anchors16 encode spread centresKnown sizeOf le sub div mul ofInt floor every
-listed = (refl, refl, refl, refl)
-
--- a bad level comes before a point that is outside
-pub order : (pointToKey b4 (nan ∷ []) 17 ≡ NoCell Key) × (pointToKey b4 (nan ∷ []) 16 ≡ NoCell (Point 0))
-unfolding cell16 inside anchors16 encode spread centresKnown sizeOf le sub div mul ofInt floor every
-order = (refl, refl)
-
-pub neighbours : (areAdjacent b4 3 32771 ≡ Is true) × (areAdjacent b4 3 196611 ≡ Is false)
-unfolding every nearAt centreOn anchor centresKnown sizeOf le tolerance add sub div mul ofInt
-neighbours = (refl, refl)
 
 -- ---- the lower wall: a negative quotient may round to -0, which is inside
 abbrev wide : Box

@@ -2,13 +2,9 @@ pub mod Literals
 pub mod Sizes
 pub mod Boxes
 pub mod Rounding
-pub mod Sides
 pub mod Patterns
 pub mod Points
 pub mod Batches
 pub mod Refusals
-pub mod Nesting
-pub mod Answers
-pub mod Centres
 pub mod Examples
 pub mod Unread

@@ -3,7 +3,6 @@ use mathlib.Core.Path.{_≡_, refl}
 use mathlib.Core.Bool.{false}
 use lib.IntN.{pos, negsuc}
 use lib.Ieee.{fin, binary64, ofBits}
-use Rattle.space.specs.Centres.{half, tolerance}
 
 pub zero-is : ofBits binary64 0 ≡ fin false 0 (pos 0)
 unfolding ofBits
@@ -20,12 +19,3 @@ radius-limit-is = refl
 pub centre-limit-is : ofBits binary64 4715268809856909312 ≡ fin false 1 (pos 24)
 unfolding ofBits
 centre-limit-is = refl
-
-pub half-is : ofBits binary64 4602678819172646912 ≡ half
-unfolding ofBits
-half-is = refl
-
--- 1e-6
-pub tolerance-is : ofBits binary64 4517329193108106637 ≡ tolerance
-unfolding ofBits tolerance lib.Ieee.round
-tolerance-is = refl

@@ -10,6 +10,7 @@ use lib.Ieee.{Float, nan, binary64, sub, ofBits}
 use lib.ListN.{getD, drop}
 use lib.Seq.{getD-drop}
 use borrow.Author.Tests.{lt-ltb, le-ltb, ltb-true}
+use Rattle.anchors.proofs.Placing.{code-fits}
 use Rattle.space.specs.declared.Box.{Box}
 use Rattle.space.specs.declared.Frame.{Frame}
 use Rattle.space.specs.declared.Located.{Located}
@@ -121,3 +122,8 @@ module _ (f : Frame) (xs : List Float) where
       go : (t : Bool) → inside f xs ≡ t → pick t (At (code16 f xs)) Outside ≡ Outside → inside f xs ≡ false
       go true e g = let z : _≡_ {A = ℕ} 0 1 = cc in absurd (omega arith)
       go false e g = e
+
+-- a level-16 code has at most 48 bits
+pub code-small : (f : Frame) (xs : List Float) → f .axes ≤ 3 → code16 f xs < 281474976710656
+unfolding code16
+code-small f xs h = code-fits (f .axes) 16 (anchors16 f xs) h (native.Mathlib.Nat.le-of-eq refl)

@@ -1,23 +1,19 @@
--- The checks of a box, a level and a point: what a refusal and what none of them tells.
+-- The checks of a box and a level: what a refusal and what none of them tells.
 use mathlib.Core.Path.{_≡_, sym, ap, _∙_}
 use mathlib.Core.Bool.{true, false}
-use mathlib.Core.List.{List}
 use Prim.Native.Nat.{ℕ, _≤_, _<_}
 use lib.Dec.{leb}
-use lib.Ieee.{Float}
 use borrow.Author.Tests.{le-leb, lt-leb, leb-true}
 use Rattle.slices.proofs.Tests.{and-l, and-r}
 use Rattle.refusal.specs.declared.Refusal.{Refusal}
-use Rattle.refusal.specs.declared.Refusal.the-variants.{Key, Point}
+use Rattle.refusal.specs.declared.Refusal.the-variants.{Key}
 use Rattle.refusal.specs.declared.Outcome.the-variants.{Done, Refused}
 use Rattle.space.specs.declared.Box.{Box}
 use Rattle.refusal.specs.Chain.{ask}
 use Rattle.refusal.proofs.Chain.{asked, both-done, after-done, after-refused}
 use Rattle.morton.specs.Keys.{axesKnown}
 use Rattle.morton.proofs.Checks.{axes-facts}
-use Rattle.space.specs.Domain.{radiusKnown, centresKnown, inDomain, boxOutcome}
-use Rattle.space.specs.Cells.{frameOf, inside}
-use Rattle.space.specs.Calls.{levelOutcome, pointOutcome}
+use Rattle.space.specs.Domain.{radiusKnown, centresKnown, inDomain, boxOutcome, levelOutcome}
 
 -- a box that is not refused
 pub record Fine (b : Box) : Type 0 where
@@ -51,14 +47,3 @@ module _ (b : Box) (level : ℕ) where
 
   pub level-done : levelOutcome b level ≡ Done → Fine b × (level ≤ 16)
   level-done e = let p = both-done (boxOutcome b) (ask (leb level 16) Key) e in (fine b (p .0), leb-true level 16 (asked _ Key (p .1)))
-
--- and a point
-module _ (b : Box) (xs : List Float) (level : ℕ) where
-  pub point-refused : (r : Refusal) → levelOutcome b level ≡ Refused r → Refused r ≡ pointOutcome b xs level
-  point-refused r e = sym (after-refused (levelOutcome b level) (ask (inside (frameOf b) xs) (Point 0)) r e)
-
-  pub point-out : levelOutcome b level ≡ Done → inside (frameOf b) xs ≡ false → Refused (Point 0) ≡ pointOutcome b xs level
-  point-out e h = sym (after-done (levelOutcome b level) (ask (inside (frameOf b) xs) (Point 0)) e ∙ ap (λ t. ask t (Point 0)) h)
-
-  pub point-in : levelOutcome b level ≡ Done → inside (frameOf b) xs ≡ true → Done ≡ pointOutcome b xs level
-  point-in e h = sym (after-done (levelOutcome b level) (ask (inside (frameOf b) xs) (Point 0)) e ∙ ap (λ t. ask t (Point 0)) h)

@@ -3,13 +3,14 @@ use mathlib.Core.Bool.{Bool, false, _&&_}
 use mathlib.Core.List.{List}
 use Prim.Native.Nat.{ℕ}
 use lib.IntN.{pos, negsuc}
+use lib.Dec.{leb}
 use lib.Ieee.{Float, nan, fin, le}
 use lib.ListN.{getD}
-use Rattle.refusal.specs.declared.Refusal.the-variants.{Dims, Box as Outside}
+use Rattle.refusal.specs.declared.Refusal.the-variants.{Dims, Box as Outside, Key}
 use Rattle.refusal.specs.declared.Outcome.{Outcome}
 use Rattle.refusal.specs.Chain.{ask, _then_}
 use Rattle.slices.specs.Every.{every}
-use Rattle.morton.specs.Keys.{axesKnown}
+use Rattle.morton.specs.Keys.{axesKnown, deepest}
 use Rattle.space.specs.declared.Box.{Box}
 use Rattle.space.specs.Floats.{sizeOf}
 
@@ -31,3 +32,7 @@ inDomain b = radiusKnown (b .radius) && centresKnown (b .axes) (b .centre)
 -- 1 DIMS, then 2 BOX
 abbrev pub boxOutcome : Box → Outcome
 boxOutcome b = ask (axesKnown (b .axes)) Dims then ask (inDomain b) Outside
+
+-- and where there is a level, then 9 KEY
+abbrev pub levelOutcome : Box → ℕ → Outcome
+levelOutcome b level = boxOutcome b then ask (leb level deepest) Key

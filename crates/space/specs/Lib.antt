@@ -2,5 +2,3 @@ pub mod Floats
 pub mod Domain
 pub mod Cells
 pub mod Rows
-pub mod Calls
-pub mod Centres

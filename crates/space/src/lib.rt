@@ -1,22 +1,14 @@
-// The float side: the box, a point's cell in it, and the two calls on the centres of cells.
-use morton::anchors;
-use morton::keys;
+// The box, and the cell in which a point lies.
 use refusal::Outcome;
 use refusal::Refusal;
 ghost use mathlib.Core.Path.{_≡_};
-ghost use mathlib.Core.List.{[]};
 ghost use Prim.Native.Nat.{_+_, _/_, _≤_, _<_};
 ghost use lib.ListN.{length, drop};
 ghost use Rattle.space.specs.Floats.{sizeOf, floor};
-ghost use Rattle.space.specs.Cells.{displacement as displacementOf, cellIn, side, frameOf, cell16, placeOf, locatedOf, Nests};
-ghost use Rattle.space.specs.Calls.{levelOutcome, anchorsOr, pointToAnchor, pointToKey};
-ghost use Rattle.space.specs.Centres.{keyOutcome, centreOn, sideLength, centreLength, nearOn, areAdjacent};
-ghost use Rattle.slices.specs.Lists.{filled};
+ghost use Rattle.space.specs.Cells.{displacement as displacementOf, cellIn, side, frameOf, cell16, placeOf, locatedOf};
 ghost use Rattle.codes.specs.Tables.{EncodeTables};
-ghost use Rattle.morton.specs.Keys.{levelOf, codeOf, ValidKey};
-ghost use Rattle.morton.specs.Anchors.{anchors as anchorsAt};
 ghost use Rattle.space.specs.Rows.{firstOutside, coded};
-ghost use Rattle.space.specs.Domain.{radiusKnown, centresKnown, boxOutcome};
+ghost use Rattle.space.specs.Domain.{radiusKnown, centresKnown, boxOutcome, levelOutcome};
 
 // The centre, the radius and the number of axes. Centre entries past the axes are not read.
 pub struct Box {
@@ -26,7 +18,7 @@ pub struct Box {
 }
 
 // A number with its sign off.
-fn magnitude(x: f64) -> f64
+pub fn magnitude(x: f64) -> f64
     ensures { λ r. ⌜ r ≡ sizeOf x ⌝ }
 {
     if x == 0.0 {
@@ -115,7 +107,7 @@ fn cell_of(q: f64) -> Place
 }
 
 // The side of a cell at a level.
-fn side_at(radius: f64, level: u64) -> f64
+pub fn side_at(radius: f64, level: u64) -> f64
     requires { ⌜ level ≤ 16 ⌝ }
     ensures { λ r. ⌜ r ≡ side radius level ⌝ }
 {
@@ -130,7 +122,7 @@ pub struct Frame {
     pub axes: usize,
 }
 
-fn displacement(b: Box, a: usize) -> f64
+pub fn displacement(b: Box, a: usize) -> f64
     requires { ⌜ a < 3 ⌝ }
     ensures { λ r. ⌜ r ≡ displacementOf b a ⌝ }
 {
@@ -247,7 +239,7 @@ pub fn points_to_codes(b: Box, points: &[f64], codes: &mut [u64]) -> Rows
 }
 
 // Why a call with a box and a level is refused, if it is.
-fn level_outcome(b: Box, level: u64) -> Outcome
+pub fn level_outcome(b: Box, level: u64) -> Outcome
     ensures { λ r. ⌜ r ≡ levelOutcome b level ⌝ }
 {
     let o = box_outcome(b);
@@ -259,176 +251,5 @@ fn level_outcome(b: Box, level: u64) -> Outcome
             }
             Outcome::Done
         }
-    }
-}
-
-// A point's anchors at a level, 0 past the axes and after a refusal.
-pub struct Anchored {
-    pub outcome: Outcome,
-    pub anchor: [u64; 3],
-}
-
-fn not_anchored(refusal: Refusal) -> Anchored
-    ensures { λ r. ⌜ r ≡ anchorsOr (Outcome.Refused refusal) [] ⌝ }
-{
-    Anchored {
-        outcome: Outcome::Refused(refusal),
-        anchor: [0, 0, 0],
-    }
-}
-
-// The anchors of the cell in which a point lies. They are the floors that the level's own quotients have.
-pub fn point_to_anchor(b: Box, point: [f64; 3], level: u64) -> Anchored
-    ensures { λ r. ⌜ r ≡ pointToAnchor b point level ⌝ }
-    ensures { λ r. ⌜ (r .outcome ≡ Outcome.Done → Nests b point level (r .anchor)) ⌝ }
-{
-    let o = level_outcome(b, level);
-    if let Outcome::Refused(refusal) = o {
-        return not_anchored(refusal);
-    }
-    let p = locate(frame_of(b), &point, 0);
-    if !p.inside {
-        return not_anchored(Refusal::Point(0));
-    }
-    let up = 16 - level;
-    Anchored {
-        outcome: Outcome::Done,
-        anchor: [p.anchor[0] >> up, p.anchor[1] >> up, p.anchor[2] >> up],
-    }
-}
-
-// The key of the cell in which a point lies.
-pub enum PointKey {
-    Cell(u64),
-    Refused(Refusal),
-}
-
-pub fn point_to_key(b: Box, point: [f64; 3], level: u64) -> PointKey
-    ensures { λ r. ⌜ r ≡ pointToKey b point level ⌝ }
-{
-    let o = level_outcome(b, level);
-    if let Outcome::Refused(refusal) = o {
-        return PointKey::Refused(refusal);
-    }
-    let x = codes::tables::encode_table(b.axes, 0);
-    let y = codes::tables::encode_table(b.axes, 1);
-    let z = codes::tables::encode_table(b.axes, 2);
-    let place = code_at(&x, &y, &z, frame_of(b), &point, 0);
-    match place {
-        Place::At(code) => {
-            let above = (b.axes as u64) * (16 - level);
-            PointKey::Cell((code >> above) * 32768 + level)
-        }
-        Place::Outside => PointKey::Refused(Refusal::Point(0)),
-    }
-}
-
-// The side of a cell at a level.
-pub enum SideLength {
-    Side(f64),
-    Refused(Refusal),
-}
-
-pub fn get_side_length(b: Box, level: u64) -> SideLength
-    ensures { λ r. ⌜ r ≡ sideLength b level ⌝ }
-{
-    let o = level_outcome(b, level);
-    match o {
-        Outcome::Refused(refusal) => SideLength::Refused(refusal),
-        Outcome::Done => SideLength::Side(side_at(b.radius, level)),
-    }
-}
-
-// Why a call with a box and a key is refused, if it is.
-fn key_outcome(b: Box, key: u64) -> Outcome
-    ensures { λ r. ⌜ r ≡ keyOutcome b key ⌝ }
-{
-    let o = box_outcome(b);
-    match o {
-        Outcome::Refused(refusal) => Outcome::Refused(refusal),
-        Outcome::Done => keys::check_key(b.axes, key),
-    }
-}
-
-// The centre of a cell on axis a, by its anchors.
-fn centre_on(b: Box, key: u64, anchor: [u64; 3], a: usize) -> f64
-    requires { ⌜ ValidKey (b .axes) key × (anchor ≡ filled 3 (anchorsAt (b .axes) key)) × (a < 3) ⌝ }
-    ensures { λ r. ⌜ r ≡ centreOn b (levelOf key) (codeOf key) a ⌝ }
-{
-    if a >= b.axes {
-        return 0.0;
-    }
-    let side = side_at(b.radius, keys::level_of(key));
-    (anchor[a] as f64 + 0.5) * side + displacement(b, a)
-}
-
-// A cell's centre and the length of its side, 0 past the axes and after a refusal.
-pub struct Centred {
-    pub outcome: Outcome,
-    pub centre: [f64; 3],
-    pub length: f64,
-}
-
-pub fn get_center_length(b: Box, key: u64) -> Centred
-    ensures { λ r. ⌜ r ≡ centreLength b key ⌝ }
-{
-    let o = key_outcome(b, key);
-    if let Outcome::Refused(refusal) = o {
-        return Centred {
-            outcome: Outcome::Refused(refusal),
-            centre: [0.0, 0.0, 0.0],
-            length: 0.0,
-        };
-    }
-    let anchor = anchors::anchors_of(b.axes, key);
-    let x = centre_on(b, key, anchor, 0);
-    let y = centre_on(b, key, anchor, 1);
-    let z = centre_on(b, key, anchor, 2);
-    Centred {
-        outcome: Outcome::Done,
-        centre: [x, y, z],
-        length: side_at(b.radius, keys::level_of(key)),
-    }
-}
-
-// Whether on every axis the centres of two cells differ by at most the mean of their sides, and a little more.
-fn centres_near(b: Box, first: u64, second: u64) -> bool
-    requires { ⌜ ValidKey (b .axes) first × ValidKey (b .axes) second ⌝ }
-    ensures { λ r. ⌜ r ≡ nearOn (b .axes) b first second ⌝ }
-{
-    let length_a = side_at(b.radius, keys::level_of(first));
-    let length_b = side_at(b.radius, keys::level_of(second));
-    let length = 0.5 * (length_a + length_b);
-    let anchor_a = anchors::anchors_of(b.axes, first);
-    let anchor_b = anchors::anchors_of(b.axes, second);
-    let mut n = b.axes;
-    while 0 < n {
-        n -= 1;
-        let value_a = centre_on(b, first, anchor_a, n);
-        let value_b = centre_on(b, second, anchor_b, n);
-        if !(magnitude(value_b - value_a) <= 1e-6 + length) {
-            return false;
-        }
-    }
-    true
-}
-
-// The Rust's test of two cells, of any two levels.
-pub enum Adjacent {
-    Is(bool),
-    Refused(Refusal),
-}
-
-pub fn are_adjacent(b: Box, first: u64, second: u64) -> Adjacent
-    ensures { λ r. ⌜ r ≡ areAdjacent b first second ⌝ }
-{
-    let o = key_outcome(b, first);
-    if let Outcome::Refused(refusal) = o {
-        return Adjacent::Refused(refusal);
-    }
-    let p = keys::check_key(b.axes, second);
-    match p {
-        Outcome::Refused(refusal) => Adjacent::Refused(refusal),
-        Outcome::Done => Adjacent::Is(centres_near(b, first, second)),
     }
 }

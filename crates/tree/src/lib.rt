@@ -1,5 +1,4 @@
 // What a tree is: its columns, when they are well formed, finding a node, and a leaf's sources.
-use morton::axes;
 use morton::keys;
 use refusal::Outcome;
 ghost use mathlib.Core.Path.{_≡_};

@@ -6,7 +6,7 @@ use Rattle.tree.proofs.children_of.Statement.{statement}
 use Rattle.tree.proofs.children_of.Tie as tie
 use Rattle.tree.proofs.children_of.Reads as reads
 use Rattle.tree.proofs.children_of.Lts as lts
-use Rattle.morton.proofs.axes.children_of.Reads as children-of-reads
+use Rattle.axes.proofs.children_of.Reads as children-of-reads
 use Rattle.tree.proofs.first_from.Reads as first-from-reads
 
 returns : tie.Need-returns

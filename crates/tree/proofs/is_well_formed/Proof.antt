@@ -9,7 +9,7 @@ use Rattle.tree.proofs.is_well_formed.Statement.{statement}
 use Rattle.tree.proofs.is_well_formed.Tie as tie
 use Rattle.tree.proofs.is_well_formed.Reads as reads
 use Rattle.tree.proofs.is_well_formed.Lts as lts
-use Rattle.morton.proofs.axes.axes_known.Reads as axes-known-reads
+use Rattle.axes.proofs.axes_known.Reads as axes-known-reads
 use Rattle.tree.proofs.rows_right.Reads as rows-right-reads
 
 axes-known-requires : tie.Need-axes-known-requires

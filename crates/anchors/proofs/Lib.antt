@@ -1,0 +1,4 @@
+pub mod Checked
+pub mod Answers
+pub mod Placing
+pub mod Laws

@@ -1,0 +1,4 @@
+pub mod Literals
+pub mod Centres
+pub mod Answers
+pub mod Examples

@@ -1,0 +1,8 @@
+pub mod Lists
+pub mod Queue
+pub mod Nodes
+pub mod Splitting
+pub mod Spans
+pub mod Putting
+pub mod Children
+pub mod Growing

@@ -1,0 +1,5 @@
+pub mod Checked
+pub mod Sides
+pub mod Nesting
+pub mod Answers
+pub mod Examples

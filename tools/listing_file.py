@@ -1,0 +1,142 @@
+"""The listing program's text, read back and held against the survey that it was made from."""
+
+import re
+from collections import Counter
+from dataclasses import dataclass
+
+import survey_file as house
+from survey_file import Refused
+
+# no number of a listing has more than 20 digits
+ONE = "([0-9]{1,20})"
+ROW = "((?: [0-9]{1,20})*)"
+TREE = re.compile("tree" + (" " + ONE) * 5)
+NODE = re.compile(" ".join([ONE] * 3) + " U" + ROW + " V" + ROW)
+
+
+@dataclass
+class Node:
+    number: int
+    key: int
+    own: int
+    near: list
+    far: list
+    is_leaf: bool = True
+
+
+@dataclass
+class Listing:
+    axes: int
+    depth: int
+    near_work: int
+    nodes: list
+    by_key: dict
+    # the level-16 key of each source, and how many sources lie in a cell
+    source_keys: list
+    held: Counter
+
+    def leaf_at(self, key):
+        """The leaf that holds a level-16 key, or None."""
+        for around in house.ancestors(self.axes, key):
+            node = self.by_key.get(around)
+            if node and node.is_leaf:
+                return node
+        return None
+
+
+def read_listing(path, survey, survey_name):
+    lines = [(line, text.rstrip("\r")) for line, text in house.read_lines(path)]
+    if lines[-1][1] == "":
+        lines.pop()
+    if not lines:
+        raise Refused("%s: empty" % path)
+    axes, count, depth, _, near_work = read_first(path, lines[0][1], survey, survey_name)
+    if len(lines) != count + 1:
+        raise Refused("%s: line 1: %d nodes, but %d lines follow" % (path, count, len(lines) - 1))
+    nodes = [read_node(path, line, text, axes) for line, text in lines[1:]]
+    by_key = {node.key: node for node in nodes}
+    check_tree(path, axes, nodes, by_key)
+    deepest = max([1] + [house.level_of(node.key) for node in nodes])
+    if depth != deepest:
+        raise Refused("%s: line 1: depth %d, but the deepest node has level %d" % (path, depth, deepest))
+    check_rows(path, nodes, by_key)
+    keys = source_keys(survey, survey_name)
+    held = Counter(around for key in keys for around in house.ancestors(axes, key))
+    listing = Listing(axes, depth, near_work, nodes, by_key, keys, held)
+    check_sources(path, listing, survey_name)
+    return listing
+
+
+def read_first(path, text, survey, survey_name):
+    if text.startswith("refused"):
+        raise Refused("%s: line 1: the program refused the survey (%s): there is no tree to draw" % (path, text))
+    found = TREE.fullmatch(text)
+    if not found:
+        raise Refused("%s: line 1: not 'tree' and five numbers" % path)
+    figures = [int(figure) for figure in found.groups()]
+    if figures[0] != survey.axes:
+        raise Refused("%s: line 1: %d axes, but %s has %d" % (path, figures[0], survey_name, survey.axes))
+    if figures[3] != len(survey.sources):
+        raise Refused("%s: line 1: %d sources, but %s has %d"
+                      % (path, figures[3], survey_name, len(survey.sources)))
+    return figures
+
+
+def read_node(path, line, text, axes):
+    found = NODE.fullmatch(text)
+    if not found:
+        raise Refused("%s: line %d: not number, key, own sources, U keys, V keys" % (path, line))
+    number, key, own = (int(figure) for figure in found.groups()[:3])
+    near, far = ([int(key) for key in row.split()] for row in found.groups()[3:])
+    for one in [key] + near + far:
+        if not house.is_valid(axes, one):
+            raise Refused("%s: line %d: %d is no key of %d axes" % (path, line, one, axes))
+    return Node(number, key, own, near, far)
+
+
+def check_tree(path, axes, nodes, by_key):
+    """Nodes in their order, the root first, each with its parent; finds out which are leaves."""
+    places = [(house.level_of(node.key), node.key) for node in nodes]
+    for i, node in enumerate(nodes):
+        if node.number != i:
+            raise Refused("%s: line %d: node number %d, not %d" % (path, i + 2, node.number, i))
+        if (i == 0) != (node.key == 0) or (i > 0 and places[i - 1] >= places[i]):
+            raise Refused("%s: line %d: key %d is not in the order of nodes" % (path, i + 2, node.key))
+        parent = house.ancestors(axes, node.key)[1] if i > 0 else 0
+        if parent not in by_key:
+            raise Refused("%s: line %d: the parent of key %d is not listed" % (path, i + 2, node.key))
+        by_key[parent].is_leaf = False
+
+
+def check_rows(path, nodes, by_key):
+    for i, node in enumerate(nodes):
+        for key in node.near + node.far:
+            if key not in by_key:
+                raise Refused("%s: line %d: key %d in a row is not listed as a node" % (path, i + 2, key))
+        if node.near and not node.is_leaf:
+            raise Refused("%s: line %d: a U row, but node %d is no leaf" % (path, i + 2, node.number))
+        for key in node.near:
+            if not by_key[key].is_leaf:
+                raise Refused("%s: line %d: key %d in the U row is no leaf" % (path, i + 2, key))
+
+
+def source_keys(survey, survey_name):
+    fault = house.box_fault(survey.centre, survey.radius)
+    if fault:
+        raise Refused("%s: the box is outside its domain: %s" % (survey_name, fault))
+    keys = [house.point_key(survey.centre, survey.radius, source) for source in survey.sources]
+    if None in keys:
+        raise Refused("%s: source %d is outside the box" % (survey_name, keys.index(None)))
+    return keys
+
+
+def check_sources(path, listing, survey_name):
+    """Own sources as the survey has them, so that a listing of another survey is not drawn over this one."""
+    leaves = [listing.leaf_at(key) for key in listing.source_keys]
+    if None in leaves:
+        raise Refused("%s: no leaf holds source %d of %s" % (path, leaves.index(None), survey_name))
+    owned = Counter(leaf.number for leaf in leaves)
+    for i, node in enumerate(listing.nodes):
+        if node.own != owned[i]:
+            raise Refused("%s: line %d: %d own sources, but %d of %s lie there"
+                          % (path, i + 2, node.own, owned[i], survey_name))

@@ -1,0 +1,214 @@
+"""The picture that draw writes: a survey's cells and readings as one leaf sees them, and the legend."""
+
+import os
+from collections import Counter
+
+import survey_file as house
+from page import (CHOSEN, HATCH, LEFT, LEGEND, LINE, NEAR, PAGE_WIDTH, PLAIN, PLOT, ROW, TOP, UNSTORED, across_tick,
+                  along, box, far_colour, ink_on, mark, sample_mark, swatch, tag, ticks, up_tick, words)
+
+
+class Picture:
+    """A survey and its listing, seen from one leaf, or from none."""
+
+    def __init__(self, names, survey, listing, leaf, view):
+        self.names, self.survey, self.listing, self.leaf, self.view = names, survey, listing, leaf, view
+        self.far = far_rows(listing, leaf) if leaf else []
+        self.colours = {level: far_colour(i, len(self.far)) for i, (level, _) in enumerate(self.far)}
+        self.kinds = [self.kind(key) for key in listing.source_keys]
+        self.marks = Counter(self.kinds)
+        self.shown = [i for i, key in enumerate(listing.source_keys) if view.rect(listing.leaf_at(key).key)]
+        self.spots = [view.spot(survey.sources[i]) for i in self.shown]
+        self.targets = [row for row in survey.targets if names.targets and self.cuts(row)]
+
+    def kind(self, source_key):
+        """How the chosen leaf meets a source: once in U, once in V, or wrongly."""
+        if not self.leaf:
+            return "single"
+        around = set(house.ancestors(self.listing.axes, source_key))
+        near = sum(key in around for key in self.leaf.near)
+        far = sum(key in around for _, row in self.far for key in row)
+        return {(1, 0): "single", (0, 1): "grouped"}.get((near, far), "fault")
+
+    def text(self):
+        legend, legend_height = self.legend()
+        height = TOP + max(self.view.height + 62, legend_height + 20)
+        body = self.head() + self.axes() + self.cells() + self.listed_cells() + self.chosen() + self.points() + legend
+        return ('<svg xmlns="http://www.w3.org/2000/svg" width="%d" height="%d" viewBox="0 0 %d %d" '
+                'font-family="DejaVu Sans, Verdana, sans-serif">\n' % (PAGE_WIDTH, height, PAGE_WIDTH, height)
+                + HATCH + box((0, 0, PAGE_WIDTH, height), fill="#ffffff") + "\n" + "\n".join(body) + "\n</svg>\n")
+
+    def head(self):
+        if self.leaf:
+            title = "What leaf %d sums singly, and what in groups" % self.leaf.number
+        else:
+            title = "Cells and readings"
+        figures = "%s: axes %d, nodes %d, depth %d, readings %d, near work %d" % (
+            os.path.basename(self.names.survey), self.listing.axes, len(self.listing.nodes), self.listing.depth,
+            len(self.survey.sources), self.listing.near_work)
+        return [words(LEFT, 34, title, 19, font_weight="bold"), words(LEFT, 58, figures)]
+
+    def axes(self):
+        view, bottom, shapes = self.view, TOP + self.view.height, []
+        for axis, is_across in zip(view.axes, (True, False)):
+            middle, radius = self.survey.centre[axis], self.survey.radius
+            for coordinate, text in ticks(middle - radius, middle + radius):
+                place = PLOT * along(self.survey, axis, coordinate)
+                shapes += across_tick(place, bottom, text) if is_across else up_tick(place, text)
+        shapes.append(words(LEFT + PLOT / 2, bottom + 44, house.AXIS_NAMES[view.axes[0]], text_anchor="middle"))
+        if len(view.axes) == 2:
+            shapes.append(words(12, TOP + PLOT / 2, house.AXIS_NAMES[view.axes[1]], text_anchor="middle"))
+        else:
+            shapes += [words(LEFT - 12, TOP + ROW * level + 24, "level %d" % level, 12, text_anchor="end")
+                       for level in range(view.depth + 1)]
+        return shapes
+
+    def cells(self):
+        """The ground, and every cell of the view in plain white."""
+        shapes = [box((LEFT, TOP, PLOT, self.view.ground), class_="ground", fill=UNSTORED)]
+        for node in self.listing.nodes:
+            rect = self.view.rect(node.key)
+            if rect and self.view.shows(node):
+                hint = "node %d, key %d, level %d: %d readings" % (
+                    node.number, node.key, house.level_of(node.key), self.listing.held[node.key])
+                shapes.append(box(rect, class_="cell", fill=PLAIN, stroke=LINE, stroke_width=0.8, hint=hint))
+        return shapes
+
+    def listed_cells(self):
+        """The cells of the rows, coloured, with the name of the row where there is room, and the leaves in them."""
+        shapes = []
+        for level, row in self.far:
+            for key in row:
+                shapes += self.listed("far", key, "V%d" % level, self.colours[level])
+        for key in self.leaf.near if self.leaf else []:
+            shapes += self.listed("near", key, "U", NEAR)
+        inside = [self.view.rect(node.key) for node in self.listing.nodes if self.view.shows(node) and self.far]
+        return shapes + [box(rect, fill="none", stroke="#333333", stroke_width=0.4) for rect in inside if rect]
+
+    def listed(self, kind, key, name, colour):
+        rect = self.view.rect(key)
+        if not rect:
+            return []
+        node = self.listing.by_key[key]
+        hint = "%s: node %d, key %d, level %d: %d readings" % (
+            name, node.number, key, house.level_of(key), self.listing.held[key])
+        shape = box(rect, class_=kind, data_key=key, fill=colour, stroke="#333333", stroke_width=1.2, hint=hint)
+        return [shape] + self.name_in(rect, name, ink_on(colour))
+
+    def name_in(self, rect, name, ink):
+        """A name in the first corner of a cell that is free of readings, if there is one."""
+        x, y, width, height = rect
+        if width < 30 or height < 20:
+            return []
+        for left in (x + 4, x + width - 24):
+            for base in (y + 13, y + height - 5):
+                if not any(left - 5 < sx < left + 25 and base - 16 < sy < base + 8 for sx, sy in self.spots):
+                    return [words(left, base, name, 11, fill=ink)]
+        return []
+
+    def chosen(self):
+        rect = self.view.rect(self.leaf.key) if self.leaf else None
+        if not rect:
+            return []
+        shapes = [box(rect, class_="chosen", fill=CHOSEN, stroke="#000000", stroke_width=3.5,
+                      hint="the chosen leaf, node %d, key %d" % (self.leaf.number, self.leaf.key))]
+        return shapes + self.ring(rect)
+
+    def ring(self, rect):
+        """A ring around a chosen leaf that is too small to be seen."""
+        x, y, width, height = rect
+        if max(width, height) >= 10:
+            return []
+        middle = {"cx": x + width / 2, "cy": y + height / 2}
+        return [tag("circle", **middle, r=13, fill="none", stroke="#000000", stroke_width=3.5)]
+
+    def points(self):
+        shapes = [mark("target", self.view.spot(row)) for row in self.targets]
+        for i, spot in zip(self.shown, self.spots):
+            hint = "source %d: %s" % (i, ", ".join("%r" % x for x in self.survey.sources[i]))
+            shapes.append(mark(self.kinds[i], spot, hint=hint))
+        return shapes
+
+    def cuts(self, row):
+        """Whether a target lies in a leaf of the view."""
+        key = house.point_key(self.survey.centre, self.survey.radius, row)
+        leaf = self.listing.leaf_at(key) if key is not None else None
+        return leaf is not None and self.view.rect(leaf.key) is not None
+
+    # The legend: entries of a sample and lines of text
+
+    def legend(self):
+        """The legend's shapes and its height."""
+        shapes, y = [], TOP + 14
+        for sample, lines in self.entries():
+            shapes += [sample((LEGEND + 14, y - 4))] if sample else []
+            shapes += [words(LEGEND + (36 if sample else 0), y + 17 * i, line) for i, line in enumerate(lines)]
+            y += 17 * len(lines) + 11
+        return shapes, y - TOP
+
+    def entries(self):
+        return self.slice_entry() + self.row_entries() + self.ground_entries() + self.mark_entries()
+
+    def slice_entry(self):
+        if self.view.cut_axis is None:
+            return []
+        return [(None, ["Slice at %s = %r:" % (house.AXIS_NAMES[self.view.cut_axis], self.view.cut),
+                        "the cells that it cuts, and the readings", "in the leaves among them"])]
+
+    def row_entries(self):
+        if not self.leaf:
+            return []
+        level = house.level_of(self.leaf.key)
+        rect = self.view.rect(self.leaf.key)
+        where = ["not cut by this slice"] if not rect else ["in the ring"] if self.ring(rect) else []
+        entries = [(swatch(CHOSEN, 3.5), [
+            "chosen leaf: node %d, level %d," % (self.leaf.number, level),
+            "key %d, %s" % (self.leaf.key, some(self.leaf.own, "reading"))] + where)]
+        entries.append((swatch(NEAR), ["U: " + self.cells_text(self.leaf.near),
+                                       self.readings_text(self.leaf.near, "summed singly")]))
+        for row_level, row in self.far:
+            whose = "of the leaf" if row_level == level else "of its ancestor"
+            entries.append((swatch(self.colours[row_level]), [
+                "V%d, %s: %s" % (row_level, whose, self.cells_text(row)), self.readings_text(row, "in groups")]))
+        return entries if self.far else entries + [(None, ["V of the leaf and its ancestors: no cells"])]
+
+    def cells_text(self, row):
+        return some(len(row), "cell") + self.in_slice(sum(self.view.rect(key) is not None for key in row)) + ","
+
+    def readings_text(self, row, how):
+        return "%s %s" % (some(sum(self.listing.held[key] for key in row), "reading"), how)
+
+    def ground_entries(self):
+        shown = [node for node in self.listing.nodes if self.view.shows(node) and self.view.rect(node.key)]
+        listed = {key for _, row in self.far for key in row}
+        listed |= set(self.leaf.near + [self.leaf.key] if self.leaf else [])
+        entries = []
+        if any(listed.isdisjoint(house.ancestors(self.listing.axes, node.key)) for node in shown):
+            entries.append((swatch(PLAIN), ["cell in none of these lists" if self.leaf else "cell"]))
+        covered = sum(width * height for _, _, width, height in (self.view.rect(node.key) for node in shown))
+        if covered < PLOT * self.view.ground * (1 - 1e-9):
+            entries.append((swatch(UNSTORED), ["no cell stored"]))
+        return entries
+
+    def mark_entries(self):
+        names = {"single": "reading summed singly" if self.leaf else "reading", "grouped": "reading in a group",
+                 "fault": "reading in no list or in several: FAULT"}
+        here = Counter(self.kinds[i] for i in self.shown)
+        entries = [(sample_mark(kind), ["%s: %d%s" % (name, self.marks[kind], self.in_slice(here[kind]))])
+                   for kind, name in names.items() if self.marks[kind]]
+        if self.names.targets:
+            entries.append((sample_mark("target"), ["target in a leaf drawn here: %d" % len(self.targets)]))
+        return entries
+
+    def in_slice(self, count):
+        return " (%d in the slice)" % count if self.view.cut_axis is not None else ""
+
+
+def far_rows(listing, leaf):
+    """The V rows of a leaf and its ancestors that are not empty, as level and keys, the leaf's own first."""
+    nodes = [listing.by_key[key] for key in house.ancestors(listing.axes, leaf.key)]
+    return [(house.level_of(node.key), node.far) for node in nodes if node.far]
+
+
+def some(count, name):
+    return "%d %s%s" % (count, name, "" if count == 1 else "s")
