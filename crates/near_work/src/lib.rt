@@ -1,0 +1,134 @@
+// Near work: the sum over leaves of own sources times sources in the U row.
+use refusal::Outcome;
+use refusal::Refusal;
+use tree::Found;
+ghost use mathlib.Core.Path.{_≡_};
+ghost use mathlib.Core.Bool.{true};
+ghost use Prim.Native.Nat.{ℕ, _≤_, _<_};
+ghost use lib.ListN.{length, getD};
+ghost use Rattle.slices.specs.Lists.{filled};
+ghost use Rattle.tree.specs.Nodes.{ownOf};
+ghost use Rattle.tree.specs.WellFormed.{mostSources};
+ghost use Rattle.rows.specs.Lists.{uRow, nearWork};
+ghost use Rattle.rows.specs.Written.{rowStarts, rowKeys, Written};
+ghost use Rattle.sourced.specs.Trees.{SoundTree};
+ghost use Rattle.near_work.specs.Work.{Beside, sourcesIn, workOf, mostWork};
+ghost use Rattle.near_work.specs.Answers.{workAnswer, isWork, left};
+
+// Near work of a tree, or a refusal.
+pub enum WorkAnswer {
+    Work(u64),
+    Refused(Refusal),
+}
+
+// What the node with key k owns, 0 if there is none.
+fn own_of(key: &[u64], own: &[usize], k: u64) -> usize
+    requires { ⌜ Beside (now key) (now own) ⌝ }
+    ensures { λ r. ⌜ r ≡ ownOf (now (key .entry)) (now (own .entry)) k ⌝ }
+{
+    let found = tree::find_node(key, k);
+    match found {
+        Found::At(node) => own[node],
+        Found::Nothing => 0,
+    }
+}
+
+// The sources in a row.
+fn row_sources(key: &[u64], own: &[usize], row: &[u64]) -> u64
+    requires { ⌜ Beside (now key) (now own) × (sourcesIn (now key) (now own) (now row) ≤ mostSources) ⌝ }
+    ensures { λ r. ⌜ r ≡ sourcesIn (now (key .entry)) (now (own .entry)) (now (row .entry)) ⌝ }
+{
+    let mut sources: u64 = 0;
+    let mut i: usize = 0;
+    while i < row.len() {
+        sources += own_of(key, own, row[i]) as u64;
+        i += 1;
+    }
+    sources
+}
+
+// What a node adds to near work.
+fn work_of(
+    axes: usize,
+    key: &[u64],
+    own: &[usize],
+    starts: &[usize],
+    flat: &[u64],
+    node: usize,
+) -> u64
+    requires { ⌜ SoundTree axes (now key) (now own) × Written (now key) (uRow axes (now key) (now own)) (now starts) (now flat) × (node < length (now key)) ⌝ }
+    ensures { λ r. ⌜ r ≡ workOf axes (now (key .entry)) (now (own .entry)) (getD (now (key .entry)) node 0) ⌝ }
+{
+    if !tree::is_leaf(axes, key, node) {
+        return 0;
+    }
+    let from = starts[node];
+    let to = starts[node + 1];
+    let sources = row_sources(key, own, &flat[from..to]);
+    own[node] as u64 * sources
+}
+
+// Near work, read from a U list as the list call has written it.
+pub fn near_work(axes: usize, key: &[u64], own: &[usize], starts: &[usize], flat: &[u64]) -> u64
+    requires { ⌜ SoundTree axes (now key) (now own) × Written (now key) (uRow axes (now key) (now own)) (now starts) (now flat) ⌝ }
+    ensures work { λ r. ⌜ r ≡ nearWork axes (now (key .entry)) (now (own .entry)) ⌝ }
+    ensures bounded { λ r. ⌜ r ≤ mostWork ⌝ }
+{
+    let mut work: u64 = 0;
+    let mut node: usize = 0;
+    while node < key.len() {
+        work += work_of(axes, key, own, starts, flat, node);
+        node += 1;
+    }
+    work
+}
+
+// Writes the U list where it has room, and works out near work from it. After a refusal the slices hold anything.
+fn write_and_sum(
+    axes: usize,
+    key: &[u64],
+    own: &[usize],
+    begin: &[usize],
+    starts: &mut [usize],
+    flat: &mut [u64],
+) -> WorkAnswer
+    ensures { λ r. ⌜ r ≡ workAnswer axes (now (key .entry)) (now (own .entry)) (now (begin .entry)) (length (now (starts .entry))) (length (now (flat .entry))) ⌝ }
+    ensures { λ r. ⌜ (isWork r ≡ true → now (starts .exit) ≡ filled (length (now (starts .entry))) (rowStarts (uRow axes (now (key .entry)) (now (own .entry))) (now (key .entry)))) ⌝ }
+    ensures { λ r. ⌜ (isWork r ≡ true → now (flat .exit) ≡ filled (length (now (flat .entry))) (rowKeys (uRow axes (now (key .entry)) (now (own .entry))) (now (key .entry)))) ⌝ }
+{
+    let checked = sourced::check_tree(axes, key, own, begin);
+    if let Outcome::Refused(refusal) = checked {
+        return WorkAnswer::Refused(refusal);
+    }
+    if starts.len() <= key.len() {
+        return WorkAnswer::Refused(Refusal::Room(4));
+    }
+    if !lists::write_list(axes, key, own, false, starts, flat) {
+        return WorkAnswer::Refused(Refusal::Room(6));
+    }
+    WorkAnswer::Work(near_work(axes, key, own, starts, flat))
+}
+
+// Near work of any tree. The U list is written into the lent slices; after a refusal they are 0 throughout.
+pub fn get_near_work(
+    axes: usize,
+    key: &[u64],
+    own: &[usize],
+    begin: &[usize],
+    starts: &mut [usize],
+    flat: &mut [u64],
+) -> WorkAnswer
+    ensures answer { λ r. ⌜ r ≡ workAnswer axes (now (key .entry)) (now (own .entry)) (now (begin .entry)) (length (now (starts .entry))) (length (now (flat .entry))) ⌝ }
+    ensures starts { λ r. ⌜ now (starts .exit) ≡ left r (length (now (starts .entry))) (rowStarts (uRow axes (now (key .entry)) (now (own .entry))) (now (key .entry))) ⌝ }
+    ensures flat { λ r. ⌜ now (flat .exit) ≡ left r (length (now (flat .entry))) (rowKeys (uRow axes (now (key .entry)) (now (own .entry))) (now (key .entry))) ⌝ }
+{
+    let answer = write_and_sum(axes, key, own, begin, starts, flat);
+    match answer {
+        WorkAnswer::Refused(refusal) => {
+            slices::clear_usize(starts);
+            slices::clear(flat);
+            WorkAnswer::Refused(refusal)
+        }
+        WorkAnswer::Work(work) => WorkAnswer::Work(work),
+    }
+}

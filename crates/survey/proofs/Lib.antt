@@ -1,0 +1,4 @@
+pub mod Numbers
+pub mod Columns
+pub mod Surveys
+pub mod Examples

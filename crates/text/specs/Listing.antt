@@ -1,0 +1,69 @@
+-- Document 01, "The survey file and the listing": the lines of the listing, in ASCII.
+use mathlib.Core.Bool.{Bool, true, false}
+use mathlib.Core.List.{List, [], _∷_, _++_}
+use Prim.Native.Char.{code}
+use Prim.Native.Nat.{ℕ}
+use lib.Dec.{leb}
+use lib.ListN.{length, getD}
+use Rattle.refusal.specs.declared.Refusal.{Refusal}
+use Rattle.refusal.specs.Numbers.{numberOf, valueOf}
+use Rattle.slices.specs.Lists.{range, concatMap, filled}
+use Rattle.rows.specs.Written.{rowAt}
+use Rattle.text.specs.declared.Text.{Text}
+use Rattle.text.specs.declared.Text.the-variants.{Length, Short}
+use Rattle.text.specs.Characters.{ascii}
+use Rattle.text.specs.Digits.{decimal}
+
+-- a blank, and then a number
+abbrev pub field : ℕ → List ℕ
+field n = code " " ∷ decimal n
+
+abbrev pub fields : List ℕ → List ℕ
+fields ns = concatMap field ns
+
+-- a word, numbers, and the line feed after every line
+abbrev pub line : List ℕ → List ℕ → List ℕ
+line word ns = word ++ fields ns ++ code "\n" ∷ []
+
+-- `tree`, axes, nodes, depth, sources, near work
+abbrev pub firstLine : ℕ → ℕ → ℕ → ℕ → ℕ → List ℕ
+firstLine axes nodes depth sources work = line (ascii "tree") (axes ∷ nodes ∷ depth ∷ sources ∷ work ∷ [])
+
+-- `refused`, number, value
+abbrev pub refusalLine : Refusal → List ℕ
+refusalLine r = line (ascii "refused") (numberOf r ∷ valueOf r ∷ [])
+
+-- a letter after a blank, and then keys
+abbrev pub lettered : ℕ → List ℕ → List ℕ
+lettered letter keys = code " " ∷ letter ∷ fields keys
+
+-- a tree's columns, and its rows as flat keys with their starts
+module _ (key own uStarts uKeys vStarts vKeys : List ℕ) where
+  -- number, key, own sources, U keys, V keys
+  unfoldable pub nodeLine : ℕ → List ℕ
+  nodeLine i = decimal i ++ field (getD key i 0) ++ field (getD own i 0) ++ lettered (code "U") (rowAt uStarts uKeys i) ++ lettered (code "V") (rowAt vStarts vKeys i) ++ code "\n" ∷ []
+
+  -- one a node
+  abbrev pub nodeLines : List ℕ
+  nodeLines = concatMap nodeLine (range 0 (length key))
+
+  abbrev pub listing : ℕ → ℕ → ℕ → ℕ → List ℕ
+  listing axes depth sources work = firstLine axes (length key) depth sources work ++ nodeLines
+
+-- ---- a text in a slice with so much room
+
+abbrev pub lengthOr : Bool → ℕ → Text
+lengthOr true n = Length n
+lengthOr false n = Short
+
+abbrev pub textOr : Bool → List ℕ → List ℕ
+textOr true text = text
+textOr false text = []
+
+-- its length, or that the room is short
+abbrev pub written : ℕ → List ℕ → Text
+written room text = lengthOr (leb (length text) room) (length text)
+
+-- the slice's end content: the text and then 0, or 0 throughout if the room is short
+abbrev pub left : ℕ → List ℕ → List ℕ
+left room text = filled room (textOr (leb (length text) room) text)
