@@ -98,3 +98,7 @@ module _ (d : ℕ) (keys own begin : List ℕ) (us uk vs vk : ℕ) where
       let o = done-of (listsCheck d keys own begin us uk vs vk) _ _ a b e in
       let p = both-done (startsCheck d keys own begin us vs then ask uFits (Room 6)) (ask vFits (Room 7)) o .0 in
       ready d keys own begin us vs (both-done (startsCheck d keys own begin us vs) (ask uFits (Room 6)) p .0) .tree
+
+  -- such a tree is sound, as the workers over it ask
+  pub listed-sound : (a b : ℕ) → lists.Listed a b ≡ listsAnswer d keys own begin us uk vs vk → SoundTree d keys own
+  listed-sound a b e = passed d keys own begin (listed-tree a b e)

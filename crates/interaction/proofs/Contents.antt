@@ -1,13 +1,12 @@
 -- What stands in the four slices at the end, and demand 3 of it.
-use mathlib.Core.Path.{_≡_, refl, sym, ap, _∙_}
-use mathlib.Core.Bool.{Bool, true, false}
+use mathlib.Core.Path.{_≡_, sym, ap, _∙_}
 use mathlib.Core.List.{List, [], _∷_}
-use Prim.Native.Nat.{ℕ, zero, suc, _+_, _≤_, _<_}
+use Prim.Native.Nat.{ℕ, zero, suc, _+_, _<_}
 use native.Mathlib.Omega.{arith}
 use lib.ListN.{length, getD, replicate, length-append}
 use Rattle.refusal.specs.declared.Refusal.the-variants.{Dims, Tree}
 use Rattle.refusal.specs.declared.Outcome.the-variants.{Done}
-use Rattle.refusal.specs.Chain.{ask, _then_}
+use Rattle.refusal.specs.Chain.{ask}
 use Rattle.refusal.proofs.Chain.{asked, both-done}
 use Rattle.slices.specs.Lists.{filled, concatMap}
 use Rattle.slices.proofs.Lists.{filled-none, getD-filled}
@@ -37,6 +36,10 @@ last-start row keys starts n e =
 pub zeros : (n m : ℕ) (s : List ℕ) → s ≡ replicate n 0 → n ≡ m → s ≡ filled m []
 zeros n m s e l = e ∙ ap (λ (k : ℕ). replicate k 0) l ∙ sym (filled-none m)
 
+-- ---- rows as they stand in slices with an unused rest
+pub filled-written : (row : ℕ → List ℕ) (keys starts flat : List ℕ) (m n : ℕ) → starts ≡ filled m (rowStarts row keys) → flat ≡ filled n (rowKeys row keys) → Written keys row starts flat
+filled-written row keys starts flat m n a b = record { more = _; rest = _; starts-are = a; keys-are = b }
+
 -- ---- demand 3 of what was written
 module _ (d : ℕ) (keys own begin us uk vs vk : List ℕ) (m n p q : ℕ) where
   pub demand-3 : treeCheck d keys own begin ≡ Done
@@ -45,6 +48,4 @@ module _ (d : ℕ) (keys own begin us uk vs vk : List ℕ) (m n p q : ℕ) where
       → Once d keys own begin (rowOf keys us uk) (rowOf keys vs vk) × Near d keys own begin (rowOf keys us uk) × Far d keys (rowOf keys vs vk) × Few d keys (rowOf keys vs vk)
   demand-3 h a b e f =
       let formed = asked (wellFormed d keys own begin) Tree (both-done (ask (axesKnown d) Dims) (ask (wellFormed d keys own begin) Tree) h .1) in
-      let u : Written keys (uRow d keys own) us uk = record { more = _; rest = _; starts-are = a; keys-are = b } in
-      let v : Written keys (vRow d keys own) vs vk = record { more = _; rest = _; starts-are = e; keys-are = f } in
-      demand.written d keys own begin formed us uk vs vk u v
+      demand.written d keys own begin formed us uk vs vk (filled-written _ keys us uk m n a b) (filled-written _ keys vs vk p q e f)

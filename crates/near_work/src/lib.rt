@@ -4,7 +4,7 @@ use refusal::Refusal;
 use tree::Found;
 ghost use mathlib.Core.Path.{_≡_};
 ghost use mathlib.Core.Bool.{true};
-ghost use Prim.Native.Nat.{ℕ, _≤_, _<_};
+ghost use Prim.Native.Nat.{_≤_, _<_};
 ghost use lib.ListN.{length, getD};
 ghost use Rattle.slices.specs.Lists.{filled};
 ghost use Rattle.tree.specs.Nodes.{ownOf};

@@ -1,5 +1,5 @@
 -- `work::get_near_work` meets its contract.
-use mathlib.Core.Path.{_≡_, refl, sym, ap, _∙_}
+use mathlib.Core.Path.{_≡_, sym, ap, _∙_}
 use mathlib.Core.Bool.{true}
 use Rattle.near_work.specs.Answers.{isWork}
 use Rattle.near_work.proofs.Checks.{zeros}

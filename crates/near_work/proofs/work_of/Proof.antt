@@ -3,7 +3,6 @@ use mathlib.Core.Path.{sym, ap, _∙_, subst}
 use Prim.Native.Nat.{_≤_}
 use native.Mathlib.Omega.{arith}
 use denote.Ref.{now}
-use lib.ListN.{getD}
 use borrow.Author.Tests.{not-true, not-false}
 use Rattle.tree.specs.WellFormed.{mostSources}
 use Rattle.morton.proofs.Checks.{axes-known}
