@@ -3,3 +3,5 @@ pub mod Starts
 pub mod Climbing
 pub mod Batch
 pub mod Calls
+pub mod Single
+pub mod Lowest

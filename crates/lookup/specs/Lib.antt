@@ -1,3 +1,4 @@
 pub mod Grouping
 pub mod Lookup
 pub mod Batch
+pub mod Single
