@@ -1,6 +1,4 @@
-pub mod Lists
 pub mod Queue
-pub mod Nodes
 pub mod Splitting
 pub mod Spans
 pub mod Putting

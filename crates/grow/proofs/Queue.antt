@@ -8,7 +8,10 @@ use lib.ListN.{length, getD, take, drop, length-append, take-append-drop, List·
 use lib.Seq.{take-suc, drop-at}
 use Rattle.slices.specs.Lists.{concatMap}
 use Rattle.slices.proofs.Lists.{concatMap-append}
-use Rattle.grow.proofs.Lists.{concat-one}
+
+concat-one : (f : ℕ → List ℕ) (x : ℕ) → concatMap f (x ∷ []) ≡ f x
+unfolding concatMap
+concat-one f x = append-nil (f x)
 
 unfoldable pub served : (ℕ → List ℕ) → List ℕ → ℕ → List ℕ
 served f ns i = 0 ∷ concatMap f (take i ns)

@@ -15,8 +15,9 @@ use Rattle.morton.specs.Keys.{children}
 use Rattle.growth.specs.Nodes.{kept}
 use Rattle.grow.specs.declared.Place.{Place}
 use Rattle.grow.specs.Queue.{Appended}
-use Rattle.grow.proofs.Nodes.{splits-above}
-use Rattle.grow.proofs.Growing.{Growing, growing-start, nodes-some, growing-end, growing-valid, growing-stay, growing-more, growing-short}
+use Rattle.growth.proofs.Kids.{splits-level}
+use Rattle.growth.proofs.Order.{nodes-some}
+use Rattle.grow.proofs.Growing.{Growing, growing-start, growing-end, growing-valid, growing-stay, growing-more, growing-short}
 use Rattle.grow.proofs.grow.Statement.{statement}
 use Rattle.grow.proofs.grow.Tie as tie
 
@@ -57,7 +58,7 @@ append-requires : tie.Need-append-requires Inv-loop μ-loop
 append-requires c κs =
     let s = c .before .before .before .before .before .before .before .before .before .before .before .before .before in
     let w = c .before .before .before .before .before .before .before .loop .inv in
-    (growing-valid _ _ _ (s .pre .0 .known) _ _ _ _ _ w (c .before .before .before .before .before .before .loop-test .taken), splits-above _ _ _ _ (sym (c .before .before .splits .ensures) ∙ c .before .if2 .taken), s .pre .0 .sorted, w .n≤, omega (arith, w .fits, w .same))
+    (growing-valid _ _ _ (s .pre .0 .known) _ _ _ _ _ w (c .before .before .before .before .before .before .loop-test .taken), splits-level _ _ _ _ (sym (c .before .before .splits .ensures) ∙ c .before .if2 .taken), s .pre .0 .sorted, w .n≤, omega (arith, w .fits, w .same))
 
 enum-known-m : tie.Need-enum-known-m Inv-loop μ-loop
 enum-known-m c = search needs

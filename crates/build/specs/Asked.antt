@@ -1,0 +1,42 @@
+-- Document 01, "How the tree grows": what a build is asked, and the tree that answers it.
+use mathlib.Core.Bool.{Bool, _&&_, cond}
+use mathlib.Core.List.{List, []}
+use Prim.Native.Nat.{ℕ}
+use lib.Ieee.{Float}
+use Rattle.space.specs.declared.Box.{Box}
+use Rattle.growth.specs.declared.Rule.{Rule}
+use Rattle.growth.specs.Nodes.{nodes}
+use Rattle.growth.specs.Columns.{ownColumn, beginColumn, orderColumn}
+use Rattle.laying.specs.Points.{codesOf}
+
+-- refinement acts only with both flags: without them the targets are not looked at, as if there were none
+abbrev pub used : Bool → Bool → List Float → List Float
+used keep refine targets = cond (keep && refine) targets []
+
+-- a build: the box, the cell limit, the order, whether empty cells are stored, the sources, and the targets that are used
+pub record Asked : Type 0 where
+  pub box : Box
+  pub limit : ℕ
+  pub order : ℕ
+  pub keep : Bool
+  pub sources : List Float
+  pub targets : List Float
+
+abbrev pub asks : Box → ℕ → ℕ → Bool → List Float → List Float → Asked
+asks b limit order keep sources targets = record { box = b; limit = limit; order = order; keep = keep; sources = sources; targets = targets }
+
+abbrev pub ruleOf : Asked → Rule
+ruleOf a = record { axes = a .box .axes; limit = a .limit; order = a .order; keep = a .keep }
+
+-- the columns of the tree
+unfoldable pub keyOf : Asked → List ℕ
+keyOf a = nodes (ruleOf a) (codesOf (a .box) (a .sources)) (codesOf (a .box) (a .targets))
+
+unfoldable pub ownOf : Asked → List ℕ
+ownOf a = ownColumn (a .box .axes) (keyOf a) (codesOf (a .box) (a .sources))
+
+unfoldable pub beginOf : Asked → List ℕ
+beginOf a = beginColumn (ownOf a)
+
+unfoldable pub orderOf : Asked → List ℕ
+orderOf a = orderColumn (a .box .axes) (keyOf a) (codesOf (a .box) (a .sources))

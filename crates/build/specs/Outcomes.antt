@@ -1,0 +1,50 @@
+-- Document 01: the refusals of a build, in the order 1, 2, 3, 4, 5, 6, 7, 8, and what it leaves in the lent slices.
+use mathlib.Core.Path.{_≡_}
+use mathlib.Core.List.{List}
+use Prim.Native.Nat.{ℕ, min}
+use lib.Dec.{leb}
+use lib.ListN.{length, replicate}
+use Rattle.refusal.specs.declared.Refusal.the-variants.{Room}
+use Rattle.refusal.specs.declared.Outcome.{Outcome}
+use Rattle.refusal.specs.declared.Outcome.the-variants.{Done, Refused}
+use Rattle.refusal.specs.Chain.{ask, _then_}
+use Rattle.slices.specs.Lists.{filled}
+use Rattle.tree.specs.Nodes.{depthOf}
+use Rattle.laying.specs.Points.{rowsOf}
+use Rattle.laying.specs.Outcomes.{callOutcome, insideOutcome, workOutcome}
+use Rattle.build.specs.declared.Built.{Built}
+use Rattle.build.specs.declared.Built.the-variants.{Tree, Refused as NotBuilt}
+use Rattle.build.specs.Asked.{Asked, keyOf, ownOf, beginOf, orderOf}
+
+-- the shortest of the three node columns, of which at most 1,048,576 entries count
+abbrev pub nodeRoom : ℕ → ℕ → ℕ → ℕ
+nodeRoom key own begin = min 1048576 (min key (min own begin))
+
+-- 8 ROOM: 2 the order, 3 the node columns, of which `nodes` entries count
+unfoldable pub columnOutcome : Asked → ℕ → ℕ → Outcome
+columnOutcome a order nodes = ask (leb (rowsOf (a .box) (a .sources)) order) (Room 2) then ask (leb (length (keyOf a)) nodes) (Room 3)
+
+abbrev pub buildOutcome : Asked → ℕ → ℕ → ℕ → Outcome
+buildOutcome a work order nodes =
+    callOutcome (a .box) (a .sources) (a .targets) (a .order)
+    then insideOutcome (a .box) (a .sources) (a .targets)
+    then workOutcome (a .box) (a .sources) (a .targets) work
+    then columnOutcome a order nodes
+
+-- the number of nodes and the depth, or the refusal
+abbrev pub treeOr : Outcome → List ℕ → Built
+treeOr Done key = Tree (length key) (depthOf key)
+treeOr (Refused r) key = NotBuilt r
+
+-- a slice's end content: the answer and zeros, or zeros throughout
+abbrev pub written : Outcome → ℕ → List ℕ → List ℕ
+written Done room answer = filled room answer
+written (Refused r) room answer = replicate room 0
+
+-- the slices after a build that is not refused, by the length of each
+pub record Columns (a : Asked) (work order key own begin : List ℕ) (works orders keys owns begins : ℕ) : Type 0 where
+  pub worked : work ≡ replicate works 0
+  pub ordered : order ≡ filled orders (orderOf a)
+  pub keyed : key ≡ filled keys (keyOf a)
+  pub owned : own ≡ filled owns (ownOf a)
+  pub begun : begin ≡ filled begins (beginOf a)

@@ -1,0 +1,209 @@
+// The tree grown from points: `build_tree` of `linear_tree.rs`, without its lists.
+use grow::Grown;
+use growth::Rule;
+use refusal::Outcome;
+use refusal::Refusal;
+use space::Box;
+ghost use mathlib.Core.Path.{_≡_};
+ghost use mathlib.Core.List.{_++_};
+ghost use Prim.Native.Nat.{_+_, _-_, _≤_, min};
+ghost use lib.ListN.{length, take, replicate};
+ghost use Rattle.refusal.specs.declared.Outcome.the-variants.{Done};
+ghost use Rattle.slices.specs.Lists.{filled};
+ghost use Rattle.tree.specs.Nodes.{depthOf};
+ghost use Rattle.growth.specs.Nodes.{nodes};
+ghost use Rattle.growth.specs.Columns.{ownColumn, beginColumn, orderColumn};
+ghost use Rattle.grow.specs.Queue.{Points, Grows};
+ghost use Rattle.arrange.specs.Sources.{InLeaves};
+ghost use Rattle.laying.specs.Points.{part};
+ghost use Rattle.build.specs.Asked.{used, asks, keyOf, ownOf, beginOf, orderOf};
+ghost use Rattle.build.specs.Outcomes.{nodeRoom, buildOutcome, treeOr, written, Columns};
+
+pub const MOST_NODES: usize = 1048576;
+
+// The number of nodes and the depth, or why there is no tree.
+pub enum Built {
+    Tree(usize, u64),
+    Refused(Refusal),
+}
+
+// The targets that are used: all with both flags, else none.
+fn used_targets<'a>(targets: &'a [f64], keep: bool, refine: bool) -> &'a [f64]
+    ensures { λ r. ⌜ now r ≡ used keep refine (now (targets .entry)) ⌝ }
+{
+    if !keep {
+        return &targets[..0];
+    }
+    if !refine {
+        return &targets[..0];
+    }
+    targets
+}
+
+// The smaller of two numbers.
+fn smaller(a: usize, b: usize) -> usize
+    ensures { λ r. ⌜ r ≡ min a b ⌝ }
+{
+    if a < b { a } else { b }
+}
+
+// How many entries of the node columns count.
+fn node_room(key: usize, own: usize, begin: usize) -> usize
+    ensures { λ r. ⌜ r ≡ nodeRoom key own begin ⌝ }
+{
+    smaller(MOST_NODES, smaller(key, smaller(own, begin)))
+}
+
+// Grows the nodes from the sorted codes in the work.
+fn grow_nodes(
+    g: Rule,
+    rows: usize,
+    marks: usize,
+    work: &[u64],
+    key: &mut [u64],
+    room: usize,
+) -> Grown
+    requires { ⌜ (rows + rows + marks ≤ length (now work)) × Points g (part rows rows (now work)) (part (rows + rows) marks (now work)) × (room ≤ length (now key)) ⌝ }
+    ensures { λ r. ⌜ Grows (now (key .exit)) room (nodes g (part rows rows (now (work .entry))) (part (rows + rows) marks (now (work .entry)))) r ⌝ }
+{
+    let twice = rows + rows;
+    let all = twice + marks;
+    grow::grow(g, &work[rows..twice], &work[twice..all], key, room)
+}
+
+// Arranges the sources beside the first n keys, clears what is unused, and answers the depth.
+fn finish(
+    axes: usize,
+    rows: usize,
+    n: usize,
+    work: &mut [u64],
+    indices: &mut [usize],
+    key: &mut [u64],
+    own: &mut [usize],
+    begin: &mut [usize],
+) -> u64
+    requires { ⌜ InLeaves axes (take n (now key)) (take rows (now work)) × (rows ≤ length (now work)) × (rows ≤ length (now indices)) × (n ≤ length (now key)) × (n ≤ length (now own)) × (n ≤ length (now begin)) ⌝ }
+    ensures { λ r. ⌜ r ≡ depthOf (take n (now (key .entry))) ⌝ }
+    ensures { λ _. ⌜ now (work .exit) ≡ replicate (length (now (work .entry))) 0 ⌝ }
+    ensures { λ _. ⌜ now (indices .exit) ≡ filled (length (now (indices .entry))) (orderColumn axes (take n (now (key .entry))) (take rows (now (work .entry)))) ⌝ }
+    ensures { λ _. ⌜ now (key .exit) ≡ take n (now (key .entry)) ++ replicate (length (now (key .entry)) - n) 0 ⌝ }
+    ensures { λ _. ⌜ now (own .exit) ≡ filled (length (now (own .entry))) (ownColumn axes (take n (now (key .entry))) (take rows (now (work .entry)))) ⌝ }
+    ensures { λ _. ⌜ now (begin .exit) ≡ filled (length (now (begin .entry))) (beginColumn (ownColumn axes (take n (now (key .entry))) (take rows (now (work .entry))))) ⌝ }
+{
+    let depth = tree::depth_of(&key[..n]);
+    arrange::arrange(axes, &key[..n], &mut work[..rows], own, begin, indices);
+    slices::clear(work);
+    slices::clear_from(key, n);
+    depth
+}
+
+// Builds the tree of the targets that are used. After a refusal the slices hold anything.
+fn attempt(
+    b: Box,
+    sources: &[f64],
+    targets: &[f64],
+    limit: usize,
+    order: usize,
+    keep: bool,
+    work: &mut [u64],
+    indices: &mut [usize],
+    key: &mut [u64],
+    own: &mut [usize],
+    begin: &mut [usize],
+) -> Built
+    ensures { λ r. ⌜ r ≡ treeOr (buildOutcome (asks b limit order keep (now (sources .entry)) (now (targets .entry))) (length (now (work .entry))) (length (now (indices .entry))) (nodeRoom (length (now (key .entry))) (length (now (own .entry))) (length (now (begin .entry))))) (keyOf (asks b limit order keep (now (sources .entry)) (now (targets .entry)))) ⌝ }
+    ensures { λ _. ⌜ (buildOutcome (asks b limit order keep (now (sources .entry)) (now (targets .entry))) (length (now (work .entry))) (length (now (indices .entry))) (nodeRoom (length (now (key .entry))) (length (now (own .entry))) (length (now (begin .entry)))) ≡ Done → Columns (asks b limit order keep (now (sources .entry)) (now (targets .entry))) (now (work .exit)) (now (indices .exit)) (now (key .exit)) (now (own .exit)) (now (begin .exit)) (length (now (work .entry))) (length (now (indices .entry))) (length (now (key .entry))) (length (now (own .entry))) (length (now (begin .entry)))) ⌝ }
+{
+    let prepared = laying::prepare(b, sources, targets, order, work);
+    if let Outcome::Refused(refusal) = prepared {
+        return Built::Refused(refusal);
+    }
+    let axes = b.axes;
+    let rows = sources.len() / axes;
+    let marks = targets.len() / axes;
+    if indices.len() < rows {
+        return Built::Refused(Refusal::Room(2));
+    }
+    let g = Rule {
+        axes,
+        limit,
+        order,
+        keep,
+    };
+    let room = node_room(key.len(), own.len(), begin.len());
+    let grown = grow_nodes(g, rows, marks, work, key, room);
+    match grown {
+        Grown::Full => Built::Refused(Refusal::Room(3)),
+        Grown::Nodes(n) => {
+            let depth = finish(axes, rows, n, work, indices, key, own, begin);
+            Built::Tree(n, depth)
+        }
+    }
+}
+
+// Clears every lent slice.
+fn clear_all(
+    work: &mut [u64],
+    indices: &mut [usize],
+    key: &mut [u64],
+    own: &mut [usize],
+    begin: &mut [usize],
+)
+    ensures { λ _. ⌜ now (work .exit) ≡ replicate (length (now (work .entry))) 0 ⌝ }
+    ensures { λ _. ⌜ now (indices .exit) ≡ replicate (length (now (indices .entry))) 0 ⌝ }
+    ensures { λ _. ⌜ now (key .exit) ≡ replicate (length (now (key .entry))) 0 ⌝ }
+    ensures { λ _. ⌜ now (own .exit) ≡ replicate (length (now (own .entry))) 0 ⌝ }
+    ensures { λ _. ⌜ now (begin .exit) ≡ replicate (length (now (begin .entry))) 0 ⌝ }
+{
+    slices::clear(work);
+    slices::clear_usize(indices);
+    slices::clear(key);
+    slices::clear_usize(own);
+    slices::clear_usize(begin);
+}
+
+// The tree of the sources: its keys, own sources and begins, and the order column in `indices`.
+// `order` is that of the expansions, and `keep` and `refine` are the two flags.
+pub fn build_tree(
+    b: Box,
+    sources: &[f64],
+    targets: &[f64],
+    limit: usize,
+    order: usize,
+    keep: bool,
+    refine: bool,
+    work: &mut [u64],
+    indices: &mut [usize],
+    key: &mut [u64],
+    own: &mut [usize],
+    begin: &mut [usize],
+) -> Built
+    ensures { λ r. ⌜ r ≡ treeOr (buildOutcome (asks b limit order keep (now (sources .entry)) (used keep refine (now (targets .entry)))) (length (now (work .entry))) (length (now (indices .entry))) (nodeRoom (length (now (key .entry))) (length (now (own .entry))) (length (now (begin .entry))))) (keyOf (asks b limit order keep (now (sources .entry)) (used keep refine (now (targets .entry))))) ⌝ }
+    ensures { λ _. ⌜ now (work .exit) ≡ replicate (length (now (work .entry))) 0 ⌝ }
+    ensures { λ _. ⌜ now (indices .exit) ≡ written (buildOutcome (asks b limit order keep (now (sources .entry)) (used keep refine (now (targets .entry)))) (length (now (work .entry))) (length (now (indices .entry))) (nodeRoom (length (now (key .entry))) (length (now (own .entry))) (length (now (begin .entry))))) (length (now (indices .entry))) (orderOf (asks b limit order keep (now (sources .entry)) (used keep refine (now (targets .entry))))) ⌝ }
+    ensures { λ _. ⌜ now (key .exit) ≡ written (buildOutcome (asks b limit order keep (now (sources .entry)) (used keep refine (now (targets .entry)))) (length (now (work .entry))) (length (now (indices .entry))) (nodeRoom (length (now (key .entry))) (length (now (own .entry))) (length (now (begin .entry))))) (length (now (key .entry))) (keyOf (asks b limit order keep (now (sources .entry)) (used keep refine (now (targets .entry))))) ⌝ }
+    ensures { λ _. ⌜ now (own .exit) ≡ written (buildOutcome (asks b limit order keep (now (sources .entry)) (used keep refine (now (targets .entry)))) (length (now (work .entry))) (length (now (indices .entry))) (nodeRoom (length (now (key .entry))) (length (now (own .entry))) (length (now (begin .entry))))) (length (now (own .entry))) (ownOf (asks b limit order keep (now (sources .entry)) (used keep refine (now (targets .entry))))) ⌝ }
+    ensures { λ _. ⌜ now (begin .exit) ≡ written (buildOutcome (asks b limit order keep (now (sources .entry)) (used keep refine (now (targets .entry)))) (length (now (work .entry))) (length (now (indices .entry))) (nodeRoom (length (now (key .entry))) (length (now (own .entry))) (length (now (begin .entry))))) (length (now (begin .entry))) (beginOf (asks b limit order keep (now (sources .entry)) (used keep refine (now (targets .entry))))) ⌝ }
+{
+    let marked = used_targets(targets, keep, refine);
+    let built = attempt(
+        b,
+        sources,
+        marked,
+        limit,
+        order,
+        keep,
+        work,
+        indices,
+        key,
+        own,
+        begin,
+    );
+    match built {
+        Built::Tree(nodes, depth) => Built::Tree(nodes, depth),
+        Built::Refused(refusal) => {
+            clear_all(work, indices, key, own, begin);
+            Built::Refused(refusal)
+        }
+    }
+}
