@@ -1,23 +1,20 @@
 -- A batch of codes: the leaves' keys take the place of the codes, row by row.
 use mathlib.Core.Path.{_≡_, refl, sym, ap, ap₂, _∙_}
 use mathlib.Core.Bool.{Bool, true, false}
-use mathlib.Core.List.{List, [], _∷_, _++_, map}
-use Prim.Native.Nat.{ℕ, zero, suc, _+_, _*_, _-_, _≤_, _<_, max}
+use mathlib.Core.List.{List, _++_, map}
+use Prim.Native.Nat.{ℕ, suc, _+_, _*_, _-_, _≤_, _<_}
 use native.Mathlib.Omega.{arith}
-use native.Mathlib.Nat.{zero-add, le-of-suc-le-suc, not-suc-le-zero}
+use native.Mathlib.Nat.{zero-add}
 use native.Mathlib.Numerals.{add-one}
-use lib.Dec.{eqb}
 use lib.ListN.{length, getD, take, drop, set, length-set, length-take, drop-of-length-le}
 use lib.Seq.{drop-cons, getD-take, take-all}
 use borrow.Author.Tests.{eq-eqb, ne-eqb}
 use Rattle.slices.specs.Lists.{sum}
-use Rattle.slices.proofs.Tests.{clash}
 use Rattle.tree.specs.Nodes.{depthOf}
 use Rattle.tree.specs.WellFormed.{keysAscend}
 use Rattle.tree.proofs.Rules.{ascend-facts}
 use Rattle.lookup.specs.declared.Climb.the-variants.{Leaf, Unstored}
 use Rattle.lookup.specs.declared.Climbs.the-variants.{Ended, Failed}
-use Rattle.lookup.specs.Grouping.{mostPoints, passing}
 use Rattle.grouping.proofs.Values.{up-more, up-next}
 use Rattle.climb.specs.Leaves.{held, leafKey, stepsTo}
 use Rattle.climb.proofs.Answers.{depth-most}

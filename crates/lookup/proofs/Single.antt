@@ -2,19 +2,17 @@
 use mathlib.Core.Path.{_≡_, refl, sym, ap, ap₂, _∙_}
 use mathlib.Core.Bool.{Bool, true, false}
 use mathlib.Core.List.{List}
-use Prim.Native.Nat.{ℕ, _+_, _*_, _-_, _/_, _%_, _^_, _≤_, _<_}
+use Prim.Native.Nat.{ℕ, _+_, _*_, _-_, _/_, _^_}
 use native.Mathlib.Omega.{arith}
 use lib.Ieee.{Float}
 use Rattle.refusal.specs.declared.Refusal.{Refusal}
 use Rattle.refusal.specs.declared.Refusal.the-variants.{Tree, Point, Unstored}
-use Rattle.refusal.specs.declared.Outcome.{Outcome}
 use Rattle.refusal.specs.declared.Outcome.the-variants.{Done, Refused}
 use Rattle.refusal.specs.Chain.{ask, _then_}
 use Rattle.refusal.proofs.Chain.{asked, both-done, after-done, after-refused}
 use Rattle.space.specs.declared.Box.{Box}
 use Rattle.space.specs.Domain.{boxOutcome, levelOutcome}
 use Rattle.space.specs.Cells.{frameOf, inside, code16}
-use Rattle.morton.specs.Keys.{above}
 use Rattle.morton.proofs.Cells.{above-zero}
 use Rattle.tree.specs.Nodes.{depthOf}
 use Rattle.tree.specs.WellFormed.{wellFormed}
@@ -29,7 +27,7 @@ use Rattle.lookup.specs.declared.Climb.{Climb}
 use Rattle.lookup.specs.declared.Climb.the-variants.{Leaf, Unstored as NoClimb}
 use Rattle.lookup.specs.declared.PointLeaf.the-variants.{Leaf as Found, Refused as NoLeaf}
 use Rattle.lookup.specs.Lookup.{climbTo}
-use Rattle.lookup.specs.Single.{treeOutcome, leafOrRefusal, codeLeaf, singleOutcome, pointToLeaf}
+use Rattle.lookup.specs.Single.{treeOutcome, leafOrRefusal, codeLeaf, pointToLeaf}
 use Rattle.lookup.proofs.Batch.{climb-leaf, climb-not}
 
 -- ---- the leaf of a code

@@ -1,5 +1,5 @@
 -- `lookup::point_to_leaf` meets its contract.
-use mathlib.Core.Path.{_≡_, sym, _∙_}
+use mathlib.Core.Path.{sym, _∙_}
 use native.Mathlib.Omega.{arith}
 use denote.Ref.{now}
 use Rattle.space.specs.Cells.{frameOf}

@@ -1,5 +1,5 @@
 -- `lookup::tree_outcome` meets its contract.
-use mathlib.Core.Path.{_≡_, sym, _∙_}
+use mathlib.Core.Path.{sym, _∙_}
 use mathlib.Core.Bool.{true, false}
 use mathlib.Core.List.{[]}
 use denote.Ref.{now}
