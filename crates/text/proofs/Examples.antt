@@ -1,6 +1,7 @@
 -- Document 01's example, computed from the definitions: from the columns of its tree to the listing printed there.
 use mathlib.Core.Path.{_≡_, refl}
 use mathlib.Core.List.{List, [], _∷_, _++_}
+use lib.ListN.{getD}
 use Rattle.refusal.specs.declared.Refusal.the-variants.{Room}
 use Rattle.slices.specs.Every.{every}
 use Rattle.slices.specs.Lists.{concatMap, range, any, filter, sum}
@@ -10,12 +11,11 @@ use Rattle.morton.specs.Anchors.{near}
 use Rattle.tree.specs.Nodes.{depthOf, leaf, ownOf, sourced}
 use Rattle.tree.proofs.Examples.{keys₁, own₁}
 use Rattle.rows.specs.Lists.{inU, inV, uRow, vRow, nearWork}
-use Rattle.rows.specs.Written.{startsFrom, rowStarts, rowKeys}
 use Rattle.text.specs.Characters.{ascii}
 use Rattle.text.specs.Digits.{digits, decimal}
 use Rattle.text.specs.Listing.{nodeLine, listing, refusalLine}
 
-pub example : listing keys₁ own₁ (rowStarts (uRow 1 keys₁ own₁) keys₁) (rowKeys (uRow 1 keys₁ own₁) keys₁) (rowStarts (vRow 1 keys₁ own₁) keys₁) (rowKeys (vRow 1 keys₁ own₁) keys₁) 1 (depthOf keys₁) 4 (nearWork 1 keys₁ own₁)
+pub example : listing keys₁ own₁ (λ i. uRow 1 keys₁ own₁ (getD keys₁ i 0)) (λ i. vRow 1 keys₁ own₁ (getD keys₁ i 0)) 1 (depthOf keys₁) 4 (nearWork 1 keys₁ own₁)
     ≡ ascii "tree 1 9 3 4 8\n"
     ++ ascii "0 0 0 U V\n"
     ++ ascii "1 1 0 U V\n"
@@ -26,7 +26,7 @@ pub example : listing keys₁ own₁ (rowStarts (uRow 1 keys₁ own₁) keys₁)
     ++ ascii "6 32771 1 U 3 32771 V\n"
     ++ ascii "7 196611 1 U 196611 229379 V\n"
     ++ ascii "8 229379 1 U 196611 229379 V\n"
-unfolding nodeLine concatMap range digits startsFrom nearWork sum uRow inU vRow inV leaf sourced ownOf any ascending filter near every upwards
+unfolding nodeLine concatMap range digits nearWork sum uRow inU vRow inV leaf sourced ownOf any ascending filter near every upwards
 example = refl
 
 pub short : refusalLine (Room 3) ≡ ascii "refused 8 3\n"

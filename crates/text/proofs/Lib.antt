@@ -1,3 +1,4 @@
 pub mod Putting
+pub mod Columns
 pub mod Bound
 pub mod Examples

@@ -8,7 +8,6 @@ use lib.ListN.{length, getD}
 use Rattle.refusal.specs.declared.Refusal.{Refusal}
 use Rattle.refusal.specs.Numbers.{numberOf, valueOf}
 use Rattle.slices.specs.Lists.{range, concatMap, filled}
-use Rattle.rows.specs.Written.{rowAt}
 use Rattle.text.specs.declared.Text.{Text}
 use Rattle.text.specs.declared.Text.the-variants.{Length, Short}
 use Rattle.text.specs.Characters.{ascii}
@@ -37,11 +36,11 @@ refusalLine r = line (ascii "refused") (numberOf r ∷ valueOf r ∷ [])
 abbrev pub lettered : ℕ → List ℕ → List ℕ
 lettered letter keys = code " " ∷ letter ∷ fields keys
 
--- a tree's columns, and its rows as flat keys with their starts
-module _ (key own uStarts uKeys vStarts vKeys : List ℕ) where
+-- a tree's columns, and the U and V row of each node
+module _ (key own : List ℕ) (u v : ℕ → List ℕ) where
   -- number, key, own sources, U keys, V keys
   unfoldable pub nodeLine : ℕ → List ℕ
-  nodeLine i = decimal i ++ field (getD key i 0) ++ field (getD own i 0) ++ lettered (code "U") (rowAt uStarts uKeys i) ++ lettered (code "V") (rowAt vStarts vKeys i) ++ code "\n" ∷ []
+  nodeLine i = decimal i ++ field (getD key i 0) ++ field (getD own i 0) ++ lettered (code "U") (u i) ++ lettered (code "V") (v i) ++ code "\n" ∷ []
 
   -- one a node
   abbrev pub nodeLines : List ℕ

@@ -5,13 +5,14 @@ use lib.ListN.{length}
 use denote.Ref.{now}
 use borrow.Author.Needs.{needs}
 use Rattle.slices.specs.Lists.{range, concatMap}
+use Rattle.rows.specs.Written.{rowAt}
 use Rattle.text.specs.Listing.{nodeLine}
 use Rattle.text.proofs.Putting.{Turns, turns-none, turns-more, turns-all, numbered-none, numbered-more}
 use Rattle.text.proofs.put_nodes.Statement.{statement}
 use Rattle.text.proofs.put_nodes.Tie as tie
 
 abbrev Inv-loop : tie.InvT-loop
-Inv-loop out₀ n key own u-starts u-keys v-starts v-keys m₀ node₀ out m node = Turns (λ k. concatMap (nodeLine key own u-starts u-keys v-starts v-keys) (range 0 k)) out₀ n out m node (length key)
+Inv-loop out₀ n key own u-starts u-keys v-starts v-keys m₀ node₀ out m node = Turns (λ k. concatMap (nodeLine key own (rowAt u-starts u-keys) (rowAt v-starts v-keys)) (range 0 k)) out₀ n out m node (length key)
 
 abbrev μ-loop : tie.MeasureT-loop
 μ-loop out₀ n key own u-starts u-keys v-starts v-keys m₀ node₀ out m node = length key - node
@@ -19,7 +20,7 @@ abbrev μ-loop : tie.MeasureT-loop
 loop-holds : tie.Need-loop-holds Inv-loop μ-loop
 loop-holds c =
     let a = c .before .before .before .before .before .before .before .args in
-    turns-none (λ k. concatMap (nodeLine (now (a .key)) (now (a .own)) (now (a .u-starts)) (now (a .u-keys)) (now (a .v-starts)) (now (a .v-keys))) (range 0 k)) _ _ _ (numbered-none (nodeLine (now (a .key)) (now (a .own)) (now (a .u-starts)) (now (a .u-keys)) (now (a .v-starts)) (now (a .v-keys))))
+    turns-none (λ k. concatMap (nodeLine (now (a .key)) (now (a .own)) (rowAt (now (a .u-starts)) (now (a .u-keys))) (rowAt (now (a .v-starts)) (now (a .v-keys)))) (range 0 k)) _ _ _ (numbered-none (nodeLine (now (a .key)) (now (a .own)) (rowAt (now (a .u-starts)) (now (a .u-keys))) (rowAt (now (a .v-starts)) (now (a .v-keys)))))
 
 put-node-requires : tie.Need-put-node-requires Inv-loop μ-loop
 put-node-requires c κs = search needs
@@ -33,7 +34,7 @@ loop-less c = search needs
 loop-again : tie.Need-loop-again Inv-loop μ-loop
 loop-again c =
     let a = c .before .before .before .before .before .before .before .before .before .before .before .before .before .args in
-    turns-more _ _ _ _ _ _ _ (c .before .before .before .before .before .loop .inv) (c .before .before .before .before .loop-test .taken) _ _ _ (c .before .before .put-node .kept .0) (c .before .before .put-node .ensures) (numbered-more (nodeLine (now (a .key)) (now (a .own)) (now (a .u-starts)) (now (a .u-keys)) (now (a .v-starts)) (now (a .v-keys))) (c .before .before .before .before .before .loop .node))
+    turns-more _ _ _ _ _ _ _ (c .before .before .before .before .before .loop .inv) (c .before .before .before .before .loop-test .taken) _ _ _ (c .before .before .put-node .kept .0) (c .before .before .put-node .ensures) (numbered-more (nodeLine (now (a .key)) (now (a .own)) (rowAt (now (a .u-starts)) (now (a .u-keys))) (rowAt (now (a .v-starts)) (now (a .v-keys)))) (c .before .before .before .before .before .loop .node))
 
 same-length : tie.Need-same-length Inv-loop μ-loop
 same-length c = c .before .loop .inv .kept

@@ -1,0 +1,349 @@
+//! Lohandema beside the customer's Rust and beside plain Rust with sorted vectors: one process, one thread, identical trees.
+//! `run` beside this folder starts it. For each measure the least of several times counts.
+mod plain;
+mod shapes;
+
+use faer::MatRef;
+use ferreus_bbfmm::bbfmm::{Dimensions, TreeLists};
+use ferreus_bbfmm::linear_tree;
+use lohandema::lent;
+use lohandema::points::Bounds;
+use lohandema::trees::{Lists, Rows, Tree};
+use plain::Plain;
+use std::collections::HashMap;
+use std::hint::black_box;
+use std::time::Instant;
+
+const LIMIT: usize = 64;
+const ORDER: usize = 5;
+const POINTS: usize = 100_000;
+const MANY: usize = 800_000;
+
+/// Whether a call is to be measured: all are, or the one after `--only`.
+fn wanted(call: &str) -> bool {
+    let words: Vec<String> = std::env::args().collect();
+    let only = words.iter().position(|word| word == "--only");
+    only.is_none_or(|at| words.get(at + 1).is_some_and(|word| word == call))
+}
+
+unsafe extern "C" {
+    fn clock_gettime(clock: i32, time: *mut [i64; 2]) -> i32;
+}
+
+/// The time that this thread has had on a processor, in milliseconds: a loaded machine does not lengthen it much.
+fn thread_time() -> f64 {
+    const CLOCK_THREAD_CPUTIME_ID: i32 = 3;
+    let mut time = [0; 2];
+    let status = unsafe { clock_gettime(CLOCK_THREAD_CPUTIME_ID, &mut time) };
+    assert_eq!(status, 0);
+    time[0] as f64 * 1e3 + time[1] as f64 / 1e6
+}
+
+/// The least time of so many runs, in milliseconds; after 10 seconds, of those made so far.
+fn least<T>(runs: usize, mut run: impl FnMut() -> T) -> f64 {
+    let mut best = f64::INFINITY;
+    let start = Instant::now();
+    for _ in 0..runs {
+        let from = thread_time();
+        black_box(run());
+        best = best.min(thread_time() - from);
+        if start.elapsed().as_secs() >= 10 {
+            break;
+        }
+    }
+    best
+}
+
+fn matrix(points: &[f64]) -> MatRef<'_, f64> {
+    MatRef::from_row_major_slice(points, points.len() / 3, 3)
+}
+
+fn rust_build(b: &Bounds, points: &[f64], keep: bool) -> (TreeLists, u64) {
+    let mut depth = 0;
+    let lists = linear_tree::build_tree(
+        matrix(points),
+        &b.centre.to_vec(),
+        b.radius,
+        LIMIT,
+        keep,
+        &mut depth,
+        Dimensions::Three,
+        ORDER,
+        None,
+    );
+    (lists, depth)
+}
+
+/// The Rust's tree as columns.
+fn columns(lists: &TreeLists) -> Tree {
+    let mut key: Vec<u64> = lists.tree.iter().copied().collect();
+    key.sort_by_key(|k| (k % 32768, k / 32768));
+    let (mut own, mut begin, mut order) = (vec![], vec![], vec![]);
+    for k in &key {
+        begin.push(order.len());
+        let sources = lists.leaf_source_indices.get(k).map_or(&[][..], |v| v);
+        own.push(sources.len());
+        order.extend_from_slice(sources);
+    }
+    Tree {
+        axes: 3,
+        key,
+        own,
+        begin,
+        order,
+    }
+}
+
+fn rust_lists(b: &Bounds, l: &TreeLists) -> usize {
+    let (u, v, _) = linear_tree::get_interaction_lists(
+        &l.tree,
+        &l.leaves,
+        &l.children,
+        &l.leaf_source_indices,
+        &b.centre,
+        b.radius,
+        &Dimensions::Three,
+    );
+    u.len() + v.len()
+}
+
+/// The slices that a list call is lent, made once.
+struct Lent {
+    u_starts: Vec<usize>,
+    u_keys: Vec<u64>,
+    v_starts: Vec<usize>,
+    v_keys: Vec<u64>,
+}
+
+impl Lent {
+    fn new(tree: &Tree, u: &Rows, v: &Rows) -> Lent {
+        Lent {
+            u_starts: vec![0; tree.key.len() + 1],
+            u_keys: vec![0; u.keys.len()],
+            v_starts: vec![0; tree.key.len() + 1],
+            v_keys: vec![0; v.keys.len()],
+        }
+    }
+
+    fn fill(&mut self, tree: &Tree) -> (usize, usize) {
+        lent::get_interaction_lists(
+            3,
+            tree.columns(),
+            &mut self.u_starts,
+            &mut self.u_keys,
+            &mut self.v_starts,
+            &mut self.v_keys,
+        )
+        .expect("room enough")
+    }
+}
+
+fn flat(rows: &Rows) -> plain::Flat {
+    plain::Flat {
+        starts: rows.starts.clone(),
+        keys: rows.keys.clone(),
+    }
+}
+
+/// The columns that a build is lent, made once.
+struct Room {
+    work: Vec<u64>,
+    order: Vec<usize>,
+    key: Vec<u64>,
+    own: Vec<usize>,
+    begin: Vec<usize>,
+}
+
+impl Room {
+    fn new(points: usize, nodes: usize) -> Room {
+        Room {
+            work: vec![0; 2 * points],
+            order: vec![0; points],
+            key: vec![0; nodes],
+            own: vec![0; nodes],
+            begin: vec![0; nodes],
+        }
+    }
+
+    fn build(&mut self, b: &Bounds, points: &[f64], keep: bool) -> (usize, u64) {
+        let asked = lent::Asked {
+            bounds: b,
+            sources: points,
+            targets: &[],
+            limit: LIMIT,
+            order: ORDER,
+            keep_empty: keep,
+            refine: false,
+        };
+        lent::build_tree(
+            asked,
+            &mut self.work,
+            &mut self.order,
+            &mut self.key,
+            &mut self.own,
+            &mut self.begin,
+        )
+        .expect("room enough")
+    }
+}
+
+fn ratio(call: &str, beside: &str, shape: &str, keep: bool, ours: f64, theirs: f64) {
+    let keep = if keep { "on" } else { "off" };
+    println!("  {call} {shape} keep-empty {keep}: ours {ours:.2} ms, {beside} {theirs:.2} ms");
+    println!("ratio {call} {beside} {shape} {keep} {:.3}", ours / theirs);
+}
+
+/// A shape's tree as the Rust builds it, and the same in columns.
+struct Survey {
+    shape: &'static str,
+    keep: bool,
+    points: Vec<f64>,
+    built: TreeLists,
+    depth: u64,
+    tree: Tree,
+}
+
+impl Survey {
+    fn new(shape: &'static str, keep: bool) -> Survey {
+        let points = shapes::points(shape, POINTS);
+        let (built, depth) = rust_build(&shapes::bounds(), &points, keep);
+        let tree = columns(&built);
+        assert_eq!(tree.depth(), depth);
+        println!(
+            "{shape}, keep-empty {keep}: {} nodes, depth {depth}",
+            tree.key.len()
+        );
+        Survey {
+            shape,
+            keep,
+            points,
+            built,
+            depth,
+            tree,
+        }
+    }
+
+    fn ratio(&self, call: &str, beside: &str, ours: f64, theirs: f64) {
+        ratio(call, beside, self.shape, self.keep, ours, theirs);
+    }
+
+    /// The build, beside the Rust's less its lists: identical trees, then times.
+    fn build(&self, runs: usize) {
+        let (b, tree) = (shapes::bounds(), &self.tree);
+        let mut room = Room::new(POINTS, tree.key.len());
+        let (nodes, _) = room.build(&b, &self.points, self.keep);
+        assert!(nodes == tree.key.len() && room.key == tree.key && room.own == tree.own);
+        assert!(room.begin == tree.begin && room.order == tree.order);
+        let ours = least(runs, || room.build(&b, &self.points, self.keep));
+        let whole = least(runs.max(7), || rust_build(&b, &self.points, self.keep));
+        let lists = least(runs.max(7), || rust_lists(&b, &self.built));
+        self.ratio("build", "rust", ours, whole - lists);
+    }
+
+    /// The rows of all sides are the same.
+    fn same_rows(&self, rows: &Lists) {
+        let plain = Plain::new(3, Dimensions::Three, &self.tree.key, &self.tree.own);
+        let right = (flat(&rows.u), flat(&rows.v));
+        assert!(plain.lists_searched() == right && plain.lists_kept() == right);
+        for (node, k) in self.tree.key.iter().enumerate() {
+            let row = |map: &HashMap<u64, Vec<u64>>| map.get(k).cloned().unwrap_or_default();
+            assert_eq!(rows.u.row(node), row(&self.built.u_lists));
+            assert_eq!(rows.v.row(node), row(&self.built.v_lists));
+        }
+    }
+
+    /// The lists, beside the Rust's and beside both plain readings.
+    fn lists(&self, runs: usize) {
+        let (b, tree) = (shapes::bounds(), &self.tree);
+        let rows = tree.get_interaction_lists().expect("room");
+        self.same_rows(&rows);
+        let mut slices = Lent::new(tree, &rows.u, &rows.v);
+        let ours = least(runs, || slices.fill(tree));
+        self.ratio(
+            "lists",
+            "rust",
+            ours,
+            least(3, || rust_lists(&b, &self.built)),
+        );
+        let plain = || Plain::new(3, Dimensions::Three, &tree.key, &tree.own);
+        self.ratio(
+            "lists",
+            "searched",
+            ours,
+            least(runs, || plain().lists_searched()),
+        );
+        self.ratio("lists", "kept", ours, least(runs, || plain().lists_kept()));
+    }
+
+    /// The lookup of all points, beside the Rust's: identical leaves, then times.
+    fn lookup(&self, runs: usize) {
+        let b = shapes::bounds();
+        let mut output = vec![0; POINTS];
+        let mut ours = || lent::points_to_keys(&b, self.tree.columns(), &self.points, &mut output);
+        ours().expect("stored");
+        let time = least(runs, &mut ours);
+        let theirs = || {
+            linear_tree::points_to_keys(
+                matrix(&self.points),
+                &self.built.leaves,
+                self.depth,
+                &b.centre,
+                b.radius,
+                &Dimensions::Three,
+            )
+        };
+        assert_eq!(theirs().unwrap(), output);
+        self.ratio("lookup", "rust", time, least(runs, theirs));
+    }
+}
+
+/// Build and lists together, in milliseconds, for so many uniform points.
+fn build_and_lists(count: usize, runs: usize) -> f64 {
+    let b = shapes::bounds();
+    let points = shapes::points("uniform", count);
+    let mut room = Room::new(count, 1 << 20);
+    let (nodes, _) = room.build(&b, &points, false);
+    let tree = Tree {
+        axes: 3,
+        key: room.key[..nodes].to_vec(),
+        own: room.own[..nodes].to_vec(),
+        begin: room.begin[..nodes].to_vec(),
+        order: room.order.clone(),
+    };
+    let rows = tree.get_interaction_lists().expect("room");
+    let mut slices = Lent::new(&tree, &rows.u, &rows.v);
+    let mut room = Room::new(count, nodes);
+    least(runs, || room.build(&b, &points, false)) + least(runs, || slices.fill(&tree))
+}
+
+/// How much longer build and lists together take for eight times the points.
+fn growth(runs: usize) {
+    let (few, many) = (
+        build_and_lists(POINTS, runs),
+        build_and_lists(MANY, runs.min(5)),
+    );
+    println!("  growth uniform: {POINTS} points {few:.2} ms, {MANY} points {many:.2} ms");
+    println!("ratio growth rust uniform off {:.3}", many / few);
+}
+
+fn main() {
+    let short = std::env::args().any(|word| word == "--short");
+    let runs = if short { 3 } else { 15 };
+    for shape in shapes::SHAPES {
+        for keep in [false, true] {
+            let survey = Survey::new(shape, keep);
+            if wanted("build") {
+                survey.build(runs);
+            }
+            if wanted("lookup") {
+                survey.lookup(runs);
+            }
+            if wanted("lists") {
+                survey.lists(runs);
+            }
+        }
+    }
+    if wanted("growth") {
+        growth(runs);
+    }
+}

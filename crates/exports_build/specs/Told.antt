@@ -1,0 +1,18 @@
+-- What the C face tells of a build: how it ended, the number of nodes and the depth, 0 and 0 after a refusal.
+use Prim.Native.Nat.{ℕ}
+use Rattle.refusal.specs.declared.Outcome.{Outcome}
+use Rattle.refusal.specs.declared.Outcome.the-variants.{Done, Refused}
+use Rattle.build.specs.declared.Built.{Built}
+use Rattle.build.specs.declared.Built.the-variants as built
+
+abbrev pub builtEnd : Built → Outcome
+builtEnd (built.Tree nodes depth) = Done
+builtEnd (built.Refused r) = Refused r
+
+abbrev pub nodesIn : Built → ℕ
+nodesIn (built.Tree nodes depth) = nodes
+nodesIn (built.Refused r) = 0
+
+abbrev pub depthIn : Built → ℕ
+depthIn (built.Tree nodes depth) = depth
+depthIn (built.Refused r) = 0

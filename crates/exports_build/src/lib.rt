@@ -1,0 +1,78 @@
+// The build for C.
+use build::Built;
+use exports_keys::Ended;
+use refusal::Outcome;
+ghost use mathlib.Core.Path.{_≡_};
+ghost use lib.ListN.{length, replicate};
+ghost use Rattle.build.specs.Asked.{used, asks, keyOf, ownOf, beginOf, orderOf};
+ghost use Rattle.build.specs.Outcomes.{nodeRoom, buildOutcome, treeOr, written};
+ghost use Rattle.exports_keys.specs.Told.{told};
+ghost use Rattle.exports_points.specs.Boxes.{boxAt};
+ghost use Rattle.exports_build.specs.Told.{builtEnd, nodesIn, depthIn};
+
+// Tells the number of nodes and the depth.
+fn tell_built(answer: Built, nodes: &mut usize, depth: &mut u64) -> Ended
+    ensures ended { λ r. ⌜ r ≡ told (builtEnd answer) ⌝ }
+    ensures nodes { λ _. ⌜ now (nodes .exit) ≡ nodesIn answer ⌝ }
+    ensures depth { λ _. ⌜ now (depth .exit) ≡ depthIn answer ⌝ }
+{
+    match answer {
+        Built::Tree(n, levels) => {
+            *nodes = n;
+            *depth = levels;
+            exports_keys::end_of(Outcome::Done)
+        }
+        Built::Refused(refusal) => {
+            *nodes = 0;
+            *depth = 0;
+            exports_keys::end_of(Outcome::Refused(refusal))
+        }
+    }
+}
+
+// `order` is that of the expansions; the order column is `indices`.
+#[no_mangle]
+pub extern "C" fn lohandema_build_tree(
+    centre: &[f64; 3],
+    radius: f64,
+    axes: usize,
+    sources: &[f64],
+    targets: &[f64],
+    limit: usize,
+    order: usize,
+    keep: bool,
+    refine: bool,
+    work: &mut [u64],
+    indices: &mut [usize],
+    key: &mut [u64],
+    own: &mut [usize],
+    begin: &mut [usize],
+    nodes: &mut usize,
+    depth: &mut u64,
+) -> Ended
+    ensures ended { λ r. ⌜ r ≡ told (builtEnd (treeOr (buildOutcome (asks (boxAt (now (centre .entry)) radius axes) limit order keep (now (sources .entry)) (used keep refine (now (targets .entry)))) (length (now (work .entry))) (length (now (indices .entry))) (nodeRoom (length (now (key .entry))) (length (now (own .entry))) (length (now (begin .entry))))) (keyOf (asks (boxAt (now (centre .entry)) radius axes) limit order keep (now (sources .entry)) (used keep refine (now (targets .entry))))))) ⌝ }
+    ensures work { λ _. ⌜ now (work .exit) ≡ replicate (length (now (work .entry))) 0 ⌝ }
+    ensures indices { λ _. ⌜ now (indices .exit) ≡ written (buildOutcome (asks (boxAt (now (centre .entry)) radius axes) limit order keep (now (sources .entry)) (used keep refine (now (targets .entry)))) (length (now (work .entry))) (length (now (indices .entry))) (nodeRoom (length (now (key .entry))) (length (now (own .entry))) (length (now (begin .entry))))) (length (now (indices .entry))) (orderOf (asks (boxAt (now (centre .entry)) radius axes) limit order keep (now (sources .entry)) (used keep refine (now (targets .entry))))) ⌝ }
+    ensures key { λ _. ⌜ now (key .exit) ≡ written (buildOutcome (asks (boxAt (now (centre .entry)) radius axes) limit order keep (now (sources .entry)) (used keep refine (now (targets .entry)))) (length (now (work .entry))) (length (now (indices .entry))) (nodeRoom (length (now (key .entry))) (length (now (own .entry))) (length (now (begin .entry))))) (length (now (key .entry))) (keyOf (asks (boxAt (now (centre .entry)) radius axes) limit order keep (now (sources .entry)) (used keep refine (now (targets .entry))))) ⌝ }
+    ensures own { λ _. ⌜ now (own .exit) ≡ written (buildOutcome (asks (boxAt (now (centre .entry)) radius axes) limit order keep (now (sources .entry)) (used keep refine (now (targets .entry)))) (length (now (work .entry))) (length (now (indices .entry))) (nodeRoom (length (now (key .entry))) (length (now (own .entry))) (length (now (begin .entry))))) (length (now (own .entry))) (ownOf (asks (boxAt (now (centre .entry)) radius axes) limit order keep (now (sources .entry)) (used keep refine (now (targets .entry))))) ⌝ }
+    ensures begin { λ _. ⌜ now (begin .exit) ≡ written (buildOutcome (asks (boxAt (now (centre .entry)) radius axes) limit order keep (now (sources .entry)) (used keep refine (now (targets .entry)))) (length (now (work .entry))) (length (now (indices .entry))) (nodeRoom (length (now (key .entry))) (length (now (own .entry))) (length (now (begin .entry))))) (length (now (begin .entry))) (beginOf (asks (boxAt (now (centre .entry)) radius axes) limit order keep (now (sources .entry)) (used keep refine (now (targets .entry))))) ⌝ }
+    ensures nodes { λ _. ⌜ now (nodes .exit) ≡ nodesIn (treeOr (buildOutcome (asks (boxAt (now (centre .entry)) radius axes) limit order keep (now (sources .entry)) (used keep refine (now (targets .entry)))) (length (now (work .entry))) (length (now (indices .entry))) (nodeRoom (length (now (key .entry))) (length (now (own .entry))) (length (now (begin .entry))))) (keyOf (asks (boxAt (now (centre .entry)) radius axes) limit order keep (now (sources .entry)) (used keep refine (now (targets .entry)))))) ⌝ }
+    ensures depth { λ _. ⌜ now (depth .exit) ≡ depthIn (treeOr (buildOutcome (asks (boxAt (now (centre .entry)) radius axes) limit order keep (now (sources .entry)) (used keep refine (now (targets .entry)))) (length (now (work .entry))) (length (now (indices .entry))) (nodeRoom (length (now (key .entry))) (length (now (own .entry))) (length (now (begin .entry))))) (keyOf (asks (boxAt (now (centre .entry)) radius axes) limit order keep (now (sources .entry)) (used keep refine (now (targets .entry)))))) ⌝ }
+{
+    let b = exports_points::box_at(centre, radius, axes);
+    let answer = build::build_tree(
+        b,
+        sources,
+        targets,
+        limit,
+        order,
+        keep,
+        refine,
+        work,
+        indices,
+        key,
+        own,
+        begin,
+    );
+    tell_built(answer, nodes, depth)
+}

@@ -1,0 +1,96 @@
+// The list call and near work for C.
+use exports_keys::Ended;
+use interaction::ListsAnswer;
+use near_work::WorkAnswer;
+use refusal::Outcome;
+ghost use mathlib.Core.Path.{_≡_};
+ghost use lib.ListN.{length};
+ghost use Rattle.rows.specs.Lists.{uRow, vRow};
+ghost use Rattle.rows.specs.Written.{rowStarts, rowKeys};
+ghost use Rattle.interaction.specs.Answers.{listsAnswer, left};
+ghost use Rattle.near_work.specs.Answers.{workAnswer, left as leftBy};
+ghost use Rattle.exports_keys.specs.Told.{told};
+ghost use Rattle.exports_lists.specs.Told.{listsEnd, uIn, vIn, workEnd, workIn};
+
+// Tells how many keys the two lists have.
+fn tell_lists(answer: ListsAnswer, u: &mut usize, v: &mut usize) -> Ended
+    ensures ended { λ r. ⌜ r ≡ told (listsEnd answer) ⌝ }
+    ensures u { λ _. ⌜ now (u .exit) ≡ uIn answer ⌝ }
+    ensures v { λ _. ⌜ now (v .exit) ≡ vIn answer ⌝ }
+{
+    match answer {
+        ListsAnswer::Listed(near, far) => {
+            *u = near;
+            *v = far;
+            exports_keys::end_of(Outcome::Done)
+        }
+        ListsAnswer::Refused(refusal) => {
+            *u = 0;
+            *v = 0;
+            exports_keys::end_of(Outcome::Refused(refusal))
+        }
+    }
+}
+
+#[no_mangle]
+pub extern "C" fn lohandema_get_interaction_lists(
+    axes: usize,
+    key: &[u64],
+    own: &[usize],
+    begin: &[usize],
+    u_starts: &mut [usize],
+    u_keys: &mut [u64],
+    v_starts: &mut [usize],
+    v_keys: &mut [u64],
+    u: &mut usize,
+    v: &mut usize,
+) -> Ended
+    ensures ended { λ r. ⌜ r ≡ told (listsEnd (listsAnswer axes (now (key .entry)) (now (own .entry)) (now (begin .entry)) (length (now («u_starts» .entry))) (length (now («u_keys» .entry))) (length (now («v_starts» .entry))) (length (now («v_keys» .entry))))) ⌝ }
+    ensures u_starts { λ _. ⌜ now («u_starts» .exit) ≡ left (listsAnswer axes (now (key .entry)) (now (own .entry)) (now (begin .entry)) (length (now («u_starts» .entry))) (length (now («u_keys» .entry))) (length (now («v_starts» .entry))) (length (now («v_keys» .entry)))) (length (now («u_starts» .entry))) (rowStarts (uRow axes (now (key .entry)) (now (own .entry))) (now (key .entry))) ⌝ }
+    ensures u_keys { λ _. ⌜ now («u_keys» .exit) ≡ left (listsAnswer axes (now (key .entry)) (now (own .entry)) (now (begin .entry)) (length (now («u_starts» .entry))) (length (now («u_keys» .entry))) (length (now («v_starts» .entry))) (length (now («v_keys» .entry)))) (length (now («u_keys» .entry))) (rowKeys (uRow axes (now (key .entry)) (now (own .entry))) (now (key .entry))) ⌝ }
+    ensures v_starts { λ _. ⌜ now («v_starts» .exit) ≡ left (listsAnswer axes (now (key .entry)) (now (own .entry)) (now (begin .entry)) (length (now («u_starts» .entry))) (length (now («u_keys» .entry))) (length (now («v_starts» .entry))) (length (now («v_keys» .entry)))) (length (now («v_starts» .entry))) (rowStarts (vRow axes (now (key .entry)) (now (own .entry))) (now (key .entry))) ⌝ }
+    ensures v_keys { λ _. ⌜ now («v_keys» .exit) ≡ left (listsAnswer axes (now (key .entry)) (now (own .entry)) (now (begin .entry)) (length (now («u_starts» .entry))) (length (now («u_keys» .entry))) (length (now («v_starts» .entry))) (length (now («v_keys» .entry)))) (length (now («v_keys» .entry))) (rowKeys (vRow axes (now (key .entry)) (now (own .entry))) (now (key .entry))) ⌝ }
+    ensures u { λ _. ⌜ now (u .exit) ≡ uIn (listsAnswer axes (now (key .entry)) (now (own .entry)) (now (begin .entry)) (length (now («u_starts» .entry))) (length (now («u_keys» .entry))) (length (now («v_starts» .entry))) (length (now («v_keys» .entry)))) ⌝ }
+    ensures v { λ _. ⌜ now (v .exit) ≡ vIn (listsAnswer axes (now (key .entry)) (now (own .entry)) (now (begin .entry)) (length (now («u_starts» .entry))) (length (now («u_keys» .entry))) (length (now («v_starts» .entry))) (length (now («v_keys» .entry)))) ⌝ }
+{
+    let answer = interaction::get_interaction_lists(
+        axes,
+        key,
+        own,
+        begin,
+        u_starts,
+        u_keys,
+        v_starts,
+        v_keys,
+    );
+    tell_lists(answer, u, v)
+}
+
+// Near work, and the U list from which it was worked out.
+#[no_mangle]
+pub extern "C" fn lohandema_get_near_work(
+    axes: usize,
+    key: &[u64],
+    own: &[usize],
+    begin: &[usize],
+    starts: &mut [usize],
+    flat: &mut [u64],
+    work: &mut u64,
+) -> Ended
+    ensures ended { λ r. ⌜ r ≡ told (workEnd (workAnswer axes (now (key .entry)) (now (own .entry)) (now (begin .entry)) (length (now (starts .entry))) (length (now (flat .entry))))) ⌝ }
+    ensures starts { λ _. ⌜ now (starts .exit) ≡ leftBy (workAnswer axes (now (key .entry)) (now (own .entry)) (now (begin .entry)) (length (now (starts .entry))) (length (now (flat .entry)))) (length (now (starts .entry))) (rowStarts (uRow axes (now (key .entry)) (now (own .entry))) (now (key .entry))) ⌝ }
+    ensures flat { λ _. ⌜ now (flat .exit) ≡ leftBy (workAnswer axes (now (key .entry)) (now (own .entry)) (now (begin .entry)) (length (now (starts .entry))) (length (now (flat .entry)))) (length (now (flat .entry))) (rowKeys (uRow axes (now (key .entry)) (now (own .entry))) (now (key .entry))) ⌝ }
+    ensures work { λ _. ⌜ now (work .exit) ≡ workIn (workAnswer axes (now (key .entry)) (now (own .entry)) (now (begin .entry)) (length (now (starts .entry))) (length (now (flat .entry)))) ⌝ }
+{
+    let answer = near_work::get_near_work(axes, key, own, begin, starts, flat);
+    match answer {
+        WorkAnswer::Work(sum) => {
+            *work = sum;
+            exports_keys::end_of(Outcome::Done)
+        }
+        WorkAnswer::Refused(refusal) => {
+            *work = 0;
+            exports_keys::end_of(Outcome::Refused(refusal))
+        }
+    }
+}

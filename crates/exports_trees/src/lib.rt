@@ -1,0 +1,171 @@
+// The calls on trees for C: columns go in as slices, rows come out in lent ones.
+use exports_keys::Ended;
+use lookup::LookedUp;
+use lookup::PointLeaf;
+use refusal::Outcome;
+use sourced::CellsAnswer;
+ghost use mathlib.Core.Path.{_≡_};
+ghost use mathlib.Core.Bool.{_&&_};
+ghost use lib.ListN.{length, take, drop};
+ghost use Rattle.morton.specs.Keys.{axesKnown};
+ghost use Rattle.tree.specs.Nodes.{depthOf};
+ghost use Rattle.tree.specs.WellFormed.{wellFormed};
+ghost use Rattle.tree.specs.Sources.{leafSources};
+ghost use Rattle.grouping.specs.Groups.{grouped};
+ghost use Rattle.lookup.specs.Grouping.{groupStarts, groupOutcome, written};
+ghost use Rattle.lookup.specs.Batch.{leafKeys, stepsSum, codesInside, lookupOutcome, foundOr};
+ghost use Rattle.lookup.specs.Single.{pointToLeaf};
+ghost use Rattle.sourced.specs.Answers.{cellsAnswer, cellsLeft};
+ghost use Rattle.exports_keys.specs.Told.{told};
+ghost use Rattle.exports_points.specs.Boxes.{boxAt};
+ghost use Rattle.exports_trees.specs.Told.{stepsIn, leafEnd, leafIn, climbedIn, cellsEnd, cellsIn, partStart};
+
+#[no_mangle]
+pub extern "C" fn lohandema_is_well_formed(
+    axes: usize,
+    key: &[u64],
+    own: &[usize],
+    begin: &[usize],
+) -> bool
+    ensures { λ r. ⌜ r ≡ (axesKnown axes && wellFormed axes (now (key .entry)) (now (own .entry)) (now (begin .entry))) ⌝ }
+{
+    tree::is_well_formed(axes, key, own, begin)
+}
+
+#[no_mangle]
+pub extern "C" fn lohandema_depth_of(key: &[u64]) -> u64
+    ensures { λ r. ⌜ r ≡ depthOf (now (key .entry)) ⌝ }
+{
+    tree::depth_of(key)
+}
+
+// A node's part of the order column, as where it starts and how long it is; an empty part starts at 0.
+#[no_mangle]
+pub extern "C" fn lohandema_leaf_sources(
+    own: &[usize],
+    begin: &[usize],
+    order: &[usize],
+    node: usize,
+    start: &mut usize,
+) -> usize
+    ensures length { λ r. ⌜ r ≡ length (leafSources (now (own .entry)) (now (begin .entry)) (now (order .entry)) node) ⌝ }
+    ensures part { λ r. ⌜ take r (drop (now (start .exit)) (now (order .entry))) ≡ leafSources (now (own .entry)) (now (begin .entry)) (now (order .entry)) node ⌝ }
+    ensures start { λ _. ⌜ now (start .exit) ≡ partStart (now (own .entry)) (now (begin .entry)) (now (order .entry)) node ⌝ }
+{
+    let part = tree::leaf_sources(own, begin, order, node);
+    let count = part.len();
+    if count == 0 {
+        *start = 0;
+        return 0;
+    }
+    *start = begin[node];
+    count
+}
+
+#[no_mangle]
+pub extern "C" fn lohandema_points_to_keys(
+    centre: &[f64; 3],
+    radius: f64,
+    axes: usize,
+    key: &[u64],
+    own: &[usize],
+    begin: &[usize],
+    points: &[f64],
+    output: &mut [u64],
+    steps: &mut usize,
+) -> Ended
+    ensures ended { λ r. ⌜ r ≡ told (lookupOutcome (boxAt (now (centre .entry)) radius axes) (now (key .entry)) (now (own .entry)) (now (begin .entry)) (now (points .entry)) (length (now (output .entry)))) ⌝ }
+    ensures output { λ _. ⌜ now (output .exit) ≡ written (lookupOutcome (boxAt (now (centre .entry)) radius axes) (now (key .entry)) (now (own .entry)) (now (begin .entry)) (now (points .entry)) (length (now (output .entry)))) (length (now (output .entry))) (leafKeys axes (now (key .entry)) (codesInside (boxAt (now (centre .entry)) radius axes) (now (points .entry)))) ⌝ }
+    ensures steps { λ _. ⌜ now (steps .exit) ≡ stepsIn (foundOr (lookupOutcome (boxAt (now (centre .entry)) radius axes) (now (key .entry)) (now (own .entry)) (now (begin .entry)) (now (points .entry)) (length (now (output .entry)))) (stepsSum axes (now (key .entry)) (codesInside (boxAt (now (centre .entry)) radius axes) (now (points .entry))))) ⌝ }
+{
+    let b = exports_points::box_at(centre, radius, axes);
+    let answer = lookup::points_to_keys(b, key, own, begin, points, output);
+    match answer {
+        LookedUp::Found(climbed) => {
+            *steps = climbed;
+            exports_keys::end_of(Outcome::Done)
+        }
+        LookedUp::Refused(refusal) => {
+            *steps = 0;
+            exports_keys::end_of(Outcome::Refused(refusal))
+        }
+    }
+}
+
+// The leaf that holds one point, and the steps to it.
+#[no_mangle]
+pub extern "C" fn lohandema_point_to_leaf(
+    centre: &[f64; 3],
+    radius: f64,
+    axes: usize,
+    key: &[u64],
+    own: &[usize],
+    begin: &[usize],
+    point: &[f64; 3],
+    leaf: &mut u64,
+    steps: &mut u64,
+) -> Ended
+    ensures ended { λ r. ⌜ r ≡ told (leafEnd (pointToLeaf (boxAt (now (centre .entry)) radius axes) (now (key .entry)) (now (own .entry)) (now (begin .entry)) (now (point .entry)))) ⌝ }
+    ensures leaf { λ _. ⌜ now (leaf .exit) ≡ leafIn (pointToLeaf (boxAt (now (centre .entry)) radius axes) (now (key .entry)) (now (own .entry)) (now (begin .entry)) (now (point .entry))) ⌝ }
+    ensures steps { λ _. ⌜ now (steps .exit) ≡ climbedIn (pointToLeaf (boxAt (now (centre .entry)) radius axes) (now (key .entry)) (now (own .entry)) (now (begin .entry)) (now (point .entry))) ⌝ }
+{
+    let b = exports_points::box_at(centre, radius, axes);
+    let place = *point;
+    let answer = lookup::point_to_leaf(b, key, own, begin, place);
+    match answer {
+        PointLeaf::Leaf(k, climbed) => {
+            *leaf = k;
+            *steps = climbed;
+            exports_keys::end_of(Outcome::Done)
+        }
+        PointLeaf::Refused(refusal) => {
+            *leaf = 0;
+            *steps = 0;
+            exports_keys::end_of(Outcome::Refused(refusal))
+        }
+    }
+}
+
+#[no_mangle]
+pub extern "C" fn lohandema_get_points_to_leaves_map(
+    axes: usize,
+    key: &[u64],
+    own: &[usize],
+    begin: &[usize],
+    points: &[u64],
+    starts: &mut [usize],
+    indices: &mut [usize],
+) -> Ended
+    ensures ended { λ r. ⌜ r ≡ told (groupOutcome axes (now (key .entry)) (now (own .entry)) (now (begin .entry)) (now (points .entry)) (length (now (starts .entry))) (length (now (indices .entry)))) ⌝ }
+    ensures starts { λ _. ⌜ now (starts .exit) ≡ written (groupOutcome axes (now (key .entry)) (now (own .entry)) (now (begin .entry)) (now (points .entry)) (length (now (starts .entry))) (length (now (indices .entry)))) (length (now (starts .entry))) (groupStarts (now (points .entry)) (now (key .entry))) ⌝ }
+    ensures indices { λ _. ⌜ now (indices .exit) ≡ written (groupOutcome axes (now (key .entry)) (now (own .entry)) (now (begin .entry)) (now (points .entry)) (length (now (starts .entry))) (length (now (indices .entry)))) (length (now (indices .entry))) (grouped (now (points .entry)) (now (key .entry))) ⌝ }
+{
+    let outcome = lookup::get_points_to_leaves_map(axes, key, own, begin, points, starts, indices);
+    exports_keys::end_of(outcome)
+}
+
+#[no_mangle]
+pub extern "C" fn lohandema_get_sourced_cells(
+    axes: usize,
+    key: &[u64],
+    own: &[usize],
+    begin: &[usize],
+    cells: &mut [u64],
+    count: &mut usize,
+) -> Ended
+    ensures ended { λ r. ⌜ r ≡ told (cellsEnd (cellsAnswer axes (now (key .entry)) (now (own .entry)) (now (begin .entry)) (length (now (cells .entry))))) ⌝ }
+    ensures cells { λ _. ⌜ now (cells .exit) ≡ cellsLeft axes (now (key .entry)) (now (own .entry)) (now (begin .entry)) (length (now (cells .entry))) ⌝ }
+    ensures count { λ _. ⌜ now (count .exit) ≡ cellsIn (cellsAnswer axes (now (key .entry)) (now (own .entry)) (now (begin .entry)) (length (now (cells .entry)))) ⌝ }
+{
+    let answer = sourced::get_sourced_cells(axes, key, own, begin, cells);
+    match answer {
+        CellsAnswer::Cells(n) => {
+            *count = n;
+            exports_keys::end_of(Outcome::Done)
+        }
+        CellsAnswer::Refused(refusal) => {
+            *count = 0;
+            exports_keys::end_of(Outcome::Refused(refusal))
+        }
+    }
+}

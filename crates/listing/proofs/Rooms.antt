@@ -1,0 +1,143 @@
+-- What the answers on the way from a file to its text say of the columns.
+use mathlib.Core.Path.{_≡_, refl, sym, ap, ap₂, _∙_}
+use mathlib.Core.Bool.{Bool, true, false}
+use mathlib.Core.List.{List, [], _∷_, _++_, map}
+use Prim.Native.Nat.{ℕ, _+_, _-_, _*_, _≤_, min}
+use native.Mathlib.Omega.{arith}
+use lib.Dec.{leb}
+use lib.Ieee.{Float}
+use lib.ListN.{length, take, replicate, length-append, length-replicate, length-map}
+use lib.Seq.{take-at}
+use borrow.Author.Tests.{leb-true}
+use Rattle.refusal.specs.declared.Refusal.{Refusal}
+use Rattle.refusal.specs.declared.Refusal.the-variants.{Room}
+use Rattle.refusal.specs.declared.Outcome.{Outcome}
+use Rattle.refusal.specs.declared.Outcome.the-variants.{Done, Refused}
+use Rattle.refusal.specs.Chain.{ask, _then_}
+use Rattle.refusal.proofs.Chain.{asked, both-done}
+use Rattle.slices.specs.Lists.{filled, range, sum}
+use Rattle.slices.proofs.Lists.{length-range}
+use Rattle.growth.specs.Columns.{ownColumn, beginColumn}
+use Rattle.laying.specs.Outcomes.{callOutcome, insideOutcome, workOutcome}
+use Rattle.laying.specs.Points.{rowsOf}
+use Rattle.build.specs.declared.Built.{Built}
+use Rattle.build.specs.declared.Built.the-variants.{Tree, Refused as NotBuilt}
+use Rattle.build.specs.Asked.{Asked, keyOf, ownOf, beginOf}
+use Rattle.build.specs.Outcomes.{columnOutcome, buildOutcome, treeOr, written}
+use Rattle.survey.specs.declared.Survey.{Survey}
+use Rattle.survey.specs.File.{none, fileOutcome, surveyOr, survey, sourceRows, targetRows, filledWith}
+use Rattle.survey.proofs.Numbers.{f64s-length}
+use Rattle.survey.proofs.Surveys.{Reads, reads}
+use Rattle.text.specs.declared.Text.{Text}
+use Rattle.text.specs.declared.Text.the-variants.{Length, Short}
+use Rattle.text.specs.Listing.{lengthOr, refusalLine}
+use Rattle.text.specs.Listing.{written as writtenIn}
+use Rattle.report.specs.Report.{textOr}
+use Rattle.listing.specs.Printed.{askedBy, columnsText, surveyTextIn, surveyText, fileText}
+
+-- ---- a build's answer
+
+was-built : (o : Outcome) (k : List ℕ) (n d : ℕ) → Tree n d ≡ treeOr o k → (o ≡ Done) × (n ≡ length k)
+was-built Done k n d e = (refl, cc)
+was-built (Refused r) k n d e = absurd (let z : _≡_ {A = ℕ} 0 1 = cc in omega arith)
+
+was-not : (o : Outcome) (k : List ℕ) (r : Refusal) → NotBuilt r ≡ treeOr o k → o ≡ Refused r
+was-not Done k r e = absurd (let z : _≡_ {A = ℕ} 0 1 = cc in omega arith)
+was-not (Refused s) k r e = cc
+
+own-length : (a : Asked) → length (ownOf a) ≡ length (keyOf a)
+unfolding ownOf ownColumn
+own-length a = length-map (keyOf a) _
+
+begin-length : (a : Asked) → length (beginOf a) ≡ length (keyOf a)
+unfolding beginOf beginColumn
+begin-length a = length-map (range 0 (length (ownOf a))) (λ i. sum (take i (ownOf a))) ∙ length-range 0 (length (ownOf a)) ∙ own-length a
+
+-- a column that is left by a build: its first entries
+column-front : (o : Outcome) (s xs : List ℕ) (n room : ℕ) → s ≡ written o room xs → o ≡ Done → n ≡ length xs → take n s ≡ xs
+column-front o s xs n room e f k = ap (take n) (e ∙ ap (λ (o : Outcome). written o room xs) f) ∙ take-at xs (replicate (room - length xs) 0) n (sym k)
+
+column-long : (o : Outcome) (s xs : List ℕ) (n room : ℕ) → s ≡ written o room xs → o ≡ Done → n ≡ length xs → n ≤ length s
+column-long o s xs n room e f k = omega (arith, ap length (e ∙ ap (λ (o : Outcome). written o room xs) f) ∙ length-append xs (replicate (room - length xs) 0))
+
+module _ (s : Survey) (sources targets : List Float) (work order nodes : ℕ) (r : Built) (e : r ≡ treeOr (buildOutcome (askedBy s sources targets) work order nodes) (keyOf (askedBy s sources targets))) where
+  abbrev a : Asked
+  a = askedBy s sources targets
+
+  abbrev o : Outcome
+  o = buildOutcome (askedBy s sources targets) work order nodes
+
+  pub built-refused : (x : Refusal) → r ≡ NotBuilt x → refusalLine x ≡ surveyTextIn work order nodes s sources targets
+  built-refused x f =
+      sym (ap (λ (o : Outcome). textOr o (columnsText (s .b .axes) (keyOf a) (ownOf a) (beginOf a) (s .sources))) (was-not o (keyOf a) x (sym f ∙ e)))
+
+  module _ (n d : ℕ) (f : r ≡ Tree n d) where
+    done : o ≡ Done
+    done = was-built o (keyOf a) n d (sym f ∙ e) .0
+
+    count : n ≡ length (keyOf a)
+    count = was-built o (keyOf a) n d (sym f ∙ e) .1
+
+    pub key-long : (key : List ℕ) (room : ℕ) → key ≡ written o room (keyOf a) → n ≤ length key
+    key-long key room g = column-long o key (keyOf a) n room g done count
+
+    pub own-long : (own : List ℕ) (room : ℕ) → own ≡ written o room (ownOf a) → n ≤ length own
+    own-long own room g = column-long o own (ownOf a) n room g done (count ∙ sym (own-length a))
+
+    pub begin-long : (begin : List ℕ) (room : ℕ) → begin ≡ written o room (beginOf a) → n ≤ length begin
+    begin-long begin room g = column-long o begin (beginOf a) n room g done (count ∙ sym (begin-length a))
+
+    pub built-text : (key own begin : List ℕ) (keys owns begins : ℕ) → key ≡ written o keys (keyOf a) → own ≡ written o owns (ownOf a) → begin ≡ written o begins (beginOf a)
+        → columnsText (s .b .axes) (take n key) (take n own) (take n begin) (s .sources) ≡ surveyTextIn work order nodes s sources targets
+    built-text key own begin keys owns begins g h i =
+        ap₂ (λ (k w : List ℕ). columnsText (s .b .axes) k w (take n begin) (s .sources)) (column-front o key (keyOf a) n keys g done count) (column-front o own (ownOf a) n owns h done (count ∙ sym (own-length a)))
+        ∙ ap (λ (b : List ℕ). columnsText (s .b .axes) (keyOf a) (ownOf a) b (s .sources)) (column-front o begin (beginOf a) n begins i done (count ∙ sym (begin-length a)))
+        ∙ sym (ap (λ (o : Outcome). textOr o (columnsText (s .b .axes) (keyOf a) (ownOf a) (beginOf a) (s .sources))) done)
+
+-- ---- a file's answer
+
+outcome-of : (file : List ℕ) (o : Outcome) → surveyOr file o .outcome ≡ o
+outcome-of file Done = refl
+outcome-of file (Refused r) = refl
+
+module _ (file : List ℕ) (s : Survey) (e : s ≡ survey file) where
+  file-is : (o : Outcome) → s .outcome ≡ o → fileOutcome file ≡ o
+  file-is o f = sym (ap (λ (s : Survey). s .outcome) e ∙ outcome-of file (fileOutcome file)) ∙ f
+
+  pub file-refused : (x : Refusal) → s .outcome ≡ Refused x → refusalLine x ≡ fileText file
+  file-refused x f = sym (ap (λ (o : Outcome). textOr o (surveyText (survey file) (sourceRows file) (targetRows file))) (file-is (Refused x) f))
+
+  long : (m : ℕ) (column rows : List Float) → column ≡ filledWith 4088 rows → m ≡ length rows → m ≤ length column
+  long m column rows g k = omega (arith, ap length g ∙ length-append rows (replicate (4088 - length rows) none))
+
+  sources-count : s .sources * s .b .axes ≡ length (sourceRows file)
+  sources-count = sym (ap length (sym (reads file s e .sources-are)) ∙ f64s-length file (s .sources * s .b .axes) 0)
+
+  targets-count : s .targets * s .b .axes ≡ length (targetRows file)
+  targets-count = sym (ap length (sym (reads file s e .targets-are)) ∙ f64s-length file (s .targets * s .b .axes) (8 * (s .sources * s .b .axes)))
+
+  pub sources-long : (column : List Float) → column ≡ filledWith 4088 (sourceRows file) → s .sources * s .b .axes ≤ length column
+  sources-long column g = long (s .sources * s .b .axes) column (sourceRows file) g sources-count
+
+  pub targets-long : (column : List Float) → column ≡ filledWith 4088 (targetRows file) → s .targets * s .b .axes ≤ length column
+  targets-long column g = long (s .targets * s .b .axes) column (targetRows file) g targets-count
+
+  pub file-text : (xs ts : List Float) → xs ≡ filledWith 4088 (sourceRows file) → ts ≡ filledWith 4088 (targetRows file) → s .outcome ≡ Done
+      → surveyText s (take (s .sources * s .b .axes) xs) (take (s .targets * s .b .axes) ts) ≡ fileText file
+  file-text xs ts g h f =
+      ap₂ (λ (x t : List Float). surveyText s x t)
+      (ap (take (s .sources * s .b .axes)) g ∙ take-at (sourceRows file) (replicate (4088 - length (sourceRows file)) none) (s .sources * s .b .axes) (sym sources-count))
+      (ap (take (s .targets * s .b .axes)) h ∙ take-at (targetRows file) (replicate (4088 - length (targetRows file)) none) (s .targets * s .b .axes) (sym targets-count))
+      ∙ ap (λ (s : Survey). surveyText s (sourceRows file) (targetRows file)) e
+      ∙ sym (ap (λ (o : Outcome). textOr o (surveyText (survey file) (sourceRows file) (targetRows file))) (file-is Done f))
+
+-- ---- a text that was written has its length in the slice
+
+told : (b : Bool) (k n : ℕ) → Length n ≡ lengthOr b k → (b ≡ true) × (n ≡ k)
+told true k n e = (refl, cc)
+told false k n e = absurd (let z : _≡_ {A = ℕ} 0 1 = cc in omega arith)
+
+pub written-within : (room : ℕ) (text : List ℕ) (n : ℕ) → Length n ≡ writtenIn room text → n ≤ room
+written-within room text n e =
+    let (b, k) = told (leb (length text) room) (length text) n e in
+    omega (arith, leb-true (length text) room b)

@@ -1,0 +1,62 @@
+// The text that is printed of a tree: its listing, or the refusal of its lists.
+use interaction::ListsAnswer;
+use text::Text;
+ghost use mathlib.Core.Path.{_≡_};
+ghost use lib.ListN.{length};
+ghost use Rattle.rows.specs.Lists.{uRow, vRow};
+ghost use Rattle.rows.specs.Written.{rowStarts, rowKeys};
+ghost use Rattle.interaction.specs.Answers.{listsAnswer, left as leftIn};
+ghost use Rattle.text.specs.Listing.{written, left};
+ghost use Rattle.report.specs.Report.{treeText};
+
+// Writes the text of a tree grown from so many sources, over its lists, which are left in the other slices.
+pub fn list_tree(
+    axes: usize,
+    sources: usize,
+    key: &[u64],
+    own: &[usize],
+    begin: &[usize],
+    u_starts: &mut [usize],
+    u_keys: &mut [u64],
+    v_starts: &mut [usize],
+    v_keys: &mut [u64],
+    out: &mut [u8],
+) -> Text
+    ensures answer { λ r. ⌜ r ≡ written (length (now (out .entry))) (treeText axes (now (key .entry)) (now (own .entry)) (now (begin .entry)) (length (now («u_starts» .entry))) (length (now («u_keys» .entry))) (length (now («v_starts» .entry))) (length (now («v_keys» .entry))) sources) ⌝ }
+    ensures text { λ _. ⌜ now (out .exit) ≡ left (length (now (out .entry))) (treeText axes (now (key .entry)) (now (own .entry)) (now (begin .entry)) (length (now («u_starts» .entry))) (length (now («u_keys» .entry))) (length (now («v_starts» .entry))) (length (now («v_keys» .entry))) sources) ⌝ }
+    ensures u_starts { λ _. ⌜ now («u_starts» .exit) ≡ leftIn (listsAnswer axes (now (key .entry)) (now (own .entry)) (now (begin .entry)) (length (now («u_starts» .entry))) (length (now («u_keys» .entry))) (length (now («v_starts» .entry))) (length (now («v_keys» .entry)))) (length (now («u_starts» .entry))) (rowStarts (uRow axes (now (key .entry)) (now (own .entry))) (now (key .entry))) ⌝ }
+    ensures u_keys { λ _. ⌜ now («u_keys» .exit) ≡ leftIn (listsAnswer axes (now (key .entry)) (now (own .entry)) (now (begin .entry)) (length (now («u_starts» .entry))) (length (now («u_keys» .entry))) (length (now («v_starts» .entry))) (length (now («v_keys» .entry)))) (length (now («u_keys» .entry))) (rowKeys (uRow axes (now (key .entry)) (now (own .entry))) (now (key .entry))) ⌝ }
+    ensures v_starts { λ _. ⌜ now («v_starts» .exit) ≡ leftIn (listsAnswer axes (now (key .entry)) (now (own .entry)) (now (begin .entry)) (length (now («u_starts» .entry))) (length (now («u_keys» .entry))) (length (now («v_starts» .entry))) (length (now («v_keys» .entry)))) (length (now («v_starts» .entry))) (rowStarts (vRow axes (now (key .entry)) (now (own .entry))) (now (key .entry))) ⌝ }
+    ensures v_keys { λ _. ⌜ now («v_keys» .exit) ≡ leftIn (listsAnswer axes (now (key .entry)) (now (own .entry)) (now (begin .entry)) (length (now («u_starts» .entry))) (length (now («u_keys» .entry))) (length (now («v_starts» .entry))) (length (now («v_keys» .entry)))) (length (now («v_keys» .entry))) (rowKeys (vRow axes (now (key .entry)) (now (own .entry))) (now (key .entry))) ⌝ }
+{
+    let listed = interaction::get_interaction_lists(
+        axes,
+        key,
+        own,
+        begin,
+        u_starts,
+        u_keys,
+        v_starts,
+        v_keys,
+    );
+    match listed {
+        ListsAnswer::Refused(refusal) => text::write_refusal(refusal, out),
+        ListsAnswer::Listed(_, _) => {
+            let work = near_work::near_work(axes, key, own, u_starts, u_keys);
+            let depth = tree::depth_of(key);
+            text::write_listing(
+                axes,
+                depth,
+                sources,
+                work,
+                key,
+                own,
+                u_starts,
+                u_keys,
+                v_starts,
+                v_keys,
+                out,
+            )
+        }
+    }
+}

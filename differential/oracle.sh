@@ -1,0 +1,15 @@
+# Finds the customer's Rust and links it to target/oracle, where the Cargo files look for it. To be sourced, in a folder of
+# the repository. LOHANDEMA_ORACLE names the folder that has ferreus_bbfmm and shims; else it is looked for beside the
+# repository, as ../shared/oracle. Where there is none, or no Rust, the script that sources this ends, with success.
+oracle=${LOHANDEMA_ORACLE:-../../shared/oracle}
+if [ ! -d "$oracle/ferreus_bbfmm" ]; then
+    echo "the customer's Rust is not at hand (LOHANDEMA_ORACLE names its folder): nothing was run"
+    exit 0
+fi
+if ! command -v cargo >/dev/null; then
+    echo "no cargo on the PATH: nothing was run"
+    exit 0
+fi
+mkdir -p ../target
+ln -sfn "$(cd "$oracle" && pwd -P)" ../target/oracle
+export CARGO_TARGET_DIR=$PWD/../target/cargo

@@ -1,0 +1,118 @@
+//! The customer's Rust, called unchanged, and its trees as columns.
+use faer::MatRef;
+use ferreus_bbfmm::EvaluationTargets;
+use ferreus_bbfmm::bbfmm::{Dimensions, TreeLists};
+use ferreus_bbfmm::{linear_tree, morton};
+use lohandema::points::Bounds;
+use lohandema::trees::Tree;
+
+pub fn dimensions(axes: usize) -> Dimensions {
+    match axes {
+        1 => Dimensions::One,
+        2 => Dimensions::Two,
+        3 => Dimensions::Three,
+        _ => panic!("{axes} axes"),
+    }
+}
+
+pub fn level(key: u64) -> u64 {
+    key % 32768
+}
+
+pub fn code(key: u64) -> u64 {
+    key / 32768
+}
+
+/// Document 01's rule for a key.
+pub fn valid(axes: usize, key: u64) -> bool {
+    level(key) <= 16 && code(key) >> (axes as u64 * level(key)) == 0
+}
+
+/// The order of nodes: by level, then ascending code.
+pub fn rank(key: u64) -> (u64, u64) {
+    (level(key), code(key))
+}
+
+/// The floor of the quotient on each axis at a level, by the Rust's own function.
+fn floors(b: &Bounds, point: &[f64], level: u64) -> Vec<f64> {
+    let side = morton::get_side_length(b.radius, level);
+    (0..b.axes)
+        .map(|a| morton::probe_coordinate_to_anchor(point[a], b.centre[a] - b.radius, side))
+        .collect()
+}
+
+/// Document 01's rule: all coordinates are finite, all level-16 anchors lie in 0..65535.
+pub fn inside(b: &Bounds, point: &[f64]) -> bool {
+    point[..b.axes].iter().all(|x| x.is_finite())
+        && floors(b, point, 16)
+            .iter()
+            .all(|q| *q >= 0.0 && *q <= 65535.0)
+}
+
+/// The Rust's anchors of a point at a level.
+pub fn anchors(b: &Bounds, point: &[f64], level: u64) -> Vec<u64> {
+    let displacement: Vec<f64> = b.centre[..b.axes].iter().map(|c| c - b.radius).collect();
+    let row = faer::RowRef::from_slice(&point[..b.axes]);
+    let side = morton::get_side_length(b.radius, level);
+    let mut anchor = morton::point_to_anchor(row, level, &displacement, side);
+    anchor.truncate(b.axes);
+    anchor
+}
+
+pub fn rows(axes: usize, points: &[f64]) -> MatRef<'_, f64> {
+    MatRef::from_row_major_slice(points, points.len() / axes, axes)
+}
+
+/// What a tree is built from.
+#[derive(Clone, Debug)]
+pub struct Survey {
+    pub bounds: Bounds,
+    pub sources: Vec<f64>,
+    pub targets: Vec<f64>,
+    pub limit: usize,
+    pub order: usize,
+    pub keep_empty: bool,
+}
+
+/// The Rust's tree with its lists, and the depth that it reports.
+pub fn build(s: &Survey) -> (TreeLists, u64) {
+    let axes = s.bounds.axes;
+    let mut depth = 0;
+    let targets =
+        (!s.targets.is_empty()).then(|| EvaluationTargets::Points(rows(axes, &s.targets)));
+    let lists = linear_tree::build_tree(
+        rows(axes, &s.sources),
+        &s.bounds.centre[..axes].to_vec(),
+        s.bounds.radius,
+        s.limit,
+        s.keep_empty,
+        &mut depth,
+        dimensions(axes),
+        s.order,
+        targets,
+    );
+    (lists, depth)
+}
+
+/// The Rust's tree as columns, in the order of nodes.
+pub fn columns(axes: usize, lists: &TreeLists) -> Tree {
+    let mut key: Vec<u64> = lists.tree.iter().copied().collect();
+    key.sort_by_key(|&k| rank(k));
+    let (mut own, mut begin, mut order) = (vec![], vec![], vec![]);
+    for k in &key {
+        begin.push(order.len());
+        let sources = lists
+            .leaf_source_indices
+            .get(k)
+            .map_or(&[][..], |v| v.as_slice());
+        own.push(sources.len());
+        order.extend_from_slice(sources);
+    }
+    Tree {
+        axes,
+        key,
+        own,
+        begin,
+        order,
+    }
+}
