@@ -1,14 +1,14 @@
--- `listing::print_listing` meets its contract.
+-- `printing::print_listing` meets its contract.
 use mathlib.Core.Path.{sym, _∙_}
 use native.Mathlib.Omega.{arith}
 use lib.ListN.{length}
 use lib.Seq.{length-take-le}
 use denote.Ref.{now}
 use borrow.Author.Needs.{needs}
-use Rattle.listing.specs.Printed.{fileText}
-use Rattle.listing.proofs.Rooms.{written-within}
-use Rattle.listing.proofs.print_listing.Statement.{statement}
-use Rattle.listing.proofs.print_listing.Tie as tie
+use Rattle.printing.specs.Printed.{fileText}
+use Rattle.printing.proofs.Rooms.{written-within}
+use Rattle.printing.proofs.print_listing.Statement.{statement}
+use Rattle.printing.proofs.print_listing.Tie as tie
 
 list-file-requires : tie.Need-list-file-requires
 list-file-requires c κs = search needs

@@ -23,7 +23,7 @@ use Rattle.survey.specs.declared.Survey.{Survey}
 use Rattle.survey.specs.File.{fileOutcome, survey, sourceRows, targetRows}
 use Rattle.text.proofs.Bound.{listing-fits, refusal-most}
 use Rattle.report.specs.Report.{textOr, treeListing}
-use Rattle.listing.specs.Printed.{askedBy, columnsText, surveyText, fileText}
+use Rattle.printing.specs.Printed.{askedBy, columnsText, surveyText, fileText}
 
 text-most : (o : Outcome) (text : List ℕ) → (o ≡ Done → length text ≤ 481390) → length (textOr o text) ≤ 481390
 text-most Done text f = f refl

@@ -1,4 +1,4 @@
--- `listing::list_built` meets its contract.
+-- `printing::list_built` meets its contract.
 use mathlib.Core.Path.{sym, ap, _∙_}
 use lib.ListN.{length}
 use lib.Seq.{length-take-le}
@@ -6,9 +6,9 @@ use denote.Ref.{now}
 use borrow.Author.Needs.{needs}
 use Rattle.build.specs.Outcomes.{nodeRoom}
 use Rattle.text.specs.Listing.{written, left}
-use Rattle.listing.proofs.Rooms.{built-refused, key-long, own-long, begin-long, built-text}
-use Rattle.listing.proofs.list_built.Statement.{statement}
-use Rattle.listing.proofs.list_built.Tie as tie
+use Rattle.printing.proofs.Rooms.{built-refused, key-long, own-long, begin-long, built-text}
+use Rattle.printing.proofs.list_built.Statement.{statement}
+use Rattle.printing.proofs.list_built.Tie as tie
 
 build-tree-requires : tie.Need-build-tree-requires
 build-tree-requires c κs = search needs

@@ -1,4 +1,4 @@
--- `listing::list_file` meets its contract.
+-- `printing::list_file` meets its contract.
 use mathlib.Core.Path.{sym, ap, _∙_}
 use native.Mathlib.Omega.{arith}
 use lib.ListN.{length}
@@ -7,9 +7,9 @@ use denote.Ref.{now}
 use borrow.Author.Needs.{needs}
 use Rattle.survey.proofs.Surveys.{reads}
 use Rattle.text.specs.Listing.{written, left}
-use Rattle.listing.proofs.Rooms.{file-refused, sources-long, targets-long, file-text}
-use Rattle.listing.proofs.list_file.Statement.{statement}
-use Rattle.listing.proofs.list_file.Tie as tie
+use Rattle.printing.proofs.Rooms.{file-refused, sources-long, targets-long, file-text}
+use Rattle.printing.proofs.list_file.Statement.{statement}
+use Rattle.printing.proofs.list_file.Tie as tie
 
 read-survey-requires : tie.Need-read-survey-requires
 read-survey-requires c κs = search needs

@@ -33,7 +33,7 @@ use Rattle.text.specs.declared.Text.the-variants.{Length, Short}
 use Rattle.text.specs.Listing.{lengthOr, refusalLine}
 use Rattle.text.specs.Listing.{written as writtenIn}
 use Rattle.report.specs.Report.{textOr}
-use Rattle.listing.specs.Printed.{askedBy, columnsText, surveyTextIn, surveyText, fileText}
+use Rattle.printing.specs.Printed.{askedBy, columnsText, surveyTextIn, surveyText, fileText}
 
 -- ---- a build's answer
 

@@ -1,0 +1,37 @@
+//! What the two programs write for a file.
+use crate::oracle::{self, Tree};
+use crate::survey::{self, Refused, Survey};
+use std::fmt::Write as _;
+
+fn refusal(refused: Refused) -> String {
+    format!("refused {} {}\n", refused.0, refused.1)
+}
+
+fn row(keys: &[u64]) -> String {
+    keys.iter().map(|key| format!(" {key}")).collect()
+}
+
+fn listing_of(s: &Survey, tree: &Tree) -> String {
+    let (nodes, sources) = (tree.keys.len(), s.sources.len() / s.axes);
+    let (depth, near_work) = (tree.depth, tree.near_work());
+    let mut text = format!("tree {} {nodes} {depth} {sources} {near_work}\n", s.axes);
+    for (number, &key) in tree.keys.iter().enumerate() {
+        let (u, v) = (row(tree.u_row(key)), row(tree.v_row(key)));
+        writeln!(text, "{number} {key} {} U{u} V{v}", tree.own(key)).unwrap();
+    }
+    text
+}
+
+/// The listing, as document 01 writes it.
+pub fn listing(bytes: &[u8]) -> String {
+    let made = survey::read(bytes).and_then(|s| Ok((oracle::build_with_lists(&s)?, s)));
+    made.map_or_else(refusal, |(tree, s)| listing_of(&s, &tree))
+}
+
+/// `leaves`, how many points, the sum of steps, and the key of each point's leaf.
+pub fn lookup(bytes: &[u8]) -> String {
+    let made = survey::read(bytes).and_then(|s| oracle::lookup(&s, &oracle::build(&s)?));
+    made.map_or_else(refusal, |(keys, steps)| {
+        format!("leaves {} {steps}{}\n", keys.len(), row(&keys))
+    })
+}

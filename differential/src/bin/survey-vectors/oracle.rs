@@ -1,0 +1,174 @@
+//! The customer's Rust, called unchanged: the tree of a survey in document 01's order, its lists and its lookups.
+//!
+//! The refusals of the build are document 01's; the Rust has none.
+use crate::survey::{BOX, ORDER, POINT, ROOM, Refused, SOURCE, Survey, UNSTORED};
+use faer::MatRef;
+use ferreus_bbfmm::EvaluationTargets;
+use ferreus_bbfmm::bbfmm::{Dimensions, TreeLists};
+use ferreus_bbfmm::{linear_tree, morton};
+
+// The listing program's room.
+pub const NODES: usize = 2_048;
+pub const ENTRIES: usize = 8_192;
+
+pub struct Tree {
+    /// Keys by level, then ascending code.
+    pub keys: Vec<u64>,
+    pub depth: u64,
+    pub lists: TreeLists,
+}
+
+impl Tree {
+    pub fn own(&self, key: u64) -> usize {
+        self.lists.leaf_source_indices.get(&key).map_or(0, Vec::len)
+    }
+
+    pub fn u_row(&self, key: u64) -> &[u64] {
+        self.lists.u_lists.get(&key).map_or(&[], Vec::as_slice)
+    }
+
+    pub fn v_row(&self, key: u64) -> &[u64] {
+        self.lists.v_lists.get(&key).map_or(&[], Vec::as_slice)
+    }
+
+    pub fn u_entries(&self) -> usize {
+        self.keys.iter().map(|&key| self.u_row(key).len()).sum()
+    }
+
+    pub fn v_entries(&self) -> usize {
+        self.keys.iter().map(|&key| self.v_row(key).len()).sum()
+    }
+
+    /// The sum over leaves of own sources times sources in the U row.
+    pub fn near_work(&self) -> usize {
+        let in_row = |key| -> usize { self.u_row(key).iter().map(|&near| self.own(near)).sum() };
+        self.keys
+            .iter()
+            .map(|&key| self.own(key) * in_row(key))
+            .sum()
+    }
+}
+
+fn dimensions(axes: usize) -> Dimensions {
+    match axes {
+        1 => Dimensions::One,
+        2 => Dimensions::Two,
+        3 => Dimensions::Three,
+        _ => panic!("{axes} axes"),
+    }
+}
+
+fn rows(axes: usize, points: &[f64]) -> MatRef<'_, f64> {
+    MatRef::from_row_major_slice(points, points.len() / axes, axes)
+}
+
+fn centre(s: &Survey) -> Vec<f64> {
+    s.centre[..s.axes].to_vec()
+}
+
+/// Document 01's rule, with the Rust's own quotient and floor: finite, and the level-16 anchors in 0..65535.
+pub fn inside(s: &Survey, point: &[f64]) -> bool {
+    let side = morton::get_side_length(s.radius, 16);
+    point.iter().zip(&s.centre).all(|(&x, &c)| {
+        let anchor = morton::probe_coordinate_to_anchor(x, c - s.radius, side);
+        x.is_finite() && (0.0..=65535.0).contains(&anchor)
+    })
+}
+
+fn first_outside(s: &Survey, points: &[f64]) -> Option<u64> {
+    let outside = points.chunks(s.axes).position(|point| !inside(s, point));
+    outside.map(|index| index as u64)
+}
+
+/// Refinement acts where empty cells are kept and there are targets.
+fn targets_used(s: &Survey) -> bool {
+    s.keep_empty && !s.targets.is_empty()
+}
+
+/// BOX, ORDER, SOURCE and POINT, in this order.
+fn check(s: &Survey) -> Result<(), Refused> {
+    let centred = |c: &f64| c.is_finite() && c.abs() <= 16_777_216.0;
+    if !(0.25..=1_048_576.0).contains(&s.radius) || !s.centre[..s.axes].iter().all(centred) {
+        return Err(Refused(BOX, 0));
+    }
+    if targets_used(s) && !(1..=64).contains(&s.order) {
+        return Err(Refused(ORDER, 0));
+    }
+    if let Some(index) = first_outside(s, &s.sources) {
+        return Err(Refused(SOURCE, index));
+    }
+    if let Some(index) = first_outside(s, &s.targets).filter(|_| targets_used(s)) {
+        return Err(Refused(POINT, index));
+    }
+    Ok(())
+}
+
+/// The Rust's tree of a survey that is not refused.
+pub fn grown(s: &Survey) -> Tree {
+    let targets = targets_used(s).then(|| EvaluationTargets::Points(rows(s.axes, &s.targets)));
+    let mut depth = 0;
+    let lists = linear_tree::build_tree(
+        rows(s.axes, &s.sources),
+        &centre(s),
+        s.radius,
+        s.limit as usize,
+        s.keep_empty,
+        &mut depth,
+        dimensions(s.axes),
+        s.order as usize,
+        targets,
+    );
+    let mut keys: Vec<u64> = lists.tree.iter().copied().collect();
+    keys.sort_by_key(|key| (key % 32768, key / 32768));
+    Tree { keys, depth, lists }
+}
+
+/// The tree, with the listing program's room for nodes.
+pub fn build(s: &Survey) -> Result<Tree, Refused> {
+    check(s)?;
+    let tree = grown(s);
+    if tree.keys.len() > NODES {
+        return Err(Refused(ROOM, 3));
+    }
+    Ok(tree)
+}
+
+/// The tree, with the listing program's room for nodes and both lists.
+pub fn build_with_lists(s: &Survey) -> Result<Tree, Refused> {
+    let tree = build(s)?;
+    if tree.u_entries() > ENTRIES {
+        return Err(Refused(ROOM, 6));
+    }
+    if tree.v_entries() > ENTRIES {
+        return Err(Refused(ROOM, 7));
+    }
+    Ok(tree)
+}
+
+fn keys_of(s: &Survey, tree: &Tree, points: &[f64]) -> Option<Vec<u64>> {
+    let (points, d) = (rows(s.axes, points), dimensions(s.axes));
+    linear_tree::points_to_keys(
+        points,
+        &tree.lists.leaves,
+        tree.depth,
+        &centre(s),
+        s.radius,
+        &d,
+    )
+    .ok()
+}
+
+/// The leaf of each target and the sum of steps; POINT or UNSTORED at the lowest index that fails.
+pub fn lookup(s: &Survey, tree: &Tree) -> Result<(Vec<u64>, u64), Refused> {
+    for (index, point) in s.targets.chunks(s.axes).enumerate() {
+        if !inside(s, point) {
+            return Err(Refused(POINT, index as u64));
+        }
+        if keys_of(s, tree, point).is_none() {
+            return Err(Refused(UNSTORED, index as u64));
+        }
+    }
+    let keys = keys_of(s, tree, &s.targets).expect("no point fails");
+    let steps = keys.iter().map(|key| tree.depth - key % 32768).sum();
+    Ok((keys, steps))
+}
