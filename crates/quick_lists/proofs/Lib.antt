@@ -1,1 +1,3 @@
 pub mod Parents
+pub mod Marks
+pub mod Both
