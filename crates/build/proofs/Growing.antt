@@ -48,7 +48,7 @@ code-lt : (f : Frame) (xs : List Float) → code16 f xs < 2 ^ (f .axes * 16)
 unfolding code16
 code-lt f xs = encode-lt (f .axes) 16 (anchors16 f xs)
 
-codes-lt : (b : Box) (xs : List Float) → Codes (b .axes) (codesOf b xs)
+pub codes-lt : (b : Box) (xs : List Float) → Codes (b .axes) (codesOf b xs)
 codes-lt b xs i h =
     let l : i < rowsOf b xs = omega (arith, h, codes-length (rowsOf b xs) (frameOf b) xs) in
     subst (λ (c : ℕ). c < 2 ^ (b .axes * 16)) (sym (code-at-row (rowsOf b xs) i (frameOf b) xs l)) (code-lt (frameOf b) (drop (i * b .axes) xs))

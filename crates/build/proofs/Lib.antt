@@ -1,3 +1,4 @@
 pub mod Flags
 pub mod Growing
 pub mod Answers
+pub mod Returned
