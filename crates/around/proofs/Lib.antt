@@ -1,3 +1,5 @@
 pub mod Split
 pub mod Gathering
 pub mod Nearby
+pub mod Counting
+pub mod Few

@@ -1,4 +1,4 @@
--- The nodes around a cell, found by a descent from the root that leaves out what does not touch the cell's ancestors.
+-- The nodes around a cell: those of its level that touch it, and their children.
 use mathlib.Core.Path.{_≡_}
 use mathlib.Core.Bool.{Bool, true, _&&_}
 use mathlib.Core.List.{List, map}
@@ -18,6 +18,10 @@ use Rattle.firsts.specs.Firsts.{FirstChildren}
 abbrev pub around : ℕ → List ℕ → List ℕ → ℕ → ℕ → Bool
 around d keys own p x = eqb (levelOf x) (suc (levelOf p)) && (near d d (levelOf p) (codeOf p) (codeOf x / 2 ^ d) && sourced d keys own x)
 
+-- x is a sourced node of q's level, and is q or touches it
+abbrev pub nearTo : ℕ → List ℕ → List ℕ → ℕ → ℕ → Bool
+nearTo d keys own q x = eqb (levelOf x) (levelOf q) && (near d d (levelOf q) (codeOf q) (codeOf x) && sourced d keys own x)
+
 -- x owns sources, is close to b, and its level is below `stop`
 abbrev pub owner : ℕ → List ℕ → List ℕ → ℕ → ℕ → ℕ → Bool
 owner d keys own b stop x = ltb 0 (ownOf keys own x) && (close d b x && ltb (levelOf x) stop)
@@ -29,10 +33,10 @@ pub record Gathers (d : ℕ) (keys : List ℕ) (q : ℕ → Bool) (nodes places 
   pub placed : Puts places n (map (λ j. placeOf d (getD keys j 0)) cells) places' n'
   pub those : (j : ℕ) → count (λ c. eqb c j) cells ≡ count (λ c. eqb c j) (filter (λ j. q (getD keys j 0)) (range 0 (length keys)))
 
--- what a descent goes by: the tree, its first children, and a cell with its place
+-- what the work goes by: the tree, its first children, and a cell with its place
 pub record Setting (d : ℕ) (keys own first : List ℕ) (p place : ℕ) : Type 0 where
   pub tree : SoundTree d keys own
-  pub firsts : FirstChildren d keys first
+  pub firsts : FirstChildren d keys own first
   pub valid : ValidKey d p
   pub placed : place ≡ placeOf d p
 

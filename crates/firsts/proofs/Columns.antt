@@ -26,7 +26,7 @@ use Rattle.tree.proofs.Kids.{order-of, kids-room}
 use Rattle.tree.proofs.Walk.{node-level}
 use Rattle.sourced.specs.Trees.{SoundTree}
 use Rattle.sourced.proofs.Below.{child-level, tree-facts, tree-ascends, tree-valid}
-use Rattle.firsts.specs.Firsts.{Parts, FirstChildren}
+use Rattle.firsts.specs.Firsts.{Parts, firstOf, FirstChildren}
 
 -- a child is before another cell's first child as its parent is before that cell
 child-before : (d m j i c : ℕ) → childOf d m j ≡ true → levelOf c ≡ suc (levelOf i) → codeOf c ≡ codeOf i * 2 ^ d → before j c ≡ before m i
@@ -161,7 +161,7 @@ module _ (d : ℕ) (keys own : List ℕ) (t : SoundTree d keys own) where
   pub parts-end : Parts d keys (length keys) (length keys)
   parts-end = record { within = omega arith; root = w .some; splits = λ j m lj lm c. lt-ltb j (length keys) lj ∙ sym (lt-ltb m (length keys) lm) }
 
-  pub column-all : (first : List ℕ) → length keys < length first → ((m : ℕ) → m < length keys → Parts d keys m (getD first m 0)) → FirstChildren d keys (set first (length keys) (length keys))
+  pub column-all : (first : List ℕ) → length keys < length first → ((m : ℕ) → m < length keys → Parts d keys m (getD first m 0)) → FirstChildren d keys own (set first (length keys) (length keys))
   column-all first h f = record { entries = subst (λ n. length keys < n) (sym (length-set first (length keys) (length keys))) h; children = λ i l. parts-children i _ _ l (entry i (omega arith)) (entry (suc i) (omega arith)) }
     where
       entry : (m : ℕ) → m ≤ length keys → Parts d keys m (getD (set first (length keys) (length keys)) m 0)
@@ -179,5 +179,5 @@ module _ (d : ℕ) (keys own : List ℕ) (t : SoundTree d keys own) where
       go (no s) = let e : i ≡ m = omega arith in subst (λ n. Parts d keys n (getD (set first i r) n 0)) e (subst (λ x. Parts d keys i x) (sym (getD-set-same first i r 0 l)) p)
 
 -- a node's children by the column
-pub kids-at : {d : ℕ} {keys first : List ℕ} → FirstChildren d keys first → (i : ℕ) → i < length keys → Children d keys (getD keys i 0) (getD first i 0) (getD first (i + 1) 0)
-kids-at {d} {keys} {first} f i l = let e : suc i ≡ i + 1 = omega arith in subst (λ n. Children d keys (getD keys i 0) (getD first i 0) (getD first n 0)) e (f .children i l)
+pub kids-at : {d : ℕ} {keys own first : List ℕ} → FirstChildren d keys own first → (i : ℕ) → i < length keys → Children d keys (getD keys i 0) (firstOf first i) (firstOf first (i + 1))
+kids-at {d} {keys} {own} {first} f i l = let e : suc i ≡ i + 1 = omega arith in subst (λ n. Children d keys (getD keys i 0) (firstOf first i) (firstOf first n)) e (f .children i l)

@@ -14,6 +14,10 @@ pub record Parts (d : ℕ) (keys : List ℕ) (i r : ℕ) : Type 0 where
   pub root : 0 < r
   pub splits : (j m : ℕ) → j < length keys → m < length keys → childOf d (getD keys m 0) (getD keys j 0) ≡ true → ltb j r ≡ ltb m i
 
-pub record FirstChildren (d : ℕ) (keys first : List ℕ) : Type 0 where
+-- the number at which the children of node i begin, and those of the node before it end
+abbrev pub firstOf : List ℕ → ℕ → ℕ
+firstOf first i = getD first i 0
+
+pub record FirstChildren (d : ℕ) (keys own first : List ℕ) : Type 0 where
   pub entries : length keys < length first
-  pub children : (i : ℕ) → i < length keys → Children d keys (getD keys i 0) (getD first i 0) (getD first (suc i) 0)
+  pub children : (i : ℕ) → i < length keys → Children d keys (getD keys i 0) (firstOf first i) (firstOf first (suc i))

@@ -6,7 +6,7 @@ ghost use lib.ListN.{length, getD};
 ghost use Rattle.morton.specs.Keys.{levelOf};
 ghost use Rattle.tree.specs.Nodes.{sourced as sourcedCell};
 ghost use Rattle.sourced.specs.Trees.{SoundTree, LevelsLeft, anySourced};
-ghost use Rattle.firsts.specs.Firsts.{Parts, FirstChildren};
+ghost use Rattle.firsts.specs.Firsts.{Parts, firstOf, FirstChildren};
 
 // The number of the first node whose parent is not before a node.
 fn first_child(axes: usize, key: &[u64], node: usize) -> usize
@@ -23,9 +23,9 @@ fn first_child(axes: usize, key: &[u64], node: usize) -> usize
 }
 
 // Writes the column.
-pub fn first_children(axes: usize, key: &[u64], first: &mut [usize])
-    requires { ⌜ ((own : List ℕ) × SoundTree axes (now key) own) × (length (now key) < length (now first)) ⌝ }
-    ensures { λ _. ⌜ FirstChildren axes (now (key .entry)) (now (first .exit)) ⌝ }
+pub fn first_children(axes: usize, key: &[u64], own: &[usize], first: &mut [usize])
+    requires { ⌜ SoundTree axes (now key) (now own) × (length (now key) < length (now first)) ⌝ }
+    ensures { λ _. ⌜ FirstChildren axes (now (key .entry)) (now (own .entry)) (now (first .exit)) ⌝ }
 {
     let mut i: usize = 0;
     while i < key.len() {
@@ -33,6 +33,14 @@ pub fn first_children(axes: usize, key: &[u64], first: &mut [usize])
         i += 1;
     }
     first[i] = i;
+}
+
+// The number at which the children of a node begin, and those of the node before it end.
+pub fn first_of(first: &[usize], i: usize) -> usize
+    requires { ⌜ i < length (now first) ⌝ }
+    ensures { λ r. ⌜ r ≡ firstOf (now (first .entry)) i ⌝ }
+{
+    first[i]
 }
 
 // The cell step: a node with so many levels left, its own among them.
@@ -44,7 +52,7 @@ fn cell_sourced(
     node: usize,
     left: usize,
 ) -> bool
-    requires { ⌜ SoundTree axes (now key) (now own) × FirstChildren axes (now key) (now first) × (node < length (now key)) × (levelOf (getD (now key) node 0) + left ≡ 17) ⌝ }
+    requires { ⌜ SoundTree axes (now key) (now own) × FirstChildren axes (now key) (now own) (now first) × (node < length (now key)) × (levelOf (getD (now key) node 0) + left ≡ 17) ⌝ }
     ensures { λ r. ⌜ r ≡ sourcedCell axes (now (key .entry)) (now (own .entry)) (getD (now (key .entry)) node 0) ⌝ }
 {
     if 0 < own[node] {
@@ -65,7 +73,7 @@ fn child_sourced(
     to: usize,
     left: usize,
 ) -> bool
-    requires { ⌜ SoundTree axes (now key) (now own) × FirstChildren axes (now key) (now first) × (to ≤ length (now key)) × LevelsLeft (now key) from to left ⌝ }
+    requires { ⌜ SoundTree axes (now key) (now own) × FirstChildren axes (now key) (now own) (now first) × (to ≤ length (now key)) × LevelsLeft (now key) from to left ⌝ }
     ensures { λ r. ⌜ r ≡ anySourced axes (now (key .entry)) (now (own .entry)) from to ⌝ }
 {
     if to <= from {
@@ -79,7 +87,7 @@ fn child_sourced(
 
 // Whether a node is sourced: it or a descendant owns sources.
 pub fn is_sourced(axes: usize, key: &[u64], own: &[usize], first: &[usize], node: usize) -> bool
-    requires { ⌜ SoundTree axes (now key) (now own) × FirstChildren axes (now key) (now first) × (node < length (now key)) ⌝ }
+    requires { ⌜ SoundTree axes (now key) (now own) × FirstChildren axes (now key) (now own) (now first) × (node < length (now key)) ⌝ }
     ensures { λ r. ⌜ r ≡ sourcedCell axes (now (key .entry)) (now (own .entry)) (getD (now (key .entry)) node 0) ⌝ }
 {
     let level = key[node] % 32768;

@@ -24,8 +24,8 @@ use Rattle.places.specs.Places.{placeOf, beside}
 use Rattle.lists.specs.Descent.{PutsRow}
 use Rattle.around.specs.Around.{around, Setting}
 use Rattle.around.proofs.Nearby.{place-near, near-sym}
-use Rattle.quick.specs.Candidates.{Found, Child, farKeys, touches}
-use Rattle.quick.proofs.Counting.{count-map, count-numbers, count-found}
+use Rattle.around.specs.Candidates.{Found, Child, farKeys, touches}
+use Rattle.around.proofs.Counting.{count-map, count-numbers, count-found}
 
 module _ (d : ℕ) (keys own first : List ℕ) (p b spot : ℕ) (c : Child d keys own first p b spot) where
   pub up-level : suc (levelOf p) ≡ levelOf b

@@ -29,9 +29,9 @@ use Rattle.lists.proofs.Split.{under-root}
 use Rattle.lists.proofs.Tests.{far-root, node-valid}
 use Rattle.firsts.proofs.Columns.{kids-at}
 use Rattle.around.specs.Around.{around, owner, Gathers, Setting}
-use Rattle.quick.specs.Candidates.{Found, Kept, Ready, Child, underNear}
-use Rattle.quick.proofs.Few.{around-few}
-use Rattle.quick.proofs.Counting.{gathered, found-test}
+use Rattle.around.specs.Candidates.{Found, Kept, Ready, Child, underNear}
+use Rattle.around.proofs.Few.{around-few}
+use Rattle.around.proofs.Counting.{gathered, found-test}
 use Rattle.quick.proofs.FarRow.{up-level}
 use Rattle.quick.proofs.NearRow.{near-split}
 

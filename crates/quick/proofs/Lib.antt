@@ -1,6 +1,4 @@
 pub mod Rest
-pub mod Counting
-pub mod Few
 pub mod FarRow
 pub mod NearRow
 pub mod Near

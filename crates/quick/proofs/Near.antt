@@ -20,7 +20,7 @@ use Rattle.places.specs.Places.{placeOf, beside}
 use Rattle.lists.specs.Descent.{PutsThose}
 use Rattle.lists.proofs.Those.{those-none, those-join, those-same}
 use Rattle.around.specs.Around.{owner, Setting}
-use Rattle.quick.specs.Candidates.{Listed, touches, underNear}
+use Rattle.around.specs.Candidates.{Listed, touches, underNear}
 use Rattle.quick.proofs.Rest.{next, ended}
 
 either : (a b t : Bool) → (a ≡ true → b ≡ true → ⊥) → bit ((a || b) && t) ≡ bit (a && t) + bit (b && t)

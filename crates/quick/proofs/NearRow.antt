@@ -30,8 +30,8 @@ use Rattle.places.specs.Places.{placeOf, beside}
 use Rattle.lists.proofs.Upwards.{close-up, close-finer}
 use Rattle.around.specs.Around.{around, owner, Setting}
 use Rattle.around.proofs.Nearby.{above-parent}
-use Rattle.quick.specs.Candidates.{Found, Child, touches, underNear}
-use Rattle.quick.proofs.Counting.{found-test, found-mem}
+use Rattle.around.specs.Candidates.{Found, Child, touches, underNear}
+use Rattle.around.proofs.Counting.{found-test, found-mem}
 use Rattle.quick.proofs.FarRow.{up-level, up-code, touch-near}
 
 -- an owner is a sourced leaf, and the other way round

@@ -10,7 +10,7 @@ use lib.Seq.{drop-cons, getD-take, length-take-le}
 use Rattle.slices.specs.Lists.{filter}
 use Rattle.sourced.specs.Room.{Holds, Puts}
 use Rattle.places.specs.Places.{placeOf, beside}
-use Rattle.quick.specs.Candidates.{Listed, farKeys, touches}
+use Rattle.around.specs.Candidates.{Listed, farKeys, touches}
 
 pub puts-none : (out : List ℕ) (n : ℕ) → Puts out n [] out n
 puts-none out n done h = rw (append-nil done) h

@@ -11,7 +11,7 @@ ghost use Rattle.places.specs.Places.{placeOf};
 ghost use Rattle.firsts.specs.Firsts.{FirstChildren};
 ghost use Rattle.around.specs.Around.{owner, Setting};
 ghost use Rattle.lists.specs.Descent.{PutsThose, PutsRow, listRow, WritesRows, WritesList};
-ghost use Rattle.quick.specs.Candidates.{Listed, farKeys, underNear, Kept, Ready};
+ghost use Rattle.around.specs.Candidates.{Listed, farKeys, underNear, Kept, Ready};
 
 // How many nodes were gathered around a cell, and how many owners close to it.
 pub struct Counts {

@@ -5,7 +5,7 @@ use Prim.Native.Nat.{_-_}
 use native.Mathlib.Omega.{arith}
 use denote.Ref.{now}
 use lib.ListN.{length, take}
-use Rattle.quick.specs.Candidates.{farKeys}
+use Rattle.around.specs.Candidates.{farKeys}
 use Rattle.quick.proofs.Rest.{Awaits, far-start, far-skip, far-more, far-all}
 use Rattle.quick.proofs.put_far.Statement.{statement}
 use Rattle.quick.proofs.put_far.Tie as tie

@@ -5,7 +5,7 @@ use native.Mathlib.Omega.{arith}
 use denote.Ref.{now}
 use lib.ListN.{length, getD}
 use Rattle.lists.proofs.Tests.{node-valid}
-use Rattle.quick.proofs.Counting.{found-distinct}
+use Rattle.around.proofs.Counting.{found-distinct}
 use Rattle.quick.proofs.FarRow.{far-row}
 use Rattle.quick.proofs.Gathered.{root-row, row-far, row-near, inner-row, is-leaf, child, levels-at, near-row}
 use Rattle.quick.proofs.put_row.Statement.{statement}

@@ -2,7 +2,7 @@
 use borrow.Author.Needs.{needs}
 use mathlib.Core.Path.{subst}
 use denote.Ref.{now}
-use Rattle.quick.specs.Candidates.{Ready}
+use Rattle.around.specs.Candidates.{Ready}
 use Rattle.quick.proofs.renew.Statement.{statement}
 use Rattle.quick.proofs.renew.Tie as tie
 

@@ -21,8 +21,8 @@ use Rattle.slices.proofs.Members.{mem-filter, mem-range, range-distinct, distin
 use Rattle.sourced.specs.Room.{Holds, Puts}
 use Rattle.sourced.proofs.Putting.{holds-none}
 use Rattle.places.specs.Places.{placeOf}
 use Rattle.around.specs.Around.{Gathers}
-use Rattle.quick.specs.Candidates.{Listed, Found}
+use Rattle.around.specs.Candidates.{Listed, Found}
 
 pub count-map : (p : ℕ → Bool) (f : ℕ → ℕ) (xs : List ℕ) → count p (map f xs) ≡ count (λ j. p (f j)) xs
 unfolding count
