@@ -1,5 +1,6 @@
 pub mod Rest
 pub mod FarRow
 pub mod NearRow
+pub mod Owners
 pub mod Near
-pub mod Gathered
+pub mod EachRow

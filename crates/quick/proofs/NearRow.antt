@@ -32,6 +32,7 @@ use Rattle.around.specs.Around.{around, owner, Setting}
 use Rattle.around.proofs.Nearby.{above-parent}
 use Rattle.around.specs.Candidates.{Found, Child, touches, underNear}
 use Rattle.around.proofs.Counting.{found-test, found-mem}
+use Rattle.quick.specs.Marks.{owns, ownsUnder}
 use Rattle.quick.proofs.FarRow.{up-level, up-code, touch-near}
 
 -- an owner is a sourced leaf, and the other way round
@@ -127,31 +128,23 @@ module _ (d : ℕ) (keys own first : List ℕ) (p b spot : ℕ) (c : Child d key
                   (both up (sourced-by d keys own (cellAt d (levelOf b) x) x m (ltb-true 0 (ownOf keys own x) o) below))
 
     -- the U row's test in two parts
-    pub near-split : (x : ℕ) → Mem x keys → bit (inU d keys own b x) ≡ bit (owner d keys own p (suc (levelOf p)) x) + bit (underNear d keys spot (take n nodes) x && owner d keys own b 17 x)
-    near-split x m = ap bit (u-owner d keys own t b x m) ∙ go (ltb 0 (ownOf keys own x)) refl (decLt (levelOf x) (levelOf b))
+    pub near-split : (x : ℕ) → Mem x keys → bit (inU d keys own b x) ≡ bit (owner d keys own p (suc (levelOf p)) x) + bit (ownsUnder d keys own (touches d keys spot) (take n nodes) x)
+    near-split x m = ap bit (u-owner d keys own t b x m) ∙ go (owns keys own x) refl (decLt (levelOf x) (levelOf b))
       where
-        deep : ltb (levelOf x) 17 ≡ true
-        deep = lt-ltb (levelOf x) 17 (omega (arith, level-le d keys (tree-facts d keys own t .ascending) x m))
-
         last : (s : Bool) → (s && false) ≡ false
         last true = refl
         last false = refl
 
-        go : (o : Bool) → ltb 0 (ownOf keys own x) ≡ o → Dec (levelOf x < levelOf b)
-            → bit (o && close d b x) ≡ bit (o && (close d p x && ltb (levelOf x) (suc (levelOf p)))) + bit (underNear d keys spot (take n nodes) x && (o && (close d b x && ltb (levelOf x) 17)))
+        go : (o : Bool) → owns keys own x ≡ o → Dec (levelOf x < levelOf b)
+            → bit (o && close d b x) ≡ bit (o && (close d p x && ltb (levelOf x) (suc (levelOf p)))) + bit (underNear d keys spot (take n nodes) x && o)
         go false e _ = sym (zero-add (bit (underNear d keys spot (take n nodes) x && false)) ∙ ap bit (last (underNear d keys spot (take n nodes) x)))
         go true e (yes h) =
             let off : underNear d keys spot (take n nodes) x ≡ false = refute (near-none x m e h) in
             let low : ltb (levelOf x) (suc (levelOf p)) ≡ true = lt-ltb (levelOf x) (suc (levelOf p)) (omega (arith, up-level d keys own first p b spot c)) in
             let first : (close d p x && ltb (levelOf x) (suc (levelOf p))) ≡ close d b x = ap₂ (λ u v. u && v) (coarse x h) low ∙ and-true (close d b x) in
-            sym (ap₂ (λ u v. bit u + bit (v && (close d b x && ltb (levelOf x) 17))) first off ∙ add-zero (bit (close d b x)))
+            sym (ap₂ (λ u v. bit u + bit (v && true)) first off ∙ add-zero (bit (close d b x)))
         go true e (no h) =
             let ge : levelOf b ≤ levelOf x = omega arith in
             let off : ltb (levelOf x) (suc (levelOf p)) ≡ false = le-ltb (levelOf x) (suc (levelOf p)) (omega (arith, up-level d keys own first p b spot c)) in
             let none : (close d p x && ltb (levelOf x) (suc (levelOf p))) ≡ false = ap (λ u. close d p x && u) off ∙ last (close d p x) in
-            sym (ap₂ (λ u v. bit u + bit (v && (close d b x && ltb (levelOf x) 17))) none (near-close x m e ge)
-            ∙ zero-add (bit (close d b x && (close d b x && ltb (levelOf x) 17))) ∙ ap (λ s. bit (close d b x && (close d b x && s))) deep ∙ twice (close d b x))
-          where
-            twice : (s : Bool) → bit (s && (s && true)) ≡ bit s
-            twice true = refl
-            twice false = refl
+            sym (ap₂ (λ u v. bit u + bit (v && true)) none (near-close x m e ge) ∙ zero-add (bit (close d b x && true)) ∙ ap bit (and-true (close d b x)))

@@ -1,21 +1,24 @@
 -- Loops along the gathered nodes: what the rest gives, after what was put, is what all give.
 use mathlib.Core.Path.{_≡_, refl, sym, ap, ap₂, _∙_, subst}
-use mathlib.Core.Bool.{Bool, true, false, not, _&&_, cond}
+use mathlib.Core.Bool.{Bool, true, false, not, cond}
 use mathlib.Core.List.{List, [], _∷_, _++_, map, append-assoc, append-nil}
 use Prim.Native.Nat.{ℕ, zero, suc, _+_, _-_, _≤_, _<_}
 use native.Mathlib.Omega.{arith}
 use native.Mathlib.Numerals.{add-one}
-use lib.ListN.{length, getD, take, drop}
-use lib.Seq.{drop-cons, getD-take, length-take-le}
+use lib.Dec.{eqb}
+use lib.ListN.{length, getD, take, drop, set, length-set}
+use lib.Seq.{drop-cons, getD-take, length-take-le, take-set-le}
+use borrow.Author.Tests.{eq-eqb, ne-eqb}
 use Rattle.slices.specs.Lists.{filter}
 use Rattle.sourced.specs.Room.{Holds, Puts}
-use Rattle.places.specs.Places.{placeOf, beside}
-use Rattle.around.specs.Candidates.{Listed, farKeys, touches}
+use Rattle.sourced.proofs.Putting.{put-room}
+use Rattle.around.specs.Candidates.{bitOf}
+use Rattle.quick.specs.Marks.{Numbered, Marks, unmarked}
 
 pub puts-none : (out : List ℕ) (n : ℕ) → Puts out n [] out n
 puts-none out n done h = rw (append-nil done) h
 
-pub puts-join : (out out₁ out₂ xs ys : List ℕ) (n n₁ n₂ : ℕ) → Puts out n xs out₁ n₁ → Puts out₁ n₁ ys out₂ n₂ → Puts out n (xs ++ ys) out₂ n₂
+puts-join : (out out₁ out₂ xs ys : List ℕ) (n n₁ n₂ : ℕ) → Puts out n xs out₁ n₁ → Puts out₁ n₁ ys out₂ n₂ → Puts out n (xs ++ ys) out₂ n₂
 puts-join out out₁ out₂ xs ys n n₁ n₂ a b done h = subst (λ l. Holds out₂ n₂ l) (append-assoc done xs ys) (b (done ++ xs) (a done h))
 
 -- the rest of the list from j on, put next, makes all
@@ -36,34 +39,56 @@ drop-all (suc j) (x ∷ xs) h = drop-all j xs (omega arith)
 pub ended : (xs : List ℕ) (c j : ℕ) → c ≤ j → c ≤ length xs → drop j (take c xs) ≡ []
 ended xs c j h l = let k : length (take c xs) ≡ c = length-take-le c xs l in drop-all j (take c xs) (omega arith)
 
-module _ (d : ℕ) (keys : List ℕ) (spot : ℕ) where
-  far-yes : (x : ℕ) (xs : List ℕ) → touches d keys spot x ≡ false → farKeys d keys spot (x ∷ xs) ≡ getD keys x 0 ∷ farKeys d keys spot xs
+-- a key stored just past the counted ones changes nothing yet
+store-past : (out : List ℕ) (n k : ℕ) → n < length out → Puts out n [] (set out n k) n
+store-past out n k h done g =
+    let e : length done ≡ n = omega (arith, g .counted) in
+    let s : length (set out n k) ≡ length out = length-set out n k in
+    subst (λ l. Holds (set out n k) n l) (sym (append-nil done)) (record {
+      counted = omega (arith, e, s, h);
+      begins = λ r. ap (λ (i : ℕ). take i (set out n k)) e ∙ take-set-le n out n k (omega arith) ∙ ap (λ (i : ℕ). take i out) (sym e) ∙ g .begins (omega arith);
+    })
+
+module _ (keys : List ℕ) (t : ℕ → Bool) where
+  far-yes : (x : ℕ) (xs : List ℕ) → t x ≡ false → unmarked keys t (x ∷ xs) ≡ getD keys x 0 ∷ unmarked keys t xs
   unfolding filter
-  far-yes x xs e = ap (λ (b : Bool). map (λ j. getD keys j 0) (cond (not b) (x ∷ filter (λ j. not (touches d keys spot j)) xs) (filter (λ j. not (touches d keys spot j)) xs))) e
+  far-yes x xs e = ap (λ (b : Bool). map (λ j. getD keys j 0) (cond (not b) (x ∷ filter (λ j. not (t j)) xs) (filter (λ j. not (t j)) xs))) e
 
-  far-no : (x : ℕ) (xs : List ℕ) → touches d keys spot x ≡ true → farKeys d keys spot (x ∷ xs) ≡ farKeys d keys spot xs
+  far-no : (x : ℕ) (xs : List ℕ) → t x ≡ true → unmarked keys t (x ∷ xs) ≡ unmarked keys t xs
   unfolding filter
-  far-no x xs e = ap (λ (b : Bool). map (λ j. getD keys j 0) (cond (not b) (x ∷ filter (λ j. not (touches d keys spot j)) xs) (filter (λ j. not (touches d keys spot j)) xs))) e
+  far-no x xs e = ap (λ (b : Bool). map (λ j. getD keys j 0) (cond (not b) (x ∷ filter (λ j. not (t j)) xs) (filter (λ j. not (t j)) xs))) e
 
-  module _ (nodes places : List ℕ) (c : ℕ) (l : Listed d keys nodes places c) (out₀ : List ℕ) (n₀ : ℕ) where
-    pub far-start : Awaits (farKeys d keys spot) (take c nodes) out₀ n₀ 0 out₀ n₀
-    far-start out' n' p = p
+-- the keys that bit s does not mark, whatever test the marks stand for
+abbrev pub AwaitsFar : List ℕ → List ℕ → List ℕ → ℕ → ℕ → List ℕ → ℕ → ℕ → List ℕ → ℕ → Type 0
+AwaitsFar keys nodes masks c s out₀ n₀ j out n = (t : ℕ → Bool) → Marks nodes masks c s t → Awaits (unmarked keys t) (take c nodes) out₀ n₀ j out n
 
-    module _ (j : ℕ) (h : j < c) (out : List ℕ) (n : ℕ) (w : Awaits (farKeys d keys spot) (take c nodes) out₀ n₀ j out n) where
-      at : touches d keys spot (getD nodes j 0) ≡ beside (getD places j 0) spot 0
-      at = ap (λ x. beside x spot 0) (sym (l .placed j h))
+module _ (keys nodes masks : List ℕ) (c s : ℕ) (l : Numbered keys nodes masks c) (out₀ : List ℕ) (n₀ : ℕ) where
+  pub far-start : AwaitsFar keys nodes masks c s out₀ n₀ 0 out₀ n₀
+  far-start t k out' n' p = p
 
-      pub far-skip : beside (getD places j 0) spot 0 ≡ true → Awaits (farKeys d keys spot) (take c nodes) out₀ n₀ (j + 1) out n
-      far-skip e out' n' p = w out' n' (subst (λ ys. Puts out n ys out' n') (sym (ap (farKeys d keys spot) (next nodes c j h (l .fits)) ∙ far-no (getD nodes j 0) (drop (j + 1) (take c nodes)) (at ∙ e))) p)
+  module _ (j : ℕ) (h : j < c) (out : List ℕ) (n : ℕ) (w : AwaitsFar keys nodes masks c s out₀ n₀ j out n) where
+    pub far-skip : (out₁ : List ℕ) → Puts out n [] out₁ n → bitOf (getD masks j 0) s ≡ true → AwaitsFar keys nodes masks c s out₀ n₀ (j + 1) out₁ n
+    far-skip out₁ q e t k out' n' p =
+        w t k out' n' (subst (λ ys. Puts out n ys out' n') (sym (ap (unmarked keys t) (next nodes c j h (l .fits)) ∙ far-no keys t (getD nodes j 0) (drop (j + 1) (take c nodes)) (sym (k j h) ∙ e)))
+        (puts-join out out₁ out' [] (unmarked keys t (drop (j + 1) (take c nodes))) n n n' q p))
 
-      pub far-more : beside (getD places j 0) spot 0 ≡ false → (out₁ : List ℕ) (n₁ : ℕ) → Puts out n (getD keys (getD nodes j 0) 0 ∷ []) out₁ n₁ → Awaits (farKeys d keys spot) (take c nodes) out₀ n₀ (j + 1) out₁ n₁
-      far-more e out₁ n₁ q out' n' p =
-          w out' n' (subst (λ ys. Puts out n ys out' n') (sym (ap (farKeys d keys spot) (next nodes c j h (l .fits)) ∙ far-yes (getD nodes j 0) (drop (j + 1) (take c nodes)) (at ∙ e)))
-          (puts-join out out₁ out' (getD keys (getD nodes j 0) 0 ∷ []) (farKeys d keys spot (drop (j + 1) (take c nodes))) n n₁ n' q p))
+    pub far-more : bitOf (getD masks j 0) s ≡ false → (out₁ : List ℕ) (n₁ : ℕ) → Puts out n (getD keys (getD nodes j 0) 0 ∷ []) out₁ n₁ → AwaitsFar keys nodes masks c s out₀ n₀ (j + 1) out₁ n₁
+    far-more e out₁ n₁ q t k out' n' p =
+        w t k out' n' (subst (λ ys. Puts out n ys out' n') (sym (ap (unmarked keys t) (next nodes c j h (l .fits)) ∙ far-yes keys t (getD nodes j 0) (drop (j + 1) (take c nodes)) (sym (k j h) ∙ e)))
+        (puts-join out out₁ out' (getD keys (getD nodes j 0) 0 ∷ []) (unmarked keys t (drop (j + 1) (take c nodes))) n n₁ n' q p))
 
-    pub far-all : (j : ℕ) → c ≤ j → (out : List ℕ) (n : ℕ) → Awaits (farKeys d keys spot) (take c nodes) out₀ n₀ j out n → Puts out₀ n₀ (farKeys d keys spot (take c nodes)) out n
-    unfolding filter
-    far-all j h out n w = w out n (subst (λ ys. Puts out n (farKeys d keys spot ys) out n) (sym (ended nodes c j h (l .fits))) (puts-none out n))
+    -- stored in any case, and counted if the bit is 0
+    pub far-store : n < length out → (v : ℕ) → v < 2 → eqb v 1 ≡ bitOf (getD masks j 0) s → AwaitsFar keys nodes masks c s out₀ n₀ (j + 1) (set out n (getD keys (getD nodes j 0) 0)) (n + (1 - v))
+    far-store r zero b e = far-more (sym e) (set out n (getD keys (getD nodes j 0) 0)) (n + 1) (put-room out n (getD keys (getD nodes j 0) 0) r)
+    far-store r (suc zero) b e =
+        let z : n ≡ n + (1 - 1) = omega arith in
+        subst (λ (i : ℕ). AwaitsFar keys nodes masks c s out₀ n₀ (j + 1) (set out n (getD keys (getD nodes j 0) 0)) i) z
+        (far-skip (set out n (getD keys (getD nodes j 0) 0)) (store-past out n (getD keys (getD nodes j 0) 0) r) (sym e))
+    far-store r (suc (suc v)) b e = absurd (omega arith)
+
+  pub far-all : (j : ℕ) → c ≤ j → (out : List ℕ) (n : ℕ) → AwaitsFar keys nodes masks c s out₀ n₀ j out n → (t : ℕ → Bool) → Marks nodes masks c s t → Puts out₀ n₀ (unmarked keys t (take c nodes)) out n
+  unfolding filter
+  far-all j h out n w t k = w t k out n (subst (λ ys. Puts out n (unmarked keys t ys) out n) (sym (ended nodes c j h (l .fits))) (puts-none out n))
 
 -- all of a list
 module _ (keys : List ℕ) (c : ℕ) (l : c ≤ length keys) (out₀ : List ℕ) (n₀ : ℕ) where

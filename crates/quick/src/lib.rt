@@ -1,42 +1,57 @@
-// The U and V rows of a tree's nodes, as `lists` writes them, in less time: what lies around a parent is gathered once for its children.
+// The U and V rows of a tree's nodes, as `lists` writes them, in less time: what lies around a parent was gathered once for its children, with a mask of those that each node touches.
 ghost use mathlib.Core.Path.{_≡_};
-ghost use mathlib.Core.Bool.{_&&_};
-ghost use Prim.Native.Nat.{ℕ, suc, _≤_, _<_};
+ghost use mathlib.Core.Bool.{Bool, _&&_};
+ghost use Prim.Native.Nat.{ℕ, _+_, _≤_, _<_};
 ghost use lib.ListN.{length, getD, take};
 ghost use Rattle.slices.specs.Lists.{Distinct};
-ghost use Rattle.morton.specs.Keys.{levelOf, parent};
-ghost use Rattle.sourced.specs.Trees.{SoundTree};
+ghost use Rattle.morton.specs.Keys.{levelOf, under, parent};
+ghost use Rattle.sourced.specs.Trees.{SoundTree, LevelsLeft};
 ghost use Rattle.sourced.specs.Room.{Puts};
-ghost use Rattle.places.specs.Places.{placeOf};
 ghost use Rattle.firsts.specs.Firsts.{FirstChildren};
-ghost use Rattle.around.specs.Around.{owner, Setting};
-ghost use Rattle.lists.specs.Descent.{PutsThose, PutsRow, listRow, WritesRows, WritesList};
-ghost use Rattle.around.specs.Candidates.{Listed, farKeys, underNear, Kept, Ready};
+ghost use Rattle.lists.specs.Descent.{underOne, PutsThose, PutsRow, listRow};
+ghost use Rattle.around.specs.Candidates.{Prepared};
+ghost use Rattle.quick.specs.Marks.{Numbered, Marks, unmarked, owns, ownsUnder};
 
-// How many nodes were gathered around a cell, and how many owners close to it.
-pub struct Counts {
-    pub around: usize,
-    pub owners: usize,
-}
-
-// Puts the keys of the gathered nodes that do not touch a cell of their level, by their places.
-fn put_far(
-    axes: usize,
+// Puts the keys of the nodes that bit s does not mark, where there is room for all of them: each key is stored, and the next one takes its place unless it counts.
+fn store_far(
     key: &[u64],
     nodes: &[usize],
-    places: &[u64],
+    masks: &[u64],
     c: usize,
-    spot: u64,
+    s: u64,
     out: &mut [u64],
     n: usize,
 ) -> usize
-    requires { ⌜ Listed axes (now key) (now nodes) (now places) c ⌝ }
-    ensures { λ r. ⌜ Puts (now (out .entry)) n (farKeys axes (now (key .entry)) spot (take c (now (nodes .entry)))) (now (out .exit)) r ⌝ }
+    requires { ⌜ Numbered (now key) (now nodes) (now masks) c × (s < 64) × (n + c ≤ length (now out)) ⌝ }
+    ensures { λ r. ⌜ ((t : ℕ → Bool) → Marks (now (nodes .entry)) (now (masks .entry)) c s t → Puts (now (out .entry)) n (unmarked (now (key .entry)) t (take c (now (nodes .entry)))) (now (out .exit)) r) ⌝ }
 {
     let mut m = n;
     let mut j: usize = 0;
     while j < c {
-        if places::is_beside(places[j], spot, 0) {
+        out[m] = key[nodes[j]];
+        m += 1 - ((masks[j] >> s) % 2) as usize;
+        j += 1;
+    }
+    m
+}
+
+// Puts the keys of the nodes that bit s does not mark, into whatever room there is.
+fn try_far(
+    key: &[u64],
+    nodes: &[usize],
+    masks: &[u64],
+    c: usize,
+    s: u64,
+    out: &mut [u64],
+    n: usize,
+) -> usize
+    requires { ⌜ Numbered (now key) (now nodes) (now masks) c × (s < 64) ⌝ }
+    ensures { λ r. ⌜ ((t : ℕ → Bool) → Marks (now (nodes .entry)) (now (masks .entry)) c s t → Puts (now (out .entry)) n (unmarked (now (key .entry)) t (take c (now (nodes .entry)))) (now (out .exit)) r) ⌝ }
+{
+    let mut m = n;
+    let mut j: usize = 0;
+    while j < c {
+        if (masks[j] >> s) % 2 == 1 {
             j += 1;
         } else {
             m = sourced::put(out, m, key[nodes[j]]);
@@ -46,42 +61,98 @@ fn put_far(
     m
 }
 
-// Puts the keys of the owners at or under those gathered nodes that touch b.
+// Puts the keys of the nodes that bit s does not mark.
+fn put_far(
+    key: &[u64],
+    nodes: &[usize],
+    masks: &[u64],
+    c: usize,
+    s: u64,
+    out: &mut [u64],
+    n: usize,
+) -> usize
+    requires { ⌜ Numbered (now key) (now nodes) (now masks) c × (s < 64) ⌝ }
+    ensures { λ r. ⌜ ((t : ℕ → Bool) → Marks (now (nodes .entry)) (now (masks .entry)) c s t → Puts (now (out .entry)) n (unmarked (now (key .entry)) t (take c (now (nodes .entry)))) (now (out .exit)) r) ⌝ }
+{
+    if n < out.len() {
+        if c <= out.len() - n {
+            return store_far(key, nodes, masks, c, s, out, n);
+        }
+    }
+    try_far(key, nodes, masks, c, s, out, n)
+}
+
+// The cell step: puts the keys of the owners at or under a node with so many levels left, its own among them.
+fn owners_cell(
+    axes: usize,
+    key: &[u64],
+    own: &[usize],
+    first: &[usize],
+    node: usize,
+    left: usize,
+    out: &mut [u64],
+    n: usize,
+) -> usize
+    requires { ⌜ SoundTree axes (now key) (now own) × FirstChildren axes (now key) (now own) (now first) × (node < length (now key)) × (levelOf (getD (now key) node 0) + left ≡ 17) ⌝ }
+    ensures { λ r. ⌜ PutsThose (now (key .entry)) (λ x. under axes (getD (now (key .entry)) node 0) x && owns (now (key .entry)) (now (own .entry)) x) (now (out .entry)) n (now (out .exit)) r ⌝ }
+{
+    if 0 < own[node] {
+        return sourced::put(out, n, key[node]);
+    }
+    if !firsts::is_sourced(axes, key, own, first, node) {
+        return n;
+    }
+    let from = firsts::first_of(first, node);
+    let to = firsts::first_of(first, node + 1);
+    owners_kids(axes, key, own, first, from, to, left - 1, out, n)
+}
+
+// The children step: the same for the nodes from one number up to another.
+fn owners_kids(
+    axes: usize,
+    key: &[u64],
+    own: &[usize],
+    first: &[usize],
+    from: usize,
+    to: usize,
+    left: usize,
+    out: &mut [u64],
+    n: usize,
+) -> usize
+    requires { ⌜ SoundTree axes (now key) (now own) × FirstChildren axes (now key) (now own) (now first) × (to ≤ length (now key)) × LevelsLeft (now key) from to left ⌝ }
+    ensures { λ r. ⌜ PutsThose (now (key .entry)) (λ x. underOne axes (now (key .entry)) from to x && owns (now (key .entry)) (now (own .entry)) x) (now (out .entry)) n (now (out .exit)) r ⌝ }
+{
+    let mut m = n;
+    let mut j = from;
+    while j < to {
+        m = owners_cell(axes, key, own, first, j, left, out, m);
+        j += 1;
+    }
+    m
+}
+
+// Puts the keys of the owners at or under the nodes that bit s marks, which are of one level and have so many left.
 fn put_near(
     axes: usize,
     key: &[u64],
     own: &[usize],
     first: &[usize],
     nodes: &[usize],
-    places: &[u64],
+    masks: &[u64],
     c: usize,
-    b: u64,
-    spot: u64,
+    s: u64,
+    left: usize,
     out: &mut [u64],
     n: usize,
 ) -> usize
-    requires { ⌜ Setting axes (now key) (now own) (now first) b spot × Listed axes (now key) (now nodes) (now places) c × Distinct (take c (now nodes)) × ((i : ℕ) → i < c → levelOf (getD (now key) (getD (now nodes) i 0) 0) ≡ levelOf b) ⌝ }
-    ensures { λ r. ⌜ PutsThose (now (key .entry)) (λ x. underNear axes (now (key .entry)) spot (take c (now (nodes .entry))) x && owner axes (now (key .entry)) (now (own .entry)) b 17 x) (now (out .entry)) n (now (out .exit)) r ⌝ }
+    requires { ⌜ SoundTree axes (now key) (now own) × FirstChildren axes (now key) (now own) (now first) × Numbered (now key) (now nodes) (now masks) c × (s < 64) × Distinct (take c (now nodes)) × ((i : ℕ) → i < c → levelOf (getD (now key) (getD (now nodes) i 0) 0) + left ≡ 17) ⌝ }
+    ensures { λ r. ⌜ ((t : ℕ → Bool) → Marks (now (nodes .entry)) (now (masks .entry)) c s t → PutsThose (now (key .entry)) (ownsUnder axes (now (key .entry)) (now (own .entry)) t (take c (now (nodes .entry)))) (now (out .entry)) n (now (out .exit)) r) ⌝ }
 {
-    let left = 17 - (b % 32768) as usize;
     let mut m = n;
     let mut j: usize = 0;
     while j < c {
-        if places::is_beside(places[j], spot, 0) {
-            m = around::owners_cell(
-                axes,
-                key,
-                own,
-                first,
-                b,
-                spot,
-                17,
-                nodes[j],
-                places[j],
-                left,
-                out,
-                m,
-            );
+        if (masks[j] >> s) % 2 == 1 {
+            m = owners_cell(axes, key, own, first, nodes[j], left, out, m);
             j += 1;
         } else {
             j += 1;
@@ -104,112 +175,7 @@ fn put_all(keys: &[u64], c: usize, out: &mut [u64], n: usize) -> usize
     m
 }
 
-// Puts the owners of levels up to p's that are close to p: the kept ones, or by a descent where there were too many to keep.
-fn put_coarse(
-    axes: usize,
-    key: &[u64],
-    own: &[usize],
-    first: &[usize],
-    p: u64,
-    held: &[u64],
-    h: usize,
-    out: &mut [u64],
-    n: usize,
-) -> usize
-    requires { ⌜ Setting axes (now key) (now own) (now first) p (placeOf axes p) × Kept axes (now key) (now own) p (now held) h ⌝ }
-    ensures { λ r. ⌜ PutsThose (now (key .entry)) (owner axes (now (key .entry)) (now (own .entry)) p (suc (levelOf p))) (now (out .entry)) n (now (out .exit)) r ⌝ }
-{
-    if held.len() < h {
-        let spot = places::place_of(axes, p);
-        return around::owners_cell(
-            axes,
-            key,
-            own,
-            first,
-            p,
-            spot,
-            p % 32768 + 1,
-            0,
-            0,
-            17,
-            out,
-            n,
-        );
-    }
-    put_all(held, h, out, n)
-}
-
-// Gathers anew what the rows of p's children are taken from.
-pub fn gather_for(
-    axes: usize,
-    key: &[u64],
-    own: &[usize],
-    first: &[usize],
-    far: bool,
-    p: u64,
-    nodes: &mut [usize],
-    places: &mut [u64],
-    held: &mut [u64],
-) -> Counts
-    requires { ⌜ Setting axes (now key) (now own) (now first) p (placeOf axes p) × (216 ≤ length (now nodes)) × (length (now places) ≡ length (now nodes)) ⌝ }
-    ensures { λ r. ⌜ Ready axes (now (key .entry)) (now (own .entry)) (now (first .entry)) far p (now (nodes .exit)) (now (places .exit)) (now (held .exit)) (r .around) (r .owners) ⌝ }
-{
-    let spot = places::place_of(axes, p);
-    let c = around::gather(axes, key, own, first, p, spot, nodes, places);
-    if far {
-        return Counts {
-            around: c,
-            owners: 0,
-        };
-    }
-    let h = around::owners_cell(
-        axes,
-        key,
-        own,
-        first,
-        p,
-        spot,
-        p % 32768 + 1,
-        0,
-        0,
-        17,
-        held,
-        0,
-    );
-    Counts {
-        around: c,
-        owners: h,
-    }
-}
-
-// The same for q, where what stands there is p's.
-pub fn renew(
-    axes: usize,
-    key: &[u64],
-    own: &[usize],
-    first: &[usize],
-    far: bool,
-    p: u64,
-    q: u64,
-    c: usize,
-    h: usize,
-    nodes: &mut [usize],
-    places: &mut [u64],
-    held: &mut [u64],
-) -> Counts
-    requires { ⌜ Setting axes (now key) (now own) (now first) q (placeOf axes q) × (216 ≤ length (now nodes)) × (length (now places) ≡ length (now nodes)) × Ready axes (now key) (now own) (now first) far p (now nodes) (now places) (now held) c h ⌝ }
-    ensures { λ r. ⌜ Ready axes (now (key .entry)) (now (own .entry)) (now (first .entry)) far q (now (nodes .exit)) (now (places .exit)) (now (held .exit)) (r .around) (r .owners) ⌝ }
-{
-    if p == q {
-        return Counts {
-            around: c,
-            owners: h,
-        };
-    }
-    gather_for(axes, key, own, first, far, q, nodes, places, held)
-}
-
-// Puts the row of a node, in some order, from what was gathered for its parent p.
+// Puts the row of a node, in some order, from what was prepared for its parent p.
 pub fn put_row(
     axes: usize,
     key: &[u64],
@@ -218,7 +184,7 @@ pub fn put_row(
     far: bool,
     p: u64,
     nodes: &[usize],
-    places: &[u64],
+    masks: &[u64],
     held: &[u64],
     c: usize,
     h: usize,
@@ -226,20 +192,21 @@ pub fn put_row(
     out: &mut [u64],
     n: usize,
 ) -> usize
-    requires { ⌜ Ready axes (now key) (now own) (now first) far p (now nodes) (now places) (now held) c h × (node < length (now key)) × (parent axes (getD (now key) node 0) ≡ p) ⌝ }
+    requires { ⌜ Prepared axes (now key) (now own) (now first) p (now nodes) (now masks) (now held) c h × (node < length (now key)) × (parent axes (getD (now key) node 0) ≡ p) ⌝ }
     ensures { λ r. ⌜ PutsRow (listRow axes (now (key .entry)) (now (own .entry)) far (getD (now (key .entry)) node 0)) (now (out .entry)) n (now (out .exit)) r ⌝ }
 {
     let k = key[node];
     if k == 0 {
         return n;
     }
-    let spot = places::place_of(axes, k);
+    let s = k / 32768 % (1 << axes);
     if far {
-        return put_far(axes, key, nodes, places, c, spot, out, n);
+        return put_far(key, nodes, masks, c, s, out, n);
     }
-    if first[node] < first[node + 1] {
+    if firsts::first_of(first, node) < firsts::first_of(first, node + 1) {
         return n;
     }
-    let m = put_coarse(axes, key, own, first, p, held, h, out, n);
-    put_near(axes, key, own, first, nodes, places, c, k, spot, out, m)
+    let m = put_all(held, h, out, n);
+    let left = 17 - (k % 32768) as usize;
+    put_near(axes, key, own, first, nodes, masks, c, s, left, out, m)
 }
