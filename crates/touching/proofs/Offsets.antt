@@ -102,26 +102,32 @@ module _ (b₀ b₁ b₂ p₀ p₁ p₂ : ℕ) (s₀ : b₀ < 2) (s₁ : b₁ < 
   child-2 : (b₀ + b₁ * 1048576 + b₂ * 1099511627776 + 2 * (p₀ + p₁ * 1048576 + p₂ * 1099511627776)) / 1099511627776 ≡ b₂ + 2 * p₂
   child-2 = omega arith
 
--- ---- the mask, as it is computed
-abbrev maskAt : ℕ → ℕ → ℕ → ℕ
-maskAt g₀ g₁ g₂ = bitAnd (bitAnd (bitAnd (734439363840 / 2 ^ (8 * g₀)) (880468243200 / 2 ^ (8 * g₁))) (1035087056640 / 2 ^ (8 * g₂))) 255
-
 regroup : (a b c : Bool) → (((a && b) && c) && true) ≡ (a && (b && c))
 regroup true true true = refl
 regroup true true false = refl
 regroup true false c = refl
 regroup false b c = refl
 
-mask-bits : (g₀ g₁ g₂ s : ℕ) → g₀ < 6 → g₁ < 6 → g₂ < 6 → s < 8 → bitOf (maskAt g₀ g₁ g₂) s ≡ (within1 g₀ (s % 2 + 2) && (within1 g₁ (s / 2 % 2 + 2) && within1 g₂ (s / 4 % 2 + 2)))
-unfolding every
-mask-bits g₀ g₁ g₂ s h₀ h₁ h₂ h =
-    let x = 734439363840 / 2 ^ (8 * g₀) in
-    let y = 880468243200 / 2 ^ (8 * g₁) in
-    let z = 1035087056640 / 2 ^ (8 * g₂) in
-    bit-and (bitAnd (bitAnd x y) z) 255 s
-    ∙ ap₂ (λ a b. a && b) (bit-and (bitAnd x y) z s ∙ ap₂ (λ a b. a && b) (bit-and x y s) refl) (full s h)
-    ∙ regroup (bitOf x s) (bitOf y s) (bitOf z s)
-    ∙ ap₂ (λ a b. a && b) (axis-mask 734439363840 (λ s. s % 2) refl g₀ s h₀ h) (ap₂ (λ a b. a && b) (axis-mask 880468243200 (λ s. s / 2 % 2) refl g₁ s h₁ h) (axis-mask 1035087056640 (λ s. s / 4 % 2) refl g₂ s h₂ h))
+-- ---- the mask, as it is computed from the masks of the three axes
+abbrev maskAt : ℕ → ℕ → ℕ → ℕ → ℕ → ℕ → ℕ
+maskAt m₀ m₁ m₂ g₀ g₁ g₂ = bitAnd (bitAnd (bitAnd (m₀ / 2 ^ (8 * g₀)) (m₁ / 2 ^ (8 * g₁))) (m₂ / 2 ^ (8 * g₂))) 255
+
+-- each axis has the right ones
+pub record AxisMasks (m₀ m₁ m₂ : ℕ) : Type 0 where
+  pub first : all-tell m₀ (λ s. s % 2) ≡ true
+  pub second : all-tell m₁ (λ s. s / 2 % 2) ≡ true
+  pub third : all-tell m₂ (λ s. s / 4 % 2) ≡ true
+
+module _ (m₀ m₁ m₂ : ℕ) (m : AxisMasks m₀ m₁ m₂) where
+  mask-bits : (g₀ g₁ g₂ s : ℕ) → g₀ < 6 → g₁ < 6 → g₂ < 6 → s < 8 → bitOf (maskAt m₀ m₁ m₂ g₀ g₁ g₂) s ≡ (within1 g₀ (s % 2 + 2) && (within1 g₁ (s / 2 % 2 + 2) && within1 g₂ (s / 4 % 2 + 2)))
+  mask-bits g₀ g₁ g₂ s h₀ h₁ h₂ h =
+      let x = m₀ / 2 ^ (8 * g₀) in
+      let y = m₁ / 2 ^ (8 * g₁) in
+      let z = m₂ / 2 ^ (8 * g₂) in
+      bit-and (bitAnd (bitAnd x y) z) 255 s
+      ∙ ap₂ (λ a b. a && b) (bit-and (bitAnd x y) z s ∙ ap₂ (λ a b. a && b) (bit-and x y s) refl) (full s h)
+      ∙ regroup (bitOf x s) (bitOf y s) (bitOf z s)
+      ∙ ap₂ (λ a b. a && b) (axis-mask m₀ (λ s. s % 2) (m .first) g₀ s h₀ h) (ap₂ (λ a b. a && b) (axis-mask m₁ (λ s. s / 2 % 2) (m .second) g₁ s h₁ h) (axis-mask m₂ (λ s. s / 4 % 2) (m .third) g₂ s h₂ h))
 
 -- a place's number on each axis
 abbrev on-0 : ℕ → ℕ
@@ -193,5 +199,7 @@ module _ (place spot : ℕ) (n : Beneath place spot) where
       (ap₂ (λ a b. a && b) (shifted (on-1 place) (on-1 spot) (offset-1 .g) (s / 2 % 2) (offset-1 .is) ∙ ap (within1 (on-1 place)) (sym (at-1 s)))
       (shifted (on-2 place) (on-2 spot) (offset-2 .g) (s / 4 % 2) (offset-2 .is) ∙ ap (within1 (on-2 place)) (sym (at-2 s))))
 
-  pub mask-is : MaskOf place spot (maskAt (on-0 (place + 2199025352706 - 2 * spot)) (on-1 (place + 2199025352706 - 2 * spot)) (on-2 (place + 2199025352706 - 2 * spot)))
-  mask-is s h = mask-bits _ _ _ s small-0 small-1 small-2 h ∙ ap₂ (λ a b. a && b) (ap (λ m. within1 m (s % 2 + 2)) gap-0) (ap₂ (λ a b. a && b) (ap (λ m. within1 m (s / 2 % 2 + 2)) gap-1) (ap (λ m. within1 m (s / 4 % 2 + 2)) gap-2)) ∙ told s
+  pub mask-is : (m₀ m₁ m₂ : ℕ) → AxisMasks m₀ m₁ m₂ → MaskOf place spot (maskAt m₀ m₁ m₂ (on-0 (place + 2199025352706 - 2 * spot)) (on-1 (place + 2199025352706 - 2 * spot)) (on-2 (place + 2199025352706 - 2 * spot)))
+  mask-is m₀ m₁ m₂ m s h =
+      mask-bits m₀ m₁ m₂ m _ _ _ s small-0 small-1 small-2 h
+      ∙ ap₂ (λ a b. a && b) (ap (λ g. within1 g (s % 2 + 2)) gap-0) (ap₂ (λ a b. a && b) (ap (λ g. within1 g (s / 2 % 2 + 2)) gap-1) (ap (λ g. within1 g (s / 4 % 2 + 2)) gap-2)) ∙ told s

@@ -1,6 +1,8 @@
 -- `touching::touch_mask` meets its contract.
 use borrow.Author.Needs.{needs}
 use native.Mathlib.Omega.{arith}
+use mathlib.Core.Path.{refl}
+use Rattle.slices.specs.Every.{every}
 use Rattle.touching.proofs.Offsets.{fits, small-0, small-1, small-2, mask-is}
 use Rattle.touching.proofs.touch_mask.Statement.{statement}
 use Rattle.touching.proofs.touch_mask.Tie as tie
@@ -12,7 +14,7 @@ mul-g : tie.Need-mul-g
 mul-g c = search needs
 
 sub-g : tie.Need-sub-g
-sub-g c = fits _ _ (c .pre)
+sub-g c = omega (arith, fits _ _ (c .pre))
 
 mul-x : tie.Need-mul-x
 mul-x c = search needs
@@ -33,7 +35,8 @@ shr-z : tie.Need-shr-z
 shr-z c = omega (arith, small-2 _ _ (c .pre))
 
 returns : tie.Need-returns
-returns c = mask-is _ _ (c .pre)
+unfolding every
+returns c = mask-is _ _ (c .pre) _ _ _ (record { first = refl; second = refl; third = refl })
 
 pub touch-mask-spec : {M : Type 1} → statement M
 touch-mask-spec =
