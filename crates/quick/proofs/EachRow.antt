@@ -2,7 +2,7 @@
 use mathlib.Core.Path.{_≡_, refl, sym, ap, ap₂, _∙_, subst}
 use mathlib.Core.Bool.{Bool, true, false}
 use mathlib.Core.List.{List, [], _∷_, map}
-use Prim.Native.Nat.{ℕ, zero, suc, _+_, _*_, _-_, _/_, _%_, _^_, _≤_, _<_}
+use Prim.Native.Nat.{ℕ, zero, suc, _+_, _*_, _-_, _%_, _^_, _≤_, _<_}
 use native.Mathlib.Omega.{arith}
 use native.Mathlib.Decide.{decLt}
 use lib.Dec.{leb}
@@ -29,7 +29,7 @@ use Rattle.lists.proofs.Tests.{far-root, node-valid}
 use Rattle.around.specs.Around.{around, owner}
 use Rattle.around.specs.Candidates.{Found, Prepared, Child, touches}
 use Rattle.around.proofs.Counting.{found-distinct, found-test}
-use Rattle.quick.specs.Marks.{Numbered, Marks, unmarked, ownsUnder}
+use Rattle.quick.specs.Marks.{Numbered, Marks, PutsUnmarked, ownsUnder, PutsOwners}
 use Rattle.quick.proofs.FarRow.{up-level, far-row}
 use Rattle.quick.proofs.NearRow.{near-split}
 
@@ -45,6 +45,9 @@ index-lt (suc zero) x h = (omega arith, omega arith)
 index-lt (suc (suc zero)) x h = (omega arith, omega arith)
 index-lt (suc (suc (suc zero))) x h = (omega arith, omega arith)
 index-lt (suc (suc (suc (suc d)))) x h = absurd (omega arith)
+
+pub index-small : (d x : ℕ) → d ≤ 3 → x % (1 * 2 ^ d % 18446744073709551616) < 64
+index-small d x h = subst (λ m. x % m < 64) (sym (fan d h)) (index-lt d x h .1)
 
 -- the root has no row
 pub root-row : (d : ℕ) (keys own : List ℕ) (far : Bool) (b : ℕ) → b ≡ 0 → (out : List ℕ) (n : ℕ) → PutsRow (listRow d keys own far b) out n out n
@@ -91,9 +94,6 @@ module _ (d : ℕ) (keys own first : List ℕ) (p : ℕ) (nodes masks held : Lis
       index : s ≡ codeOf (getD keys node 0) % 2 ^ d
       index = e ∙ ap (λ (m : ℕ). codeOf (getD keys node 0) % m) (fan d (q .setting .tree .most))
 
-      pub index-small : s < 64
-      index-small = omega (arith, index, index-lt d (codeOf (getD keys node 0)) (q .setting .tree .most) .1)
-
       marks : Marks nodes masks c s (touches d keys (stepOf s + 2 * placeOf d p))
       marks i r = q .masked .bits i s r (omega (arith, index, index-lt d (codeOf (getD keys node 0)) (q .setting .tree .most) .0))
 
@@ -127,12 +127,12 @@ module _ (d : ℕ) (keys own first : List ℕ) (p : ℕ) (nodes masks held : Lis
         up-level d keys own first p (getD keys node 0) (stepOf s + 2 * placeOf d p) child,
       )
 
-      pub far-put : (far : Bool) → far ≡ true → (out out' : List ℕ) (n n' : ℕ) → ((t : ℕ → Bool) → Marks nodes masks c s t → Puts out n (unmarked keys t (take c nodes)) out' n') → PutsRow (listRow d keys own far (getD keys node 0)) out n out' n'
+      pub far-put : (far : Bool) → far ≡ true → (out out' : List ℕ) (n n' : ℕ) → PutsUnmarked keys nodes masks c s out n out' n' → PutsRow (listRow d keys own far (getD keys node 0)) out n out' n'
       far-put far f out out' n n' put = subst (λ f. PutsRow (listRow d keys own f (getD keys node 0)) out n out' n') (sym f)
           (far-row d keys own first p (getD keys node 0) (stepOf s + 2 * placeOf d p) child nodes places c found out out' n n' (put (touches d keys (stepOf s + 2 * placeOf d p)) marks))
 
       pub near-put : (far : Bool) → far ≡ false → (from to : ℕ) → from ≡ firstOf first node → to ≡ firstOf first (node + 1) → to ≤ from → (out out₁ out' : List ℕ) (n n₁ n' : ℕ) → Puts out n (take h held) out₁ n₁
-          → ((t : ℕ → Bool) → Marks nodes masks c s t → PutsThose keys (ownsUnder d keys own t (take c nodes)) out₁ n₁ out' n') → PutsRow (listRow d keys own far (getD keys node 0)) out n out' n'
+          → PutsOwners d keys own nodes masks c s out₁ n₁ out' n' → PutsRow (listRow d keys own far (getD keys node 0)) out n out' n'
       near-put far f from to a b r out out₁ out' n n₁ n' held-put put = subst (λ f. PutsRow (listRow d keys own f (getD keys node 0)) out n out' n') (sym f)
           (row-put d keys own false (getD keys node 0) (is-leaf (omega (arith, a, b, r))) out out' n n'
           (those-join keys (owner d keys own p (suc (levelOf p))) (ownsUnder d keys own (touches d keys (stepOf s + 2 * placeOf d p)) (take c nodes)) (λ x. takes d keys own false (getD keys node 0) x) out out₁ out' n n₁ n'

@@ -2,19 +2,18 @@
 use mathlib.Core.Path.{_≡_, refl, sym, ap, ap₂, _∙_, subst}
 use mathlib.Core.Bool.{Bool, true, false, not, _&&_}
 use mathlib.Core.List.{List}
-use Prim.Native.Nat.{ℕ, zero, suc, _+_, _-_, _/_, _^_, _≤_, _<_}
+use Prim.Native.Nat.{ℕ, suc, _-_, _/_, _^_}
 use native.Mathlib.Omega.{arith}
 use lib.Dec.{ltb, eqb}
-use lib.ListN.{length, getD, take}
-use borrow.Author.Tests.{eqb-true, eq-eqb, not-true, not-false}
-use Rattle.slices.specs.Lists.{count, filter, range, Mem}
-use Rattle.slices.specs.Order.{ascending}
-use Rattle.slices.proofs.Tests.{and-l, and-r, both, clash, refute, same-test}
+use lib.ListN.{getD, take}
+use borrow.Author.Tests.{eqb-true, eq-eqb, not-true}
+use Rattle.slices.specs.Lists.{count, filter}
+use Rattle.slices.proofs.Tests.{and-l, and-r, both, same-test}
 use Rattle.slices.proofs.Counts.{count-ext}
 use Rattle.slices.proofs.Rows.{count-filter}
 use Rattle.slices.proofs.Same.{ascending-same}
-use Rattle.morton.specs.Keys.{levelOf, codeOf, above, parent, ValidKey}
-use Rattle.morton.specs.Anchors.{near, touching}
+use Rattle.morton.specs.Keys.{levelOf, codeOf, above, parent}
+use Rattle.morton.specs.Anchors.{near}
 use Rattle.morton.proofs.Cells.{above-zero, level-parent, code-parent}
 use Rattle.tree.specs.Nodes.{sourced}
 use Rattle.rows.specs.Lists.{neighbour, inV, vRow}
@@ -22,7 +21,7 @@ use Rattle.rows.proofs.RowTests.{v-facts, v-test}
 use Rattle.sourced.specs.Room.{Puts}
 use Rattle.places.specs.Places.{placeOf, beside}
 use Rattle.lists.specs.Descent.{PutsRow}
-use Rattle.around.specs.Around.{around, Setting}
+use Rattle.around.specs.Around.{around}
 use Rattle.around.proofs.Nearby.{place-near, near-sym}
 use Rattle.around.specs.Candidates.{Found, Child, farKeys, touches}
 use Rattle.around.proofs.Counting.{count-map, count-numbers, count-found}

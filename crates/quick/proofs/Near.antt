@@ -1,7 +1,7 @@
 -- The loop along the nodes that bit s marks: the owners under each.
 use mathlib.Core.Path.{_≡_, refl, sym, ap, _∙_, subst}
 use mathlib.Core.Bool.{Bool, true, false, _&&_, _||_}
-use mathlib.Core.List.{List, [], _∷_}
+use mathlib.Core.List.{List, []}
 use Prim.Native.Nat.{ℕ, _+_, _-_, _≤_, _<_}
 use native.Mathlib.Omega.{arith}
 use lib.ListN.{length, getD, take, drop, length-drop}
@@ -19,7 +19,7 @@ use Rattle.sourced.proofs.Below.{tree-facts}
 use Rattle.lists.specs.Descent.{PutsThose}
 use Rattle.lists.proofs.Those.{those-none, those-join, those-same}
 use Rattle.around.specs.Candidates.{bitOf}
-use Rattle.quick.specs.Marks.{Numbered, Marks, owns, ownsUnder}
+use Rattle.quick.specs.Marks.{Numbered, Marks, owns, ownsUnder, PutsOwners}
 use Rattle.quick.proofs.Rest.{next, ended}
 
 either : (a b t : Bool) → (a ≡ true → b ≡ true → ⊥) → bit ((a || b) && t) ≡ bit (a && t) + bit (b && t)
@@ -76,7 +76,7 @@ module _ (d : ℕ) (keys own : List ℕ) (tree : SoundTree d keys own) (nodes ma
         (λ x m. ap bit (first-of t true (sym (k j h) ∙ e) x)
         ∙ either (under d (getD keys (getD nodes j 0) 0) x) (any (λ j. t j && under d (getD keys j 0) x) (drop (j + 1) (take c nodes))) (owns keys own x) (apart t x)) q p)
 
-  pub near-all : (j : ℕ) → c ≤ j → (out : List ℕ) (n : ℕ) → AwaitsNear d keys own nodes masks c s out₀ n₀ j out n → (t : ℕ → Bool) → Marks nodes masks c s t → PutsThose keys (ownsUnder d keys own t (take c nodes)) out₀ n₀ out n
+  pub near-all : (j : ℕ) → c ≤ j → (out : List ℕ) (n : ℕ) → AwaitsNear d keys own nodes masks c s out₀ n₀ j out n → PutsOwners d keys own nodes masks c s out₀ n₀ out n
   near-all j h out n w t k = w t k out n (those-none keys (ownsUnder d keys own t (drop j (take c nodes))) out n
       (λ y m g. none y (subst (λ ys. ownsUnder d keys own t ys y ≡ true) (ended nodes c j h (l .fits)) g)))
     where

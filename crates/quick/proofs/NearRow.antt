@@ -1,34 +1,33 @@
 -- The owners close to a leaf: those of coarser levels are close to its parent, the others lie under what touches it.
 use mathlib.Core.Path.{_≡_, refl, sym, ap, ap₂, _∙_, subst}
 use mathlib.Core.Bool.{Bool, true, false, _&&_, and-true}
-use mathlib.Core.List.{List, [], _∷_}
-use Prim.Native.Nat.{ℕ, zero, suc, _+_, _*_, _-_, _/_, _^_, _≤_, _<_, min}
+use mathlib.Core.List.{List}
+use Prim.Native.Nat.{ℕ, suc, _+_, _-_, _/_, _^_, _≤_, _<_, min}
 use native.Mathlib.Omega.{arith}
 use native.Mathlib.Decide.{decLt}
 use native.Mathlib.Nat.{add-zero, zero-add}
 use lib.Seq.{getD-take, length-take-le}
-use lib.Dec.{ltb, eqb, leb}
+use lib.Dec.{ltb}
 use lib.ListN.{length, getD, take}
 use borrow.Author.Tests.{ltb-true, eqb-true, eq-eqb, lt-ltb, le-ltb}
-use Rattle.slices.specs.Lists.{any, bit, count, filter, range, Mem}
-use Rattle.slices.proofs.Tests.{and-l, and-r, both, clash, refute, same-test}
+use Rattle.slices.specs.Lists.{bit, Mem}
+use Rattle.slices.proofs.Tests.{and-l, and-r, both, refute, same-test}
 use Rattle.slices.proofs.Counts.{any-intro, any-elim}
-use Rattle.slices.proofs.Members.{mem-range}
-use Rattle.morton.specs.Keys.{key, levelOf, codeOf, above, parent, under}
+use Rattle.morton.specs.Keys.{levelOf, codeOf, above, parent, under}
 use Rattle.morton.specs.Anchors.{near, close}
-use Rattle.morton.proofs.Cells.{above-zero, above-one, level-at, code-at}
+use Rattle.morton.proofs.Cells.{level-at, code-at}
 use Rattle.morton.proofs.Nearness.{near-up}
 use Rattle.tree.specs.Nodes.{cellAt, leaf, ownOf, sourced}
 use Rattle.tree.proofs.Rules.{WellFormed}
-use Rattle.tree.proofs.Stored.{above-mem, sourced-by, level-le}
+use Rattle.tree.proofs.Stored.{above-mem, sourced-by}
 use Rattle.tree.proofs.Sourced.{under-facts, facts-under, sourced-leaf}
-use Rattle.rows.specs.Lists.{inU, atOrUnder, besideAncestor}
+use Rattle.rows.specs.Lists.{inU}
 use Rattle.rows.proofs.Closeness.{near-is-close}
 use Rattle.sourced.specs.Trees.{SoundTree}
 use Rattle.sourced.proofs.Below.{tree-facts, own-of}
 use Rattle.places.specs.Places.{placeOf, beside}
-use Rattle.lists.proofs.Upwards.{close-up, close-finer}
-use Rattle.around.specs.Around.{around, owner, Setting}
+use Rattle.lists.proofs.Upwards.{close-finer}
+use Rattle.around.specs.Around.{around, owner}
 use Rattle.around.proofs.Nearby.{above-parent}
 use Rattle.around.specs.Candidates.{Found, Child, touches, underNear}
 use Rattle.around.proofs.Counting.{found-test, found-mem}
@@ -40,7 +39,7 @@ module _ (d : ℕ) (keys own : List ℕ) (t : SoundTree d keys own) where
   w : WellFormed d keys own (t .begin)
   w = tree-facts d keys own t
 
-  pub u-owner : (b x : ℕ) → Mem x keys → inU d keys own b x ≡ (ltb 0 (ownOf keys own x) && close d b x)
+  u-owner : (b x : ℕ) → Mem x keys → inU d keys own b x ≡ (ltb 0 (ownOf keys own x) && close d b x)
   unfolding inU
   u-owner b x m = same-test (inU d keys own b x) (ltb 0 (ownOf keys own x) && close d b x)
       (λ h. both (sym (sourced-leaf d keys own (t .begin) w x (and-l (leaf d keys x) _ h) m) ∙ and-l (sourced d keys own x) _ (and-r (leaf d keys x) _ h))

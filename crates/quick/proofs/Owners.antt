@@ -1,5 +1,5 @@
 -- The descent to all owners at or under a node.
-use mathlib.Core.Path.{_≡_, refl, sym, ap, _∙_, subst}
+use mathlib.Core.Path.{_≡_, refl, sym, ap, subst}
 use mathlib.Core.Bool.{Bool, true, false, _&&_}
 use mathlib.Core.List.{List, [], _∷_}
 use Prim.Native.Nat.{ℕ, _+_, _-_, _≤_, _<_}
@@ -9,7 +9,7 @@ use lib.ListN.{length, getD}
 use borrow.Author.Tests.{ltb-true, lt-ltb, eqb-true, eq-eqb}
 use Rattle.slices.specs.Lists.{Mem}
 use Rattle.slices.proofs.Tests.{and-l, and-r, clash, refute, same-test}
-use Rattle.morton.specs.Keys.{levelOf, under}
+use Rattle.morton.specs.Keys.{under}
 use Rattle.tree.specs.Nodes.{leaf, ownOf, sourced}
 use Rattle.tree.specs.Finding.{Children}
 use Rattle.tree.proofs.Rules.{WellFormed}

@@ -8,12 +8,11 @@ use native.Mathlib.Numerals.{add-one}
 use lib.Dec.{eqb}
 use lib.ListN.{length, getD, take, drop, set, length-set}
 use lib.Seq.{drop-cons, getD-take, length-take-le, take-set-le}
-use borrow.Author.Tests.{eq-eqb, ne-eqb}
 use Rattle.slices.specs.Lists.{filter}
 use Rattle.sourced.specs.Room.{Holds, Puts}
 use Rattle.sourced.proofs.Putting.{put-room}
 use Rattle.around.specs.Candidates.{bitOf}
-use Rattle.quick.specs.Marks.{Numbered, Marks, unmarked}
+use Rattle.quick.specs.Marks.{Numbered, Marks, unmarked, PutsUnmarked}
 
 pub puts-none : (out : List ℕ) (n : ℕ) → Puts out n [] out n
 puts-none out n done h = rw (append-nil done) h
@@ -86,7 +85,7 @@ module _ (keys nodes masks : List ℕ) (c s : ℕ) (l : Numbered keys nodes mask
         (far-skip (set out n (getD keys (getD nodes j 0) 0)) (store-past out n (getD keys (getD nodes j 0) 0) r) (sym e))
     far-store r (suc (suc v)) b e = absurd (omega arith)
 
-  pub far-all : (j : ℕ) → c ≤ j → (out : List ℕ) (n : ℕ) → AwaitsFar keys nodes masks c s out₀ n₀ j out n → (t : ℕ → Bool) → Marks nodes masks c s t → Puts out₀ n₀ (unmarked keys t (take c nodes)) out n
+  pub far-all : (j : ℕ) → c ≤ j → (out : List ℕ) (n : ℕ) → AwaitsFar keys nodes masks c s out₀ n₀ j out n → PutsUnmarked keys nodes masks c s out₀ n₀ out n
   unfolding filter
   far-all j h out n w t k = w t k out n (subst (λ ys. Puts out n (unmarked keys t ys) out n) (sym (ended nodes c j h (l .fits))) (puts-none out n))
 

@@ -4,10 +4,12 @@ use mathlib.Core.Bool.{Bool, not, _&&_}
 use mathlib.Core.List.{List, map}
 use Prim.Native.Nat.{ℕ, _≤_, _<_}
 use lib.Dec.{ltb}
-use lib.ListN.{length, getD}
+use lib.ListN.{length, getD, take}
 use Rattle.slices.specs.Lists.{any, filter}
 use Rattle.morton.specs.Keys.{under}
 use Rattle.tree.specs.Nodes.{ownOf}
+use Rattle.sourced.specs.Room.{Puts}
+use Rattle.lists.specs.Descent.{PutsThose}
 use Rattle.around.specs.Candidates.{bitOf}
 
 -- the first c of `nodes` are numbers of nodes, and each has a mask
@@ -24,6 +26,10 @@ Marks nodes masks c s t = (i : ℕ) → i < c → bitOf (getD masks i 0) s ≡ t
 abbrev pub unmarked : List ℕ → (ℕ → Bool) → List ℕ → List ℕ
 unmarked keys t cells = map (λ j. getD keys j 0) (filter (λ j. not (t j)) cells)
 
+-- the keys of those that bit s does not mark were put into a slice, whatever test the marks stand for
+abbrev pub PutsUnmarked : List ℕ → List ℕ → List ℕ → ℕ → ℕ → List ℕ → ℕ → List ℕ → ℕ → Type 0
+PutsUnmarked keys nodes masks c s out n out' n' = (t : ℕ → Bool) → Marks nodes masks c s t → Puts out n (unmarked keys t (take c nodes)) out' n'
+
 -- x owns sources
 abbrev pub owns : List ℕ → List ℕ → ℕ → Bool
 owns keys own x = ltb 0 (ownOf keys own x)
@@ -31,3 +37,7 @@ owns keys own x = ltb 0 (ownOf keys own x)
 -- x owns sources and lies at or under one of those that pass
 abbrev pub ownsUnder : ℕ → List ℕ → List ℕ → (ℕ → Bool) → List ℕ → ℕ → Bool
 ownsUnder d keys own t cells x = any (λ j. t j && under d (getD keys j 0) x) cells && owns keys own x
+
+-- the keys of the owners at or under those that bit s marks were put into a slice, whatever test the marks stand for
+abbrev pub PutsOwners : ℕ → List ℕ → List ℕ → List ℕ → List ℕ → ℕ → ℕ → List ℕ → ℕ → List ℕ → ℕ → Type 0
+PutsOwners d keys own nodes masks c s out n out' n' = (t : ℕ → Bool) → Marks nodes masks c s t → PutsThose keys (ownsUnder d keys own t (take c nodes)) out n out' n'

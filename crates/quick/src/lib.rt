@@ -1,6 +1,6 @@
 // The U and V rows of a tree's nodes, as `lists` writes them, in less time: what lies around a parent was gathered once for its children, with a mask of those that each node touches.
 ghost use mathlib.Core.Path.{_≡_};
-ghost use mathlib.Core.Bool.{Bool, _&&_};
+ghost use mathlib.Core.Bool.{_&&_};
 ghost use Prim.Native.Nat.{ℕ, _+_, _≤_, _<_};
 ghost use lib.ListN.{length, getD, take};
 ghost use Rattle.slices.specs.Lists.{Distinct};
@@ -10,7 +10,7 @@ ghost use Rattle.sourced.specs.Room.{Puts};
 ghost use Rattle.firsts.specs.Firsts.{FirstChildren};
 ghost use Rattle.lists.specs.Descent.{underOne, PutsThose, PutsRow, listRow};
 ghost use Rattle.around.specs.Candidates.{Prepared};
-ghost use Rattle.quick.specs.Marks.{Numbered, Marks, unmarked, owns, ownsUnder};
+ghost use Rattle.quick.specs.Marks.{Numbered, PutsUnmarked, owns, PutsOwners};
 
 // Puts the keys of the nodes that bit s does not mark, where there is room for all of them: each key is stored, and the next one takes its place unless it counts.
 fn store_far(
@@ -23,7 +23,7 @@ fn store_far(
     n: usize,
 ) -> usize
     requires { ⌜ Numbered (now key) (now nodes) (now masks) c × (s < 64) × (n + c ≤ length (now out)) ⌝ }
-    ensures { λ r. ⌜ ((t : ℕ → Bool) → Marks (now (nodes .entry)) (now (masks .entry)) c s t → Puts (now (out .entry)) n (unmarked (now (key .entry)) t (take c (now (nodes .entry)))) (now (out .exit)) r) ⌝ }
+    ensures { λ r. ⌜ PutsUnmarked (now (key .entry)) (now (nodes .entry)) (now (masks .entry)) c s (now (out .entry)) n (now (out .exit)) r ⌝ }
 {
     let mut m = n;
     let mut j: usize = 0;
@@ -46,7 +46,7 @@ fn try_far(
     n: usize,
 ) -> usize
     requires { ⌜ Numbered (now key) (now nodes) (now masks) c × (s < 64) ⌝ }
-    ensures { λ r. ⌜ ((t : ℕ → Bool) → Marks (now (nodes .entry)) (now (masks .entry)) c s t → Puts (now (out .entry)) n (unmarked (now (key .entry)) t (take c (now (nodes .entry)))) (now (out .exit)) r) ⌝ }
+    ensures { λ r. ⌜ PutsUnmarked (now (key .entry)) (now (nodes .entry)) (now (masks .entry)) c s (now (out .entry)) n (now (out .exit)) r ⌝ }
 {
     let mut m = n;
     let mut j: usize = 0;
@@ -72,7 +72,7 @@ fn put_far(
     n: usize,
 ) -> usize
     requires { ⌜ Numbered (now key) (now nodes) (now masks) c × (s < 64) ⌝ }
-    ensures { λ r. ⌜ ((t : ℕ → Bool) → Marks (now (nodes .entry)) (now (masks .entry)) c s t → Puts (now (out .entry)) n (unmarked (now (key .entry)) t (take c (now (nodes .entry)))) (now (out .exit)) r) ⌝ }
+    ensures { λ r. ⌜ PutsUnmarked (now (key .entry)) (now (nodes .entry)) (now (masks .entry)) c s (now (out .entry)) n (now (out .exit)) r ⌝ }
 {
     if n < out.len() {
         if c <= out.len() - n {
@@ -146,7 +146,7 @@ fn put_near(
     n: usize,
 ) -> usize
     requires { ⌜ SoundTree axes (now key) (now own) × FirstChildren axes (now key) (now own) (now first) × Numbered (now key) (now nodes) (now masks) c × (s < 64) × Distinct (take c (now nodes)) × ((i : ℕ) → i < c → levelOf (getD (now key) (getD (now nodes) i 0) 0) + left ≡ 17) ⌝ }
-    ensures { λ r. ⌜ ((t : ℕ → Bool) → Marks (now (nodes .entry)) (now (masks .entry)) c s t → PutsThose (now (key .entry)) (ownsUnder axes (now (key .entry)) (now (own .entry)) t (take c (now (nodes .entry)))) (now (out .entry)) n (now (out .exit)) r) ⌝ }
+    ensures { λ r. ⌜ PutsOwners axes (now (key .entry)) (now (own .entry)) (now (nodes .entry)) (now (masks .entry)) c s (now (out .entry)) n (now (out .exit)) r ⌝ }
 {
     let mut m = n;
     let mut j: usize = 0;

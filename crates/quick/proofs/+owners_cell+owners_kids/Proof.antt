@@ -3,11 +3,11 @@ use borrow.Author.Needs.{needs}
 use borrow.Fn.Kinds.{In}
 use borrow.Fn.PlainCycle.{Measures, is, falls, and}
 use Prim.Native.Nat.{ℕ, _+_, _*_, _-_, _≤_, _<_}
-use mathlib.Core.Path.{_≡_, refl, sym, ap₂, _∙_, subst}
+use mathlib.Core.Path.{_≡_, refl, sym, _∙_}
 use native.Mathlib.Omega.{arith}
 use borrow.Author.Tests.{not-true}
 use denote.Ref.{now}
-use lib.ListN.{length, getD}
+use lib.ListN.{length}
 use Rattle.sourced.proofs.Below.{tree-level, own-length, left-below}
 use Rattle.quick.proofs.Owners.{AwaitsOwners, kids-read, owner-one, owner-none, owner-kids, kids-start, kids-more, kids-all}
 use Rattle.quick.proofs.owners_cell.Reads as owners-cell
@@ -70,7 +70,7 @@ owners-cell-same-length : (t : ℕ) → owners-cell-lts.Need-same-length (cell-c
 owners-cell-same-length t c = search needs
 
 owners-cell-returns : (t : ℕ) → owners-cell-lts.Need-returns (cell-calls t) (owners-cell-at t) owners-cell.Post
-owners-cell-returns t c = let a = c .before .before .before .before .before .before .before .before .before .before .before .args in let s = c .before .before .before .before .before .before .before .before .before .before .before .pre .1 in owner-one (a .axes) (now (a .key)) (now (a .own)) (s .0) (a .node) (s .2) _ _ _ _ (c .before .before .before .before .before .if1 .taken) (c .before .before .put .ensures)
+owners-cell-returns t c = let a = c .before .before .before .before .before .before .before .before .before .before .before .args in let s = c .before .before .before .before .before .before .before .before .before .before .before .pre .1 in owner-one (a .axes) (now (a .key)) (now (a .own)) (s .0) (a .node) (s .2) _ _ _ _ (omega (arith, c .before .before .before .before .before .if1 .taken)) (c .before .before .put .ensures)
 
 owners-cell-is-sourced-requires : (t : ℕ) → owners-cell-lts.Need-is-sourced-requires (cell-calls t) (owners-cell-at t) owners-cell.Post
 owners-cell-is-sourced-requires t c κs = let s = c .before .before .before .before .before .before .pre .1 in (s .0, s .1, s .2)

@@ -1,9 +1,8 @@
 -- `quick::put_row` meets its contract.
 use borrow.Author.Needs.{needs}
-use mathlib.Core.Path.{_≡_, refl}
+use mathlib.Core.Path.{refl}
 use native.Mathlib.Omega.{arith}
 use denote.Ref.{now}
-use lib.ListN.{length}
 use Rattle.sourced.proofs.Below.{tree-level}
 use Rattle.places.proofs.Laws.{fan-some}
 use Rattle.quick.proofs.EachRow.{root-row, numbered, once, inner-row, index-small, levels, far-put, near-put}
@@ -26,7 +25,7 @@ rem-s : tie.Need-rem-s
 rem-s c = fan-some _ (c .before .before .before .before .before .before .before .before .before .pre .0 .setting .tree .most)
 
 put-far-requires : tie.Need-put-far-requires
-put-far-requires c κs = let a = c .before .before .before .before .before .before .before .before .before .before .before .args in let q = c .before .before .before .before .before .before .before .before .before .before .before .pre in (numbered (a .axes) (now (a .key)) (now (a .own)) (now (a .first)) (a .p) (now (a .nodes)) (now (a .masks)) (now (a .held)) (a .c) (a .h) (q .0), index-small (a .axes) (now (a .key)) (now (a .own)) (now (a .first)) (a .p) (now (a .nodes)) (now (a .masks)) (now (a .held)) (a .c) (a .h) (q .0) (a .node) (q .1) (c .before .before .if1 .left) (q .2) _ refl)
+put-far-requires c κs = let a = c .before .before .before .before .before .before .before .before .before .before .before .args in let q = c .before .before .before .before .before .before .before .before .before .before .before .pre in (numbered (a .axes) (now (a .key)) (now (a .own)) (now (a .first)) (a .p) (now (a .nodes)) (now (a .masks)) (now (a .held)) (a .c) (a .h) (q .0), index-small _ _ (q .0 .setting .tree .most))
 
 same-length : tie.Need-same-length
 same-length c = search needs
@@ -47,13 +46,13 @@ returns-3 : tie.Need-returns-3
 returns-3 c = let a = c .before .before .before .before .before .before .before .before .before .before .before .before .before .args in let q = c .before .before .before .before .before .before .before .before .before .before .before .before .before .pre in inner-row (a .axes) (now (a .key)) (now (a .own)) (now (a .first)) (a .p) (now (a .nodes)) (now (a .masks)) (now (a .held)) (a .c) (a .h) (q .0) (a .node) (q .1) (c .before .before .before .before .if1 .left) (a .far) (c .before .before .before .if2 .left) _ _ (c .before .before .first-of .ensures) (c .before .first-of2 .ensures) (c .if3 .taken) _ _
 
 put-all-requires : tie.Need-put-all-requires
-put-all-requires c κs = c .before .before .before .before .before .before .before .before .before .before .before .before .before .before .pre .0 .kept .fits
+put-all-requires c κs = omega (arith, c .before .before .before .before .before .before .before .before .before .before .before .before .before .before .pre .0 .kept .fits)
 
 sub-left : tie.Need-sub-left
 sub-left c = omega (arith, tree-level _ _ _ (c .before .before .before .before .before .before .before .before .before .before .before .before .before .before .before .before .before .pre .0 .setting .tree) _ (c .before .before .before .before .before .before .before .before .before .before .before .before .before .before .before .before .before .pre .1))
 
 put-near-requires : tie.Need-put-near-requires
-put-near-requires c κs = let a = c .before .before .before .before .before .before .before .before .before .before .before .before .before .before .before .before .before .before .args in let q = c .before .before .before .before .before .before .before .before .before .before .before .before .before .before .before .before .before .before .pre in (q .0 .setting .tree, q .0 .setting .firsts, numbered (a .axes) (now (a .key)) (now (a .own)) (now (a .first)) (a .p) (now (a .nodes)) (now (a .masks)) (now (a .held)) (a .c) (a .h) (q .0), index-small (a .axes) (now (a .key)) (now (a .own)) (now (a .first)) (a .p) (now (a .nodes)) (now (a .masks)) (now (a .held)) (a .c) (a .h) (q .0) (a .node) (q .1) (c .before .before .before .before .before .before .before .before .before .if1 .left) (q .2) _ refl, once (a .axes) (now (a .key)) (now (a .own)) (now (a .first)) (a .p) (now (a .nodes)) (now (a .masks)) (now (a .held)) (a .c) (a .h) (q .0), levels (a .axes) (now (a .key)) (now (a .own)) (now (a .first)) (a .p) (now (a .nodes)) (now (a .masks)) (now (a .held)) (a .c) (a .h) (q .0) (a .node) (q .1) (c .before .before .before .before .before .before .before .before .before .if1 .left) (q .2) _ refl _ refl)
+put-near-requires c κs = let a = c .before .before .before .before .before .before .before .before .before .before .before .before .before .before .before .before .before .before .args in let q = c .before .before .before .before .before .before .before .before .before .before .before .before .before .before .before .before .before .before .pre in (q .0 .setting .tree, q .0 .setting .firsts, numbered (a .axes) (now (a .key)) (now (a .own)) (now (a .first)) (a .p) (now (a .nodes)) (now (a .masks)) (now (a .held)) (a .c) (a .h) (q .0), index-small _ _ (q .0 .setting .tree .most), once (a .axes) (now (a .key)) (now (a .own)) (now (a .first)) (a .p) (now (a .nodes)) (now (a .masks)) (now (a .held)) (a .c) (a .h) (q .0), levels (a .axes) (now (a .key)) (now (a .own)) (now (a .first)) (a .p) (now (a .nodes)) (now (a .masks)) (now (a .held)) (a .c) (a .h) (q .0) (a .node) (q .1) (c .before .before .before .before .before .before .before .before .before .if1 .left) (q .2) _ refl _ refl)
 
 same-length-2 : tie.Need-same-length-2
 same-length-2 c = search needs
