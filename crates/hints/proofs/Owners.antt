@@ -9,17 +9,22 @@ use lib.Dec.{ltb}
 use lib.ListN.{length, getD}
 use borrow.Author.Tests.{lt-ltb}
 use Rattle.slices.proofs.Tests.{clash}
-use Rattle.morton.specs.Keys.{levelOf, above}
+use Rattle.morton.specs.Keys.{levelOf, above, axesKnown}
 use Rattle.morton.proofs.Cells.{key-level}
 use Rattle.tree.specs.Nodes.{placeOf, leaf, depthOf}
-use Rattle.tree.specs.declared.Found.{Found}
+use Rattle.tree.specs.WellFormed.{wellFormed}
 use Rattle.tree.specs.declared.Found.the-variants.{At, Nothing}
-use Rattle.tree.proofs.Rules.{Ascending, ascend-facts, parents-facts, leaves-facts}
+use Rattle.tree.proofs.Rules.{Ascending, facts, ascend-facts, facts-ascend, parents-facts, facts-parents, leaves-facts, facts-leaves}
 use Rattle.tree.proofs.Stored.{distinct}
 use Rattle.climb.specs.Leaves.{cellOf, leafLevel, leafKey, foundIf, climbFrom}
 use Rattle.climb.proofs.Climbing.{place-is}
 use Rattle.climb.proofs.Answers.{climb-le, depth-most, answer-cell}
 use Rattle.hints.specs.Owned.{Owned, LeafAt}
+
+pub owned-tree : (d : ℕ) (keys own begin : List ℕ) → axesKnown d ≡ true → wellFormed d keys own begin ≡ true → Owned d keys own
+owned-tree d keys own begin a t =
+    let f = facts d keys own begin t in
+    record { axes = a; ascends = facts-ascend d keys (f .ascending); parents = facts-parents d keys (f .parents); leaves = facts-leaves d keys own (f .inner); owns = f .owns }
 
 -- ---- what a test tells
 pub leaf-here : (d : ℕ) (keys : List ℕ) (k node : ℕ) → node < length keys → getD keys node 0 ≡ k → leaf d keys (getD keys node 0) ≡ true → LeafAt d keys k node
