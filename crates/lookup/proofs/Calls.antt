@@ -29,8 +29,9 @@ use Rattle.space.proofs.Points.{code-small}
 use Rattle.space.proofs.Refusals.{Fine, fine}
 use Rattle.morton.specs.Keys.{axesKnown}
 use Rattle.morton.proofs.Checks.{axes-known}
-use Rattle.tree.specs.WellFormed.{keysAscend, wellFormed}
-use Rattle.tree.proofs.Rules.{facts}
+use Rattle.tree.specs.WellFormed.{wellFormed}
+use Rattle.hints.specs.Owned.{Owned}
+use Rattle.hints.proofs.Owners.{owned-tree}
 use Rattle.lookup.specs.declared.Climbs.{Climbs}
 use Rattle.lookup.specs.declared.Climbs.the-variants.{Ended, Failed}
 use Rattle.lookup.specs.declared.LookedUp.{LookedUp}
@@ -38,7 +39,6 @@ use Rattle.lookup.specs.declared.LookedUp.the-variants.{Found, Refused a
 use Rattle.lookup.specs.Grouping.{mostPoints, written}
 use Rattle.climb.specs.Leaves.{leafKey}
 use Rattle.lookup.specs.Batch.{heldBefore, leafKeys, stepsSum, endedOr, climbsOf, insideOf, rowsOf, rowsInside, codesInside, callOutcome, pointsOutcome, lookupOutcome, foundOr}
-use Rattle.lookup.proofs.Verdict.{well-ascends}
 
 -- ---- the end of the climbs
 module _ (d : ℕ) (keys codes : List ℕ) where
@@ -164,8 +164,7 @@ module _ (b : Box) (keys own begin : List ℕ) (xs : List Float) (room : ℕ) wh
   pub record Called : Type 0 where
     pub box : Fine b
     pub few : rowsOf b xs ≤ mostPoints
-    pub ascends : keysAscend (b .axes) keys ≡ true
-    pub some : 0 < length keys
+    pub owned : Owned (b .axes) keys own
     pub fits : rowsOf b xs ≤ room
 
   pub checked : callOutcome b keys own begin xs room ≡ Done → Called
@@ -176,11 +175,11 @@ module _ (b : Box) (keys own begin : List ℕ) (xs : List Float) (room : ℕ) wh
       let third = both-done _ (ask (leb (rowsOf b xs) mostPoints) Count) (fourth .0) in
       let second = both-done (boxOutcome b) (ask (eqb (length xs % b .axes) 0) Shape) (third .0) in
       let t = asked (wellFormed (b .axes) keys own begin) Tree (fourth .1) in
+      let box = fine b (second .0) in
       record {
-        box = fine b (second .0);
+        box = box;
         few = leb-true (rowsOf b xs) mostPoints (asked _ Count (third .1));
-        ascends = well-ascends (b .axes) keys own begin t;
-        some = facts (b .axes) keys own begin t .some;
+        owned = owned-tree (b .axes) keys own begin (axes-known (b .axes) (box .least) (box .most)) t;
         fits = leb-true (rowsOf b xs) room (asked _ (Room 8) (fifth .1));
       }
 

@@ -1,8 +1,13 @@
 -- Document 01, "Lists, lookup, sourced cells": lookup answers the key of the leaf that holds a point, and the steps to it.
+use mathlib.Core.Path.{_≡_}
 use mathlib.Core.Bool.{Bool, true, false}
 use mathlib.Core.List.{List}
-use Prim.Native.Nat.{ℕ, _-_}
+use Prim.Native.Nat.{ℕ, _-_, _≤_, _<_}
 use lib.Dec.{ltb}
+use lib.ListN.{length, getD}
+use Rattle.morton.specs.Keys.{levelOf}
+use Rattle.tree.specs.declared.Found.{Found}
+use Rattle.tree.specs.declared.Found.the-variants.{At, Nothing}
 use Rattle.climb.specs.Leaves.{cellOf, climbed}
 use Rattle.lookup.specs.declared.Climb.{Climb}
 use Rattle.lookup.specs.declared.Climb.the-variants.{Leaf, Unstored}
@@ -14,3 +19,13 @@ leafOr false k steps = Unstored
 -- the end of a climb from level `top`: the leaf's key, and the levels climbed
 abbrev pub climbTo : ℕ → List ℕ → ℕ → ℕ → Climb
 climbTo d keys top code = leafOr (ltb 0 (climbed d keys code top)) (cellOf d (climbed d keys code top) code) (top - climbed d keys code top)
+
+-- a climb from level `top` that found this: a node at that level or above, or none
+pub record Reached (keys : List ℕ) (top : ℕ) (leaf : Found) : Type 0 where
+  pub number : (node : ℕ) → leaf ≡ At node → node < length keys
+  pub within : (node : ℕ) → leaf ≡ At node → levelOf (getD keys node 0) ≤ top
+
+-- its end
+abbrev pub climbAt : List ℕ → ℕ → Found → Climb
+climbAt keys top (At node) = Leaf (getD keys node 0) (top - levelOf (getD keys node 0))
+climbAt keys top Nothing = Unstored

@@ -36,7 +36,7 @@ div-rows : tie.Need-div-rows
 div-rows c = let a = c .before .before .before .before .before .before .before .before .args in omega (arith, checked (a .b) (now (a .key)) (now (a .own)) (now (a .begin)) (now (a .points)) (length (now (a .output))) (sym (c .before .before .call-outcome .ensures) ∙ c .enum-told .given .1) .box .least)
 
 look-up-requires : tie.Need-look-up-requires
-look-up-requires c κs = let a = c .before .before .before .before .before .before .before .before .before .args in let k = checked (a .b) (now (a .key)) (now (a .own)) (now (a .begin)) (now (a .points)) (length (now (a .output))) (sym (c .before .before .before .call-outcome .ensures) ∙ c .before .enum-told .given .1) in (k .box .least, k .box .most, k .ascends, k .some, k .fits, k .few)
+look-up-requires c κs = let a = c .before .before .before .before .before .before .before .before .before .args in let k = checked (a .b) (now (a .key)) (now (a .own)) (now (a .begin)) (now (a .points)) (length (now (a .output))) (sym (c .before .before .before .call-outcome .ensures) ∙ c .before .enum-told .given .1) in (k .box .least, k .box .most, k .owned, k .fits, k .few)
 
 enum-known-found : tie.Need-enum-known-found
 enum-known-found c = search needs

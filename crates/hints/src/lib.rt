@@ -1,0 +1,256 @@
+// Hints: node numbers in a table by their keys, and levels by how many sources they own. Each is tested before it is used, so
+// any table and any levels give the same answer; a wrong one costs time alone.
+use tree::Found;
+ghost use mathlib.Core.Path.{_≡_};
+ghost use mathlib.Core.Bool.{true};
+ghost use Prim.Native.Nat.{ℕ, _≤_, _<_};
+ghost use lib.ListN.{length};
+ghost use Rattle.tree.specs.Nodes.{depthOf};
+ghost use Rattle.climb.specs.Leaves.{climbFrom};
+ghost use Rattle.hints.specs.Owned.{Owned, LeafAt};
+
+pub const SLOTS: usize = 65536;
+
+// What stands in a slot where no number was put.
+pub const FREE: u32 = 4294967295;
+
+// A look-up of fewer points than one for so many nodes is not worth a table.
+const NODES_A_POINT: usize = 32;
+
+// The levels to try, each less 1, the first in the lowest 4 bits; and how many they are.
+pub struct Levels {
+    pub order: u64,
+    pub count: u64,
+}
+
+// ---- the table
+
+// The slot of a cell. Cells of one level with codes next to each other have slots next to each other.
+fn slot_of(k: u64) -> usize
+    ensures { λ r. ⌜ r < 65536 ⌝ }
+{
+    let code = k / 32768;
+    let level = k % 32768;
+    ((code + code / 65536 * 40503 + level * 25717) % 65536) as usize
+}
+
+// The slot of a cell whose first slot another has taken.
+fn second_slot_of(k: u64) -> usize
+    ensures { λ r. ⌜ r < 65536 ⌝ }
+{
+    let mixed = (k / 32768 + k % 32768 * 134217728) % 4294967296;
+    (mixed * 2654435769 / 65536 % 65536) as usize
+}
+
+// Puts a node's number into a slot of its key, if one is free.
+fn put(hints: &mut [u32; SLOTS], k: u64, node: usize) {
+    let hint = (node % 4294967296) as u32;
+    let slot = slot_of(k);
+    if hints[slot] == FREE {
+        hints[slot] = hint;
+        return;
+    }
+    let second = second_slot_of(k);
+    if hints[second] == FREE {
+        hints[second] = hint;
+    }
+}
+
+// Puts in the nodes that own sources.
+fn put_owners(key: &[u64], own: &[usize], hints: &mut [u32; SLOTS])
+    requires { ⌜ length (now own) ≡ length (now key) ⌝ }
+{
+    let mut node = 0;
+    while node < key.len() {
+        if 0 < own[node] {
+            put(hints, key[node], node);
+        }
+        node += 1;
+    }
+}
+
+// Whether a cell is one level below cell k and in it.
+fn is_child(axes: usize, k: u64, cell: u64) -> bool
+    requires { ⌜ axes ≤ 3 ⌝ }
+{
+    if cell % 32768 != k % 32768 + 1 {
+        return false;
+    }
+    (cell / 32768) >> axes == k / 32768
+}
+
+// The number of the first node from `from` on that is no child of cell k.
+fn past_children(axes: usize, key: &[u64], k: u64, from: usize) -> usize
+    requires { ⌜ axes ≤ 3 ⌝ }
+{
+    let mut child = from;
+    while child < key.len() {
+        if !is_child(axes, k, key[child]) {
+            return child;
+        }
+        child += 1;
+    }
+    child
+}
+
+// Puts in the leaves that own nothing, where there is room. Children stand together, in the order of their parents.
+fn put_empty(axes: usize, key: &[u64], own: &[usize], hints: &mut [u32; SLOTS])
+    requires { ⌜ (axes ≤ 3) × (length (now own) ≡ length (now key)) ⌝ }
+{
+    let mut child = 1;
+    let mut node = 0;
+    while node < key.len() {
+        let k = key[node];
+        let past = past_children(axes, key, k, child);
+        if past == child {
+            if own[node] == 0 {
+                put(hints, k, node);
+            }
+        }
+        child = past;
+        node += 1;
+    }
+}
+
+// ---- the levels
+
+// The weight of each level, at the level less 1: its nodes below the root, and the sources that they own.
+fn weigh(key: &[u64], own: &[usize], weights: &mut [u64; 16])
+    requires { ⌜ length (now own) ≡ length (now key) ⌝ }
+{
+    let mut node = 1;
+    while node < key.len() {
+        let at = ((key[node] % 16 + 15) % 16) as usize;
+        let owned = std::num::wrapping_add_u64(own[node] as u64, 1);
+        weights[at] = std::num::wrapping_add_u64(weights[at], owned);
+        node += 1;
+    }
+}
+
+// The place of the greatest weight.
+fn heaviest(weights: &[u64; 16]) -> usize
+    ensures { λ r. ⌜ r < 16 ⌝ }
+{
+    let mut most = 0;
+    let mut at = 1;
+    while at < 16 {
+        if weights[most] < weights[at] {
+            most = at;
+        }
+        at += 1;
+    }
+    most
+}
+
+// The levels that have nodes, by falling weight.
+fn levels_of(key: &[u64], own: &[usize]) -> Levels
+    requires { ⌜ length (now own) ≡ length (now key) ⌝ }
+{
+    let mut weights = [0u64; 16];
+    weigh(key, own, &mut weights);
+    let mut order: u64 = 0;
+    let mut count: u64 = 0;
+    while count < 16 {
+        let at = heaviest(&weights);
+        if weights[at] == 0 {
+            return Levels {
+                order: order,
+                count: count,
+            };
+        }
+        weights[at] = 0;
+        order = order | (at as u64) << (4 * count);
+        count += 1;
+    }
+    Levels {
+        order: order,
+        count: count,
+    }
+}
+
+// Fills the table for a look-up of so many points, and says which levels to try; none, where that is not worth it.
+pub fn prepare(
+    axes: usize,
+    key: &[u64],
+    own: &[usize],
+    points: usize,
+    hints: &mut [u32; SLOTS],
+) -> Levels
+    requires { ⌜ (axes ≤ 3) × (length (now own) ≡ length (now key)) ⌝ }
+{
+    if points < key.len() / NODES_A_POINT {
+        return Levels { order: 0, count: 0 };
+    }
+    put_owners(key, own, hints);
+    put_empty(axes, key, own, hints);
+    levels_of(key, own)
+}
+
+// ---- the look-up
+
+// Whether a number is that of a leaf with key k. Where nodes own sources they are leaves.
+fn is_leaf_with(axes: usize, key: &[u64], own: &[usize], node: usize, k: u64) -> bool
+    requires { ⌜ Owned axes (now key) (now own) ⌝ }
+    ensures { λ r. ⌜ (r ≡ true → LeafAt axes (now (key .entry)) k node) ⌝ }
+{
+    if key.len() <= node {
+        return false;
+    }
+    if key[node] != k {
+        return false;
+    }
+    if 0 < own[node] {
+        return true;
+    }
+    tree::is_leaf(axes, key, node)
+}
+
+fn wide(hint: u32) -> usize {
+    hint as usize
+}
+
+// The number of the leaf with key k, if a hint says it. Behind a first slot that is free nothing was put.
+fn hinted(axes: usize, key: &[u64], own: &[usize], hints: &[u32; SLOTS], k: u64) -> Found
+    requires { ⌜ Owned axes (now key) (now own) ⌝ }
+    ensures { λ r. ⌜ ((node : ℕ) → r ≡ Found.At node → LeafAt axes (now (key .entry)) k node) ⌝ }
+{
+    let first = wide(hints[slot_of(k)]);
+    if key.len() <= first {
+        return Found::Nothing;
+    }
+    if is_leaf_with(axes, key, own, first, k) {
+        return Found::At(first);
+    }
+    let second = wide(hints[second_slot_of(k)]);
+    if is_leaf_with(axes, key, own, second, k) {
+        return Found::At(second);
+    }
+    Found::Nothing
+}
+
+// The number of the leaf that holds a level-16 code: by a hint, else by a climb.
+pub fn leaf_of(
+    axes: usize,
+    key: &[u64],
+    own: &[usize],
+    hints: &[u32; SLOTS],
+    levels: Levels,
+    code: u64,
+) -> Found
+    requires { ⌜ Owned axes (now key) (now own) × (code < 281474976710656) ⌝ }
+    ensures { λ r. ⌜ r ≡ climbFrom axes (now (key .entry)) (depthOf (now (key .entry))) code ⌝ }
+{
+    let mut order = levels.order;
+    let mut left = levels.count;
+    while 0 < left {
+        let level = order % 16 + 1;
+        let above = (axes as u64) * (16 - level);
+        let hint = hinted(axes, key, own, hints, (code >> above) * 32768 + level);
+        if let Found::At(node) = hint {
+            return Found::At(node);
+        }
+        order = order / 16;
+        left -= 1;
+    }
+    climb::leaf_of(axes, key, tree::depth_of(key), code)
+}
