@@ -138,10 +138,20 @@ impl Lent {
     }
 }
 
-fn flat(rows: &Rows) -> plain::Flat {
-    plain::Flat {
-        starts: rows.starts.clone(),
-        keys: rows.keys.clone(),
+/// The tree's rows by plain Rust, which works out anew each time what it needs beside the columns.
+fn plain_lists(tree: &Tree, kept: bool, lists: &mut Lists) {
+    let plain = Plain::new(tree.axes, &tree.key, &tree.own);
+    if kept {
+        plain.lists_kept(lists);
+    } else {
+        plain.lists_searched(lists);
+    }
+}
+
+fn no_rows() -> Rows {
+    Rows {
+        starts: vec![],
+        keys: vec![],
     }
 }
 
@@ -242,9 +252,12 @@ impl Survey {
 
     /// The rows of all sides are the same.
     fn same_rows(&self, rows: &Lists) {
-        let plain = Plain::new(3, Dimensions::Three, &self.tree.key, &self.tree.own);
-        let right = (flat(&rows.u), flat(&rows.v));
-        assert!(plain.lists_searched() == right && plain.lists_kept() == right);
+        for kept in [false, true] {
+            let (u, v) = (no_rows(), no_rows());
+            let mut plain = Lists { u, v };
+            plain_lists(&self.tree, kept, &mut plain);
+            assert!(plain == *rows);
+        }
         for (node, k) in self.tree.key.iter().enumerate() {
             let row = |map: &HashMap<u64, Vec<u64>>| map.get(k).cloned().unwrap_or_default();
             assert_eq!(rows.u.row(node), row(&self.built.u_lists));
@@ -252,27 +265,19 @@ impl Survey {
         }
     }
 
-    /// The lists, beside the Rust's and beside both plain readings.
+    /// The lists, beside the Rust's and beside both plain readings, which as ours write where there is room already.
     fn lists(&self, runs: usize) {
         let (b, tree) = (shapes::bounds(), &self.tree);
-        let rows = tree.get_interaction_lists().expect("room");
+        let mut rows = tree.get_interaction_lists().expect("room");
         self.same_rows(&rows);
         let mut slices = Lent::new(tree, &rows.u, &rows.v);
         let ours = least(runs, || slices.fill(tree));
-        self.ratio(
-            "lists",
-            "rust",
-            ours,
-            least(3, || rust_lists(&b, &self.built)),
-        );
-        let plain = || Plain::new(3, Dimensions::Three, &tree.key, &tree.own);
-        self.ratio(
-            "lists",
-            "searched",
-            ours,
-            least(runs, || plain().lists_searched()),
-        );
-        self.ratio("lists", "kept", ours, least(runs, || plain().lists_kept()));
+        let rust = least(3, || rust_lists(&b, &self.built));
+        self.ratio("lists", "rust", ours, rust);
+        for (beside, kept) in [("searched", false), ("kept", true)] {
+            let time = least(runs, || plain_lists(tree, kept, &mut rows));
+            self.ratio("lists", beside, ours, time);
+        }
     }
 
     /// The lookup of all points, beside the Rust's: identical leaves, then times.

@@ -1,121 +1,194 @@
-//! Plain Rust with sorted vectors, to measure beside: no hash set, nothing clever. Two readings: neighbours are looked up by
-//! binary search each time, or found once and kept for each node.
-use ferreus_bbfmm::bbfmm::Dimensions;
-use ferreus_bbfmm::morton;
+//! Plain Rust with sorted vectors, to measure beside: no hash set, one row at a time, nothing clever. Two readings: the stored
+//! nodes around a node are looked up by binary search wherever they are wanted, or found once for each node and kept.
+use lohandema::trees::Lists;
+use std::ops::Range;
 
-/// Nodes by level and then code, the first child of each, and which are sourced.
-pub struct Plain {
+/// A tree's columns and what follows from them. A node is a place in the columns, which are by level, then code.
+pub struct Plain<'a> {
     axes: usize,
-    dimensions: Dimensions,
-    rank: Vec<(u64, u64)>,
-    key: Vec<u64>,
-    first_child: Vec<usize>,
-    sourced: Vec<bool>,
+    key: &'a [u64],
+    rank: Vec<u64>,
+    parent: Vec<u32>,
+    /// The children of a node begin here and end where the next node's begin.
+    first_child: Vec<u32>,
     leaf: Vec<bool>,
-    parent: Vec<usize>,
-    anchor: Vec<[i64; 3]>,
+    sourced: Vec<bool>,
+    anchor: Vec<[i32; 3]>,
 }
 
-/// Rows, flat.
-#[derive(PartialEq, Eq, Debug, Default)]
-pub struct Flat {
-    pub starts: Vec<usize>,
-    pub keys: Vec<u64>,
+fn level_of(key: u64) -> u64 {
+    key % 32768
 }
 
-fn rank(key: u64) -> (u64, u64) {
-    (key % 32768, key / 32768)
+fn code_of(key: u64) -> u64 {
+    key / 32768
 }
 
-/// The anchors of a code, bit by bit.
-fn anchor_of(axes: usize, key: u64) -> [i64; 3] {
-    let (level, code) = rank(key);
+/// One number that orders keys by level, then code.
+fn rank_of(level: u64, code: u64) -> u64 {
+    level << 48 | code
+}
+
+/// The 16 bits of an anchor, one every so many places.
+fn spread(axes: usize, anchor: i32) -> u64 {
+    (0..16).fold(0, |code, bit| {
+        code | ((anchor >> bit & 1) as u64) << (bit * axes)
+    })
+}
+
+/// The anchors of a code; 0 past the axes.
+fn anchors_of(axes: usize, code: u64) -> [i32; 3] {
     let mut anchor = [0; 3];
-    for bit in 0..level {
-        for (a, x) in anchor[..axes].iter_mut().enumerate() {
-            *x |= ((code >> (bit * axes as u64 + a as u64) & 1) as i64) << bit;
+    for (axis, x) in anchor[..axes].iter_mut().enumerate() {
+        for bit in 0..16 {
+            *x |= ((code >> (bit * axes + axis) & 1) as i32) << bit;
         }
     }
     anchor
 }
 
-impl Plain {
-    pub fn new(axes: usize, dimensions: Dimensions, key: &[u64], own: &[usize]) -> Plain {
-        let n = key.len();
-        let rank: Vec<(u64, u64)> = key.iter().map(|k| rank(*k)).collect();
-        let mut parent = vec![0; n];
-        let mut first_child = vec![n; n + 1];
-        let mut p = 0;
-        for i in 1..n {
-            let above = (rank[i].0 - 1, rank[i].1 >> axes);
-            while rank[p] != above {
-                p += 1;
-            }
-            parent[i] = p;
-            if first_child[p] == n {
-                first_child[p] = i;
-            }
+/// Each node's parent, and its first child.
+fn links(axes: usize, key: &[u64], rank: &[u64]) -> (Vec<u32>, Vec<u32>) {
+    let mut parent = vec![0; key.len()];
+    let mut first_child = vec![1];
+    let mut above = 0;
+    for node in 1..key.len() {
+        let wanted = rank_of(level_of(key[node]) - 1, code_of(key[node]) >> axes);
+        while rank[above] != wanted {
+            above += 1;
+            first_child.push(node as u32);
         }
-        let mut sourced: Vec<bool> = own.iter().map(|o| *o > 0).collect();
-        let mut leaf = vec![true; n];
-        for i in (1..n).rev() {
-            sourced[parent[i]] |= sourced[i];
-            leaf[parent[i]] = false;
+        parent[node] = above as u32;
+    }
+    first_child.resize(key.len() + 1, key.len() as u32);
+    (parent, first_child)
+}
+
+impl<'a> Plain<'a> {
+    pub fn new(axes: usize, key: &'a [u64], own: &[usize]) -> Plain<'a> {
+        let ranks = key.iter().map(|k| rank_of(level_of(*k), code_of(*k)));
+        let anchors = key.iter().map(|k| anchors_of(axes, code_of(*k)));
+        let rank: Vec<u64> = ranks.collect();
+        let (parent, first_child) = links(axes, key, &rank);
+        let mut leaf = vec![true; key.len()];
+        let mut sourced: Vec<bool> = own.iter().map(|count| *count > 0).collect();
+        for node in (1..key.len()).rev() {
+            let above = parent[node] as usize;
+            leaf[above] = false;
+            sourced[above] |= sourced[node];
         }
-        leaf[0] = false;
         Plain {
             axes,
-            dimensions,
-            anchor: key.iter().map(|k| anchor_of(axes, *k)).collect(),
+            key,
             rank,
-            key: key.to_vec(),
-            first_child,
-            sourced,
-            leaf,
             parent,
+            first_child,
+            leaf,
+            sourced,
+            anchor: anchors.collect(),
         }
     }
 
-    fn children(&self, node: usize) -> std::ops::Range<usize> {
-        let from = self.first_child[node];
-        let mut to = from;
-        while to < self.key.len() && self.parent[to] == node && to > 0 {
-            to += 1;
-        }
-        from..to
+    fn children(&self, node: usize) -> Range<usize> {
+        self.first_child[node] as usize..self.first_child[node + 1] as usize
     }
 
+    fn parent(&self, node: usize) -> usize {
+        self.parent[node] as usize
+    }
+
+    /// Whether two cells of one level touch or are the same.
     fn touch(&self, a: usize, b: usize) -> bool {
-        (0..self.axes).all(|x| (self.anchor[a][x] - self.anchor[b][x]).abs() <= 1)
+        let (a, b) = (self.anchor[a], self.anchor[b]);
+        (a[0] - b[0]).abs() <= 1 && (a[1] - b[1]).abs() <= 1 && (a[2] - b[2]).abs() <= 1
     }
+}
 
-    /// The stored neighbours of a node, by the Rust's own neighbours and a binary search for each.
-    fn search_neighbours(&self, node: usize) -> Vec<usize> {
-        morton::get_neighbours(self.key[node], &self.dimensions)
-            .into_iter()
-            .filter_map(|k| self.rank.binary_search(&rank(k)).ok())
-            .collect()
+/// The stored nodes around a node and the node itself, rising.
+trait Around {
+    fn around(&mut self, node: usize) -> &[u32];
+}
+
+/// Looked up each time.
+struct Searched<'a> {
+    tree: &'a Plain<'a>,
+    found: Vec<u32>,
+}
+
+impl Searched<'_> {
+    /// The parts that the cells before, at and behind a node have in their codes along an axis, and how many such cells the
+    /// level has; past the axes one part, 0.
+    fn parts(&self, node: usize, axis: usize) -> ([u64; 3], usize) {
+        let (mut parts, mut count) = ([0; 3], 0);
+        let at = self.tree.anchor[node][axis];
+        let end = if axis < self.tree.axes {
+            1 << level_of(self.tree.key[node])
+        } else {
+            1
+        };
+        for x in at - 1..at + 2 {
+            if 0 <= x && x < end {
+                parts[count] = spread(self.tree.axes, x) << axis;
+                count += 1;
+            }
+        }
+        (parts, count)
     }
+}
 
-    /// Each node's stored neighbours, from those of its parent.
-    fn kept_neighbours(&self) -> Vec<Vec<usize>> {
-        let mut kept: Vec<Vec<usize>> = vec![vec![]; self.key.len()];
-        for node in 1..self.key.len() {
-            let parent = self.parent[node];
-            let mut near = vec![];
-            for &peer in kept[parent].iter().chain([&parent]) {
-                for child in self.children(peer) {
-                    if child != node && self.touch(child, node) {
-                        near.push(child);
+impl Around for Searched<'_> {
+    fn around(&mut self, node: usize) -> &[u32] {
+        let level = level_of(self.tree.key[node]);
+        let [(x, xs), (y, ys), (z, zs)] = [0, 1, 2].map(|axis| self.parts(node, axis));
+        self.found.clear();
+        for z in &z[..zs] {
+            for y in &y[..ys] {
+                for x in &x[..xs] {
+                    let wanted = rank_of(level, x | y | z);
+                    if let Ok(found) = self.tree.rank.binary_search(&wanted) {
+                        self.found.push(found as u32);
                     }
                 }
             }
-            kept[node] = near;
         }
-        kept
+        self.found.sort_unstable();
+        &self.found
     }
+}
 
-    fn gather_leaves(&self, node: usize, out: &mut Vec<u64>) {
+/// Found once, a node's among the children of its parent's, and kept.
+struct Kept {
+    starts: Vec<usize>,
+    nodes: Vec<u32>,
+}
+
+impl Kept {
+    fn new(tree: &Plain) -> Kept {
+        let (mut starts, mut nodes) = (vec![0, 1], vec![0]);
+        for node in 1..tree.key.len() {
+            let above = tree.parent(node);
+            for at in starts[above]..starts[above + 1] {
+                for child in tree.children(nodes[at] as usize) {
+                    if tree.touch(child, node) {
+                        nodes.push(child as u32);
+                    }
+                }
+            }
+            starts.push(nodes.len());
+        }
+        Kept { starts, nodes }
+    }
+}
+
+impl Around for Kept {
+    fn around(&mut self, node: usize) -> &[u32] {
+        &self.nodes[self.starts[node]..self.starts[node + 1]]
+    }
+}
+
+impl Plain<'_> {
+    /// The sourced leaves in a node, which may be one itself.
+    fn leaves_in(&self, node: usize, out: &mut Vec<u64>) {
         if !self.sourced[node] {
             return;
         }
@@ -124,66 +197,62 @@ impl Plain {
             return;
         }
         for child in self.children(node) {
-            self.gather_leaves(child, out);
+            self.leaves_in(child, out);
         }
     }
 
-    /// The U and V rows of all nodes.
-    fn rows(&self, around: impl Fn(usize, &mut Vec<usize>)) -> (Flat, Flat) {
-        let n = self.key.len();
-        let (mut u, mut v) = (Flat::default(), Flat::default());
-        let mut near = vec![];
-        for node in 0..n {
-            u.starts.push(u.keys.len());
-            v.starts.push(v.keys.len());
-            if node == 0 {
-                continue;
-            }
-            let from = v.keys.len();
-            around(self.parent[node], &mut near);
-            for &peer in &near {
-                for child in self.children(peer) {
-                    if self.sourced[child] && !self.touch(child, node) {
-                        v.keys.push(self.key[child]);
-                    }
-                }
-            }
-            v.keys[from..].sort_unstable();
-            if !self.leaf[node] {
-                continue;
-            }
-            let from = u.keys.len();
-            around(node, &mut near);
-            near.push(node);
-            for &peer in &near {
-                self.gather_leaves(peer, &mut u.keys);
-            }
-            let mut above = self.parent[node];
-            while above != 0 {
-                around(above, &mut near);
-                for &peer in &near {
-                    if self.leaf[peer] && self.sourced[peer] {
-                        u.keys.push(self.key[peer]);
-                    }
-                }
-                above = self.parent[above];
-            }
-            u.keys[from..].sort_unstable();
+    /// A leaf's U row.
+    fn u_row(&self, node: usize, near: &mut impl Around, out: &mut Vec<u64>) {
+        let from = out.len();
+        for &peer in near.around(node) {
+            self.leaves_in(peer as usize, out);
         }
-        u.starts.push(u.keys.len());
-        v.starts.push(v.keys.len());
-        (u, v)
+        let mut above = self.parent(node);
+        while above != 0 {
+            for &peer in near.around(above) {
+                if self.leaf[peer as usize] && self.sourced[peer as usize] {
+                    out.push(self.key[peer as usize]);
+                }
+            }
+            above = self.parent(above);
+        }
+        out[from..].sort_unstable();
     }
 
-    pub fn lists_searched(&self) -> (Flat, Flat) {
-        self.rows(|node, near| *near = self.search_neighbours(node))
+    /// A node's V row: its keys come rising, as the nodes do.
+    fn v_row(&self, node: usize, near: &mut impl Around, out: &mut Vec<u64>) {
+        for &peer in near.around(self.parent(node)) {
+            for child in self.children(peer as usize) {
+                if self.sourced[child] && !self.touch(child, node) {
+                    out.push(self.key[child]);
+                }
+            }
+        }
     }
 
-    pub fn lists_kept(&self) -> (Flat, Flat) {
-        let kept = self.kept_neighbours();
-        self.rows(|node, near| {
-            near.clear();
-            near.extend_from_slice(&kept[node]);
-        })
+    fn lists(&self, near: &mut impl Around, lists: &mut Lists) {
+        for rows in [&mut lists.u, &mut lists.v] {
+            rows.keys.clear();
+            rows.starts.clear();
+            rows.starts.extend([0, 0]);
+        }
+        for node in 1..self.key.len() {
+            if self.leaf[node] {
+                self.u_row(node, near, &mut lists.u.keys);
+            }
+            lists.u.starts.push(lists.u.keys.len());
+            self.v_row(node, near, &mut lists.v.keys);
+            lists.v.starts.push(lists.v.keys.len());
+        }
+    }
+
+    /// The rows of all nodes, written over what the lists held.
+    pub fn lists_searched(&self, lists: &mut Lists) {
+        let (tree, found) = (self, vec![]);
+        self.lists(&mut Searched { tree, found }, lists);
+    }
+
+    pub fn lists_kept(&self, lists: &mut Lists) {
+        self.lists(&mut Kept::new(self), lists);
     }
 }

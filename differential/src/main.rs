@@ -55,12 +55,17 @@ fn main() {
     t.run("lookup", 3_000, trees::lookup);
     t.run("grouping", 2_000, trees::grouping);
     t.run("sourced", 2_000, trees::sourced);
-    t.run("lists", 500, trees::lists);
-    t.run("lists-odd", 800, trees::odd_lists);
+    t.run("lists", 20_000, trees::lists);
+    t.run("lists-odd", 30_000, trees::odd_lists);
+    t.run("near-work", 1_000, trees::near_work);
     t.run("well-formed", 20_000, refusals::trees_handed_in);
     t.run("refusals", 4_000, refusals::tree_calls);
     t.run("large", 1, refusals::large);
     t.run("intended-differences", 1, differences::intended);
+    if t.ran == 0 {
+        println!("no kind of that name");
+        std::process::exit(2);
+    }
     if t.failed > 0 {
         println!("{} differences", t.failed);
         std::process::exit(1);

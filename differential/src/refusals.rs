@@ -364,6 +364,7 @@ pub fn large(t: &mut Tally, r: &mut Random, _case: u64) {
         short,
     );
     trees::compare_lists(t, &tree, &built.u_lists, &built.v_lists, short);
+    trees::compare_near_work(t, &tree, &built.u_lists, short);
     if !t.short() {
         let mut one_more = s.sources.clone();
         one_more.extend_from_slice(&s.bounds.centre);

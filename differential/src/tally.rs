@@ -19,6 +19,7 @@ pub struct Tally {
     differences: u64,
     refusals: u64,
     pub failed: u64,
+    pub ran: u64,
 }
 
 impl Tally {
@@ -31,6 +32,7 @@ impl Tally {
             differences: 0,
             refusals: 0,
             failed: 0,
+            ran: 0,
         }
     }
 
@@ -53,6 +55,7 @@ impl Tally {
         } else {
             cases
         };
+        self.ran += 1;
         (self.kind, self.compared, self.differences, self.refusals) = (kind, 0, 0, 0);
         let from = Instant::now();
         for case in 0..cases {

@@ -1,4 +1,4 @@
-//! Trees that the Rust built: lookup, grouping, sourced cells, U and V; then trees that nobody built.
+//! Trees that the Rust built: lookup, grouping, sourced cells, U and V, near work; and trees that nobody built.
 use crate::inputs;
 use crate::keys::refused;
 use crate::oracle::{self, Survey, dimensions, level, rank};
@@ -201,20 +201,24 @@ pub fn compare_lists(
         Ok(lists) => (Ok(lists.u), Ok(lists.v)),
         Err(e) => (Err(e), Err(e)),
     };
-    // near work, from the Rust's U
-    let own: HashMap<u64, usize> = tree
-        .key
-        .iter()
-        .copied()
-        .zip(tree.own.iter().copied())
-        .collect();
+    t.same("U", ours_u, Ok(flat(tree, u)), &input);
+    t.same("V", ours_v, Ok(flat(tree, v)), &input);
+}
+
+/// Near work, with the sum over the Rust's U.
+pub fn compare_near_work(
+    t: &mut Tally,
+    tree: &Tree,
+    u: &HashMap<u64, Vec<u64>>,
+    input: impl Fn() -> String,
+) {
+    let columns = tree.key.iter().copied().zip(tree.own.iter().copied());
+    let own: HashMap<u64, usize> = columns.collect();
     let near: usize = u
         .iter()
         .map(|(leaf, row)| own[leaf] * row.iter().map(|k| own[k]).sum::<usize>())
         .sum();
-    t.same("near work", tree.get_near_work(), Ok(near as u64), &input);
-    t.same("U", ours_u, Ok(flat(tree, u)), &input);
-    t.same("V", ours_v, Ok(flat(tree, v)), &input);
+    t.same("near work", tree.get_near_work(), Ok(near as u64), input);
 }
 
 pub fn lists(t: &mut Tally, r: &mut Random, _case: u64) {
@@ -282,29 +286,60 @@ pub fn odd_tree(r: &mut Random, most: usize) -> TreeLists {
     }
 }
 
+struct RustRows {
+    u: HashMap<u64, Vec<u64>>,
+    v: HashMap<u64, Vec<u64>>,
+    cells: Vec<u64>,
+}
+
 /// The number of axes of such a tree.
 pub fn axes_of(lists: &TreeLists) -> usize {
     *lists.key_to_index_map.keys().next().unwrap() as usize
+}
+
+/// Such a tree's rows and sourced cells by the Rust.
+fn rust_rows(given: &TreeLists, axes: usize) -> RustRows {
+    let (u, v, map) = linear_tree::get_interaction_lists(
+        &given.tree,
+        &given.leaves,
+        &given.children,
+        &given.leaf_source_indices,
+        &vec![4.0; axes],
+        4.0,
+        &dimensions(axes),
+    );
+    let mut cells: Vec<u64> = map.keys().copied().collect();
+    cells.sort_unstable();
+    RustRows { u, v, cells }
 }
 
 pub fn odd_lists(t: &mut Tally, r: &mut Random, _case: u64) {
     let given = odd_tree(r, 400);
     let axes = axes_of(&given);
     let tree = oracle::columns(axes, &given);
-    let centre = vec![4.0; axes];
-    let (u, v, map) = linear_tree::get_interaction_lists(
-        &given.tree,
-        &given.leaves,
-        &given.children,
-        &given.leaf_source_indices,
-        &centre,
-        4.0,
-        &dimensions(axes),
+    let right = rust_rows(&given, axes);
+    let input = || format!("{tree:?}");
+    compare_lists(t, &tree, &right.u, &right.v, input);
+    t.same(
+        "sourced cells",
+        tree.get_sourced_cells(),
+        Ok(right.cells),
+        input,
     );
-    compare_lists(t, &tree, &u, &v, || format!("{tree:?}"));
-    let mut cells: Vec<u64> = map.keys().copied().collect();
-    cells.sort_unstable();
-    t.same("sourced cells", tree.get_sourced_cells(), Ok(cells), || {
-        format!("{tree:?}")
-    });
+}
+
+/// Near work on trees that the Rust built, and on others.
+pub fn near_work(t: &mut Tally, r: &mut Random, case: u64) {
+    if case % 2 == 0 {
+        let s = inputs::survey(r, 500);
+        let (lists, _) = oracle::build(&s);
+        let tree = oracle::columns(s.bounds.axes, &lists);
+        compare_near_work(t, &tree, &lists.u_lists, || show(&s));
+    } else {
+        let given = odd_tree(r, 400);
+        let axes = axes_of(&given);
+        let tree = oracle::columns(axes, &given);
+        let right = rust_rows(&given, axes);
+        compare_near_work(t, &tree, &right.u, || format!("{tree:?}"));
+    }
 }
