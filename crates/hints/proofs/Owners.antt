@@ -47,12 +47,12 @@ module _ (d : ℕ) (keys own : List ℕ) (o : Owned d keys own) where
   pub depth-few : depthOf keys ≤ 16
   depth-few = depth-most d keys ascending
 
-  pub owner-leaf : (node : ℕ) → node < length keys → 0 < getD own node 0 → leaf d keys (getD keys node 0) ≡ true
+  pub owner-leaf : (node : ℕ) → node < length keys → (getD own node 0 ≡ 0 → ⊥) → leaf d keys (getD keys node 0) ≡ true
   owner-leaf node l some = go (leaf d keys (getD keys node 0)) refl
     where
       go : (b : Bool) → leaf d keys (getD keys node 0) ≡ b → leaf d keys (getD keys node 0) ≡ true
       go true e = e
-      go false e = absurd (omega (arith, leaves-facts d keys own (o .leaves) node l e, some))
+      go false e = absurd (some (leaves-facts d keys own (o .leaves) node l e))
 
   -- ---- the climb's end
   module _ (code l : ℕ) (below : 0 < l) (deep : l ≤ 16) (node : ℕ) (w : LeafAt d keys (cellOf d l code) node) where

@@ -1,5 +1,5 @@
 // Hints: node numbers in a table by their keys, and levels by how many sources they own. Each is tested before it is used, so
-// any table and any levels give the same answer; a wrong one costs time alone.
+// any table and any trial give the same answer; a wrong one costs time alone.
 use tree::Found;
 ghost use mathlib.Core.Path.{_≡_};
 ghost use mathlib.Core.Bool.{true};
@@ -17,15 +17,30 @@ pub const FREE: u32 = 4294967295;
 // A look-up of fewer points than one for so many nodes is not worth a table.
 const NODES_A_POINT: usize = 32;
 
-// The levels to try, each less 1, the first in the lowest 4 bits; and how many they are.
-pub struct Levels {
+// Up to so many nodes each leaf has a hint of its own; up to so many 8 codes share one, then 64.
+const NODES_ALONE: usize = 49152;
+
+const NODES_BY_8: usize = 262144;
+
+// How the table is tried: the levels, each less 1, the first in the lowest 4 bits, and how many they are. Codes of a level that
+// differ in the last `bits` only share a hint, for the first of them; the others are within twice `reach` of it.
+pub struct Trial {
     pub order: u64,
     pub count: u64,
+    pub bits: u64,
+    pub reach: usize,
 }
 
 // ---- the table
 
-// The slot of a cell. Cells of one level with codes next to each other have slots next to each other.
+// What the cells that share a hint have in common, as a key.
+fn group_of(k: u64, bits: u64) -> u64
+    requires { ⌜ bits < 64 ⌝ }
+{
+    ((k / 32768) >> bits) * 32768 + k % 32768
+}
+
+// The slot of a group. Groups of one level next to each other have slots next to each other.
 fn slot_of(k: u64) -> usize
     ensures { λ r. ⌜ r < 65536 ⌝ }
 {
@@ -34,7 +49,7 @@ fn slot_of(k: u64) -> usize
     ((code + code / 65536 * 40503 + level * 25717) % 65536) as usize
 }
 
-// The slot of a cell whose first slot another has taken.
+// The slot of a group whose first slot another has taken.
 fn second_slot_of(k: u64) -> usize
     ensures { λ r. ⌜ r < 65536 ⌝ }
 {
@@ -42,28 +57,33 @@ fn second_slot_of(k: u64) -> usize
     (mixed * 2654435769 / 65536 % 65536) as usize
 }
 
-// Puts a node's number into a slot of its key, if one is free.
-fn put(hints: &mut [u32; SLOTS], k: u64, node: usize) {
+// Puts a node's number into a slot of its group, if one is free.
+fn put(hints: &mut [u32; SLOTS], group: u64, node: usize) {
     let hint = (node % 4294967296) as u32;
-    let slot = slot_of(k);
+    let slot = slot_of(group);
     if hints[slot] == FREE {
         hints[slot] = hint;
         return;
     }
-    let second = second_slot_of(k);
+    let second = second_slot_of(group);
     if hints[second] == FREE {
         hints[second] = hint;
     }
 }
 
-// Puts in the nodes that own sources.
-fn put_owners(key: &[u64], own: &[usize], hints: &mut [u32; SLOTS])
-    requires { ⌜ length (now own) ≡ length (now key) ⌝ }
+// Puts in the first node of each group that owns sources.
+fn put_owners(key: &[u64], own: &[usize], bits: u64, hints: &mut [u32; SLOTS])
+    requires { ⌜ (length (now own) ≡ length (now key)) × (bits < 64) ⌝ }
 {
+    let mut last = 0;
     let mut node = 0;
     while node < key.len() {
         if 0 < own[node] {
-            put(hints, key[node], node);
+            let group = group_of(key[node], bits);
+            if group != last {
+                put(hints, group, node);
+                last = group;
+            }
         }
         node += 1;
     }
@@ -142,8 +162,8 @@ fn heaviest(weights: &[u64; 16]) -> usize
     most
 }
 
-// The levels that have nodes, by falling weight.
-fn levels_of(key: &[u64], own: &[usize]) -> Levels
+// The trial of the levels that have nodes, by falling weight.
+fn trial_of(key: &[u64], own: &[usize], bits: u64, reach: usize) -> Trial
     requires { ⌜ length (now own) ≡ length (now key) ⌝ }
 {
     let mut weights = [0u64; 16];
@@ -153,43 +173,61 @@ fn levels_of(key: &[u64], own: &[usize]) -> Levels
     while count < 16 {
         let at = heaviest(&weights);
         if weights[at] == 0 {
-            return Levels {
+            return Trial {
                 order: order,
                 count: count,
+                bits: bits,
+                reach: reach,
             };
         }
         weights[at] = 0;
         order = order | (at as u64) << (4 * count);
         count += 1;
     }
-    Levels {
+    Trial {
         order: order,
         count: count,
+        bits: bits,
+        reach: reach,
     }
 }
 
-// Fills the table for a look-up of so many points, and says which levels to try; none, where that is not worth it.
+// Fills the table for a look-up of so many points, and says how to try it; where that is not worth it, not at all.
 pub fn prepare(
     axes: usize,
     key: &[u64],
     own: &[usize],
     points: usize,
     hints: &mut [u32; SLOTS],
-) -> Levels
+) -> Trial
     requires { ⌜ (axes ≤ 3) × (length (now own) ≡ length (now key)) ⌝ }
 {
     if points < key.len() / NODES_A_POINT {
-        return Levels { order: 0, count: 0 };
+        return Trial {
+            order: 0,
+            count: 0,
+            bits: 0,
+            reach: 0,
+        };
     }
-    put_owners(key, own, hints);
-    put_empty(axes, key, own, hints);
-    levels_of(key, own)
+    if key.len() <= NODES_ALONE {
+        put_owners(key, own, 0, hints);
+        put_empty(axes, key, own, hints);
+        return trial_of(key, own, 0, 0);
+    }
+    if key.len() <= NODES_BY_8 {
+        put_owners(key, own, 3, hints);
+        return trial_of(key, own, 3, 4);
+    }
+    put_owners(key, own, 6, hints);
+    trial_of(key, own, 6, 32)
 }
 
 // ---- the look-up
 
-// Whether a number is that of a leaf with key k. Where nodes own sources they are leaves.
-fn is_leaf_with(axes: usize, key: &[u64], own: &[usize], node: usize, k: u64) -> bool
+// Whether a number is that of a leaf with key k. Where nodes own sources they are leaves; others are searched for children if a
+// hint is for one node alone. A shared one finds inner nodes too, and a search of each would cost more than the climb.
+fn is_leaf_with(axes: usize, key: &[u64], own: &[usize], node: usize, k: u64, alone: bool) -> bool
     requires { ⌜ Owned axes (now key) (now own) ⌝ }
     ensures { λ r. ⌜ (r ≡ true → LeafAt axes (now (key .entry)) k node) ⌝ }
 {
@@ -199,33 +237,82 @@ fn is_leaf_with(axes: usize, key: &[u64], own: &[usize], node: usize, k: u64) ->
     if key[node] != k {
         return false;
     }
-    if 0 < own[node] {
+    if own[node] != 0 {
         return true;
+    }
+    if !alone {
+        return false;
     }
     tree::is_leaf(axes, key, node)
 }
 
-fn wide(hint: u32) -> usize {
-    hint as usize
+// So many nodes on, if that node has no key above k.
+fn step(key: &[u64], node: usize, half: usize, k: u64) -> usize
+    requires { ⌜ (node < length (now key)) × (half < 64) ⌝ }
+    ensures { λ r. ⌜ r < length (now (key .entry)) ⌝ }
+{
+    let next = node + half;
+    if key.len() <= next {
+        return node;
+    }
+    if k < key[next] {
+        return node;
+    }
+    next
 }
 
-// The number of the leaf with key k, if a hint says it. Behind a first slot that is free nothing was put.
-fn hinted(axes: usize, key: &[u64], own: &[usize], hints: &[u32; SLOTS], k: u64) -> Found
+// The last of the nodes from `first` on, in twice the reach, whose key is not above k, by halving.
+fn nearest(key: &[u64], first: usize, reach: usize, k: u64) -> usize
+    requires { ⌜ first < length (now key) ⌝ }
+{
+    let mut node = first;
+    let mut half = reach % 64;
+    while 0 < half {
+        node = step(key, node, half, k);
+        half = half / 2;
+    }
+    node
+}
+
+// The number of the leaf with key k, if this hint leads to it.
+fn led_to(axes: usize, key: &[u64], own: &[usize], hint: u32, reach: usize, k: u64) -> Found
     requires { ⌜ Owned axes (now key) (now own) ⌝ }
     ensures { λ r. ⌜ ((node : ℕ) → r ≡ Found.At node → LeafAt axes (now (key .entry)) k node) ⌝ }
 {
-    let first = wide(hints[slot_of(k)]);
+    let first = hint as usize;
     if key.len() <= first {
         return Found::Nothing;
     }
-    if is_leaf_with(axes, key, own, first, k) {
-        return Found::At(first);
-    }
-    let second = wide(hints[second_slot_of(k)]);
-    if is_leaf_with(axes, key, own, second, k) {
-        return Found::At(second);
+    let node = nearest(key, first, reach, k);
+    if is_leaf_with(axes, key, own, node, k, reach < 1) {
+        return Found::At(node);
     }
     Found::Nothing
+}
+
+// The number of the leaf with key k, if a hint leads to it. Behind a first slot that is free nothing was put.
+fn hinted(
+    axes: usize,
+    key: &[u64],
+    own: &[usize],
+    hints: &[u32; SLOTS],
+    bits: u64,
+    reach: usize,
+    k: u64,
+) -> Found
+    requires { ⌜ Owned axes (now key) (now own) × (bits < 64) ⌝ }
+    ensures { λ r. ⌜ ((node : ℕ) → r ≡ Found.At node → LeafAt axes (now (key .entry)) k node) ⌝ }
+{
+    let group = group_of(k, bits);
+    let hint = hints[slot_of(group)];
+    if hint == FREE {
+        return Found::Nothing;
+    }
+    let first = led_to(axes, key, own, hint, reach, k);
+    if let Found::At(node) = first {
+        return Found::At(node);
+    }
+    led_to(axes, key, own, hints[second_slot_of(group)], reach, k)
 }
 
 // The number of the leaf that holds a level-16 code: by a hint, else by a climb.
@@ -234,18 +321,21 @@ pub fn leaf_of(
     key: &[u64],
     own: &[usize],
     hints: &[u32; SLOTS],
-    levels: Levels,
+    trial: Trial,
     code: u64,
 ) -> Found
     requires { ⌜ Owned axes (now key) (now own) × (code < 281474976710656) ⌝ }
     ensures { λ r. ⌜ r ≡ climbFrom axes (now (key .entry)) (depthOf (now (key .entry))) code ⌝ }
 {
-    let mut order = levels.order;
-    let mut left = levels.count;
+    let bits = trial.bits % 64;
+    let reach = trial.reach;
+    let mut order = trial.order;
+    let mut left = trial.count;
     while 0 < left {
         let level = order % 16 + 1;
         let above = (axes as u64) * (16 - level);
-        let hint = hinted(axes, key, own, hints, (code >> above) * 32768 + level);
+        let k = (code >> above) * 32768 + level;
+        let hint = hinted(axes, key, own, hints, bits, reach, k);
         if let Found::At(node) = hint {
             return Found::At(node);
         }

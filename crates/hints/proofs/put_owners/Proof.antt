@@ -6,13 +6,14 @@ use Rattle.hints.proofs.put_owners.Statement.{statement}
 use Rattle.hints.proofs.put_owners.Tie as tie
 use Rattle.hints.proofs.put_owners.Reads as reads
 use Rattle.hints.proofs.put_owners.Lts as lts
+use Rattle.hints.proofs.group_of.Reads as group-of-reads
 use Rattle.hints.proofs.put.Reads as put-reads
 
 abbrev Inv-loop : tie.InvT-loop
-Inv-loop key own hints₀ node₀ hints node = 0 ≤ 0
+Inv-loop key own bits hints₀ last₀ node₀ hints last node = 0 ≤ 0
 
 abbrev μ-loop : tie.MeasureT-loop
-μ-loop key own hints₀ node₀ hints node = length key - node
+μ-loop key own bits hints₀ last₀ node₀ hints last node = length key - node
 
 loop-holds : tie.Need-loop-holds Inv-loop μ-loop
 loop-holds c = search needs
@@ -23,11 +24,14 @@ mul-if1 c = search needs
 shared-slice-read-if1 : tie.Need-shared-slice-read-if1 Inv-loop μ-loop
 shared-slice-read-if1 c = search needs
 
-mul-put : tie.Need-mul-put Inv-loop μ-loop
-mul-put c = search needs
+mul-group-of : tie.Need-mul-group-of Inv-loop μ-loop
+mul-group-of c = search needs
 
-shared-slice-read-put : tie.Need-shared-slice-read-put Inv-loop μ-loop
-shared-slice-read-put c = search needs
+shared-slice-read-group-of : tie.Need-shared-slice-read-group-of Inv-loop μ-loop
+shared-slice-read-group-of c = search needs
+
+group-of-requires : tie.Need-group-of-requires Inv-loop μ-loop
+group-of-requires c κs = search needs
 
 put-requires : tie.Need-put-requires Inv-loop μ-loop
 put-requires c κs = search needs
@@ -46,4 +50,4 @@ returns c = search needs
 
 pub put-owners-spec : {M : Type 1} → statement M
 put-owners-spec =
-    tie.close (tie.spec Inv-loop μ-loop loop-holds mul-if1 shared-slice-read-if1 mul-put shared-slice-read-put put-requires add-node loop-less loop-again returns)
+    tie.close (tie.spec Inv-loop μ-loop loop-holds mul-if1 shared-slice-read-if1 mul-group-of shared-slice-read-group-of group-of-requires put-requires add-node loop-less loop-again returns)

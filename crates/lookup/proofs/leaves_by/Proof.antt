@@ -15,10 +15,10 @@ use Rattle.tree.proofs.depth_of.Reads as depth-of-reads
 use Rattle.lookup.proofs.climb_by.Reads as climb-by-reads
 
 abbrev Inv-loop : tie.InvT-loop
-Inv-loop axes key own hints levels codes₀ n depth steps₀ row₀ codes steps row = Looking axes key n codes₀ row steps codes
+Inv-loop axes key own hints trial codes₀ n depth steps₀ row₀ codes steps row = Looking axes key n codes₀ row steps codes
 
 abbrev μ-loop : tie.MeasureT-loop
-μ-loop axes key own hints levels codes₀ n depth steps₀ row₀ codes steps row = n - row
+μ-loop axes key own hints trial codes₀ n depth steps₀ row₀ codes steps row = n - row
 
 depth-of-requires : tie.Need-depth-of-requires Inv-loop μ-loop
 depth-of-requires c κs = search needs

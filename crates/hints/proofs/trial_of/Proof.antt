@@ -1,19 +1,18 @@
--- `hints::levels_of` meets its contract.
+-- `hints::trial_of` meets its contract.
 use Prim.Native.Nat.{_≤_, _-_}
-use lib.ListN.{length}
 use borrow.Author.Needs.{needs}
-use Rattle.hints.proofs.levels_of.Statement.{statement}
-use Rattle.hints.proofs.levels_of.Tie as tie
-use Rattle.hints.proofs.levels_of.Reads as reads
-use Rattle.hints.proofs.levels_of.Lts as lts
+use Rattle.hints.proofs.trial_of.Statement.{statement}
+use Rattle.hints.proofs.trial_of.Tie as tie
+use Rattle.hints.proofs.trial_of.Reads as reads
+use Rattle.hints.proofs.trial_of.Lts as lts
 use Rattle.hints.proofs.heaviest.Reads as heaviest-reads
 use Rattle.hints.proofs.weigh.Reads as weigh-reads
 
 abbrev Inv-loop : tie.InvT-loop
-Inv-loop key own weights₀ order₀ count₀ weights order count = count ≤ 16
+Inv-loop key own bits reach weights₀ order₀ count₀ weights order count = count ≤ 16
 
 abbrev μ-loop : tie.MeasureT-loop
-μ-loop key own weights₀ order₀ count₀ weights order count = 16 - count
+μ-loop key own bits reach weights₀ order₀ count₀ weights order count = 16 - count
 
 weigh-requires : tie.Need-weigh-requires Inv-loop μ-loop
 weigh-requires c κs = search needs
@@ -57,6 +56,6 @@ loop-again c = search needs
 returns-2 : tie.Need-returns-2 Inv-loop μ-loop
 returns-2 c = search needs
 
-pub levels-of-spec : {M : Type 1} → statement M
-levels-of-spec =
+pub trial-of-spec : {M : Type 1} → statement M
+trial-of-spec =
     tie.close (tie.spec Inv-loop μ-loop weigh-requires loop-holds heaviest-requires mul-if1 array-read-if1 returns mul-weights array-write-weights mul-order shl-order add-count loop-less loop-again returns-2)
