@@ -18,7 +18,7 @@ use lib.Dec.{leb}
 use borrow.Author.Tests.{le-leb, lt-leb}
 use Rattle.slices.proofs.Tests.{clash}
 
-starts-snoc : (a : ℕ) (row : ℕ → List ℕ) (ks : List ℕ) (k : ℕ) → startsFrom a row (ks ++ k ∷ []) ≡ startsFrom a row ks ++ (a + length (concatMap row (ks ++ k ∷ []))) ∷ []
+pub starts-snoc : (a : ℕ) (row : ℕ → List ℕ) (ks : List ℕ) (k : ℕ) → startsFrom a row (ks ++ k ∷ []) ≡ startsFrom a row ks ++ (a + length (concatMap row (ks ++ k ∷ []))) ∷ []
 unfolding startsFrom concatMap
 starts-snoc a row [] k = ap (λ (n : ℕ). a ∷ n ∷ []) (ap (λ (l : List ℕ). a + length l) (sym (append-nil (row k))))
 starts-snoc a row (x ∷ ks) k =
@@ -41,7 +41,7 @@ module _ (row : ℕ → List ℕ) (keys : List ℕ) where
   unfolding concatMap startsFrom
   writing-none starts out h = record { upto = omega arith; room = omega arith; counted = refl; written = refl; begins = take-suc-set starts 0 0 h }
 
-  more-keys : (i : ℕ) → i < length keys → rowKeys row (take (i + 1) keys) ≡ rowKeys row (take i keys) ++ row (getD keys i 0)
+  pub more-keys : (i : ℕ) → i < length keys → rowKeys row (take (i + 1) keys) ≡ rowKeys row (take i keys) ++ row (getD keys i 0)
   more-keys i l =
       ap (concatMap row) (ap (λ (n : ℕ). take n keys) (add-one i) ∙ take-suc keys i 0 l)
       ∙ concatMap-append row (take i keys) (getD keys i 0 ∷ [])
@@ -151,7 +151,7 @@ module _ (row : ℕ → List ℕ) (keys : List ℕ) where
 
 -- ---- one list, with the unused rest
 
-starts-length : (a : ℕ) (row : ℕ → List ℕ) (ks : List ℕ) → length (startsFrom a row ks) ≡ length ks + 1
+pub starts-length : (a : ℕ) (row : ℕ → List ℕ) (ks : List ℕ) → length (startsFrom a row ks) ≡ length ks + 1
 unfolding startsFrom
 starts-length a row [] = refl
 starts-length a row (k ∷ ks) = omega (arith, starts-length (a + length (row k)) row ks)

@@ -2,68 +2,38 @@
 use mathlib.Core.Path.{_≡_, refl, sym, ap, ap₂, _∙_}
 use mathlib.Core.Bool.{true, false}
 use mathlib.Core.List.{List, [], _∷_, _++_, map}
-use Prim.Native.Nat.{ℕ, zero, suc, _+_, _-_, _%_, _≤_, _<_}
+use Prim.Native.Nat.{ℕ, zero, suc, _+_, _-_, _≤_, _<_}
 use native.Mathlib.Omega.{arith}
 use lib.ListN.{length, take, replicate, length-append}
 use lib.Seq.{take-append-le, length-take-le}
 use borrow.Author.Tests.{le-leb, lt-leb}
-use Rattle.slices.specs.Lists.{concatMap}
 use Rattle.slices.proofs.Tests.{clash}
-use Rattle.rows.specs.Written.{startsFrom, rowStarts, rowKeys}
+use Rattle.rows.specs.Written.{rowStarts, rowKeys}
 use Rattle.lists.specs.Descent.{keysRoom, WritesRows, WritesList}
-use Rattle.quick_lists.specs.Halves.{upper, lower, hasRoom, WritesBoth}
+use Rattle.lists.proofs.Writing.{starts-length}
+use Rattle.quick_lists.specs.Halves.{upper, lower, hasRoom, WritesTwo, WritesBoth}
 
 take-map : (f : ℕ → ℕ) (n : ℕ) (l : List ℕ) → take n (map f l) ≡ map f (take n l)
 take-map f zero l = refl
 take-map f (suc n) [] = refl
 take-map f (suc n) (x ∷ xs) = ap (λ (r : List ℕ). f x ∷ r) (take-map f n xs)
 
-map-upper : (l : List ℕ) → map (upper true) l ≡ l
-map-upper [] = refl
-map-upper (x ∷ xs) = ap (λ (r : List ℕ). x ∷ r) (map-upper xs)
-
-starts-length : (a : ℕ) (row : ℕ → List ℕ) (ks : List ℕ) → length (startsFrom a row ks) ≡ length ks + 1
-unfolding startsFrom
-starts-length a row [] = refl
-starts-length a row (k ∷ ks) = omega (arith, starts-length (a + length (row k)) row ks)
-
--- a start below 2^32 is its own lower half
-low-start : (a : ℕ) → a ≤ 16777216 → a % 4294967296 ≡ a
-low-start a h = omega arith
-
--- the starts of rows with so few keys are their own lower halves
-starts-low : (a : ℕ) (row : ℕ → List ℕ) (ks : List ℕ) → a + length (concatMap row ks) ≤ 16777216 → map (lower false) (startsFrom a row ks) ≡ startsFrom a row ks
-unfolding startsFrom concatMap
-starts-low a row [] h = ap (λ (x : ℕ). x ∷ []) (low-start a (omega arith))
-starts-low a row (k ∷ ks) h =
-    let e = length-append (row k) (concatMap row ks) in
-    ap₂ (λ (x : ℕ) (l : List ℕ). x ∷ l) (low-start a (omega arith)) (starts-low (a + length (row k)) row ks (omega arith))
-
--- V's starts stand in the lower halves when U's are written above them
-pub low-begins : (row : ℕ → List ℕ) (keys us₁ us₂ : List ℕ) → take (length keys + 1) (map (upper true) us₁) ≡ rowStarts row keys → map (lower false) us₂ ≡ map (lower false) us₁
-    → length (rowKeys row keys) ≤ 16777216 → map (lower false) (take (length keys + 1) us₂) ≡ rowStarts row keys
-low-begins row keys us₁ us₂ b k h =
-    sym (take-map (lower false) (length keys + 1) us₂) ∙ ap (take (length keys + 1)) k ∙ take-map (lower false) (length keys + 1) us₁
-    ∙ ap (λ (l : List ℕ). map (lower false) (take (length keys + 1) l)) (sym (map-upper us₁)) ∙ ap (map (lower false)) b ∙ starts-low 0 row keys (omega arith)
-
-pub high-begins : (row : ℕ → List ℕ) (keys us : List ℕ) → take (length keys + 1) (map (upper false) us) ≡ rowStarts row keys → map (upper false) (take (length keys + 1) us) ≡ rowStarts row keys
-high-begins row keys us b = sym (take-map (upper false) (length keys + 1) us) ∙ b
+-- the starts in one half of the entries
+half-begins : (half : ℕ → ℕ) (row : ℕ → List ℕ) (keys us : List ℕ) → take (length keys + 1) (map half us) ≡ rowStarts row keys → map half (take (length keys + 1) us) ≡ rowStarts row keys
+half-begins half row keys us b = sym (take-map half (length keys + 1) us) ∙ b
 
 -- ---- one list, in its room
 pub cap-most : (r : ℕ) (l : List ℕ) → r ≡ keysRoom (length l) → length (take r l) ≤ 16777216
 cap-most r l e = omega (arith, length-take-le r l (omega arith))
 
 module _ (row : ℕ → List ℕ) (keys starts e : List ℕ) (n room len : ℕ) (w : WritesRows row keys starts e n) (size : length e ≡ room) (cap : room ≡ keysRoom len) where
-  pub no-room : room < n → hasRoom row keys len ≡ false
+  no-room : room < n → hasRoom row keys len ≡ false
   no-room h = lt-leb (length (rowKeys row keys)) (keysRoom len) (omega (arith, w .over (omega arith)))
 
-  pub in-room : n ≤ room → hasRoom row keys len ≡ true
+  in-room : n ≤ room → hasRoom row keys len ≡ true
   in-room h = le-leb (length (rowKeys row keys)) (keysRoom len) (omega (arith, w .counted (omega arith)))
 
-  pub few : n ≤ room → length (rowKeys row keys) ≤ 16777216
-  few h = omega (arith, w .counted (omega arith))
-
-  pub list-done : n ≤ room → (places m : ℕ) (rest out'' col starts'' : List ℕ) → room + length rest ≡ len → m ≡ places
+  list-done : n ≤ room → (places m : ℕ) (rest out'' col starts'' : List ℕ) → room + length rest ≡ len → m ≡ places
       → out'' ≡ take n (e ++ rest) ++ replicate (length (e ++ rest) - n) 0
       → col ≡ rowStarts row keys
       → starts'' ≡ col ++ replicate (m - (length keys + 1)) 0
@@ -79,15 +49,40 @@ module _ (row : ℕ → List ℕ) (keys starts e : List ℕ) (n room len : ℕ) 
 
 -- ---- both
 module _ (u v : ℕ → List ℕ) (keys : List ℕ) (up ul vp vl : ℕ) (us uk vs vk : List ℕ) where
-  pub u-none : hasRoom u keys ul ≡ false → WritesBoth u v keys up ul vp vl us uk vs vk 6
+  u-none : hasRoom u keys ul ≡ false → WritesBoth u v keys up ul vp vl us uk vs vk 6
   u-none h = record { u-short = λ _. refl; v-short = λ t _. absurd (clash t h); written = λ t _. absurd (clash t h) }
 
-  pub v-none : hasRoom u keys ul ≡ true → hasRoom v keys vl ≡ false → WritesBoth u v keys up ul vp vl us uk vs vk 7
+  v-none : hasRoom u keys ul ≡ true → hasRoom v keys vl ≡ false → WritesBoth u v keys up ul vp vl us uk vs vk 7
   v-none g h = record { u-short = λ f. absurd (clash g f); v-short = λ _ _. refl; written = λ _ t. absurd (clash t h) }
 
-  pub both-done : WritesList u keys up ul us uk true → WritesList v keys vp vl vs vk true → WritesBoth u v keys up ul vp vl us uk vs vk 0
+  both-done : WritesList u keys up ul us uk true → WritesList v keys vp vl vs vk true → WritesBoth u v keys up ul vp vl us uk vs vk 0
   both-done a b = record {
     u-short = λ f. absurd (clash (sym (a .fits)) f);
     v-short = λ _ f. absurd (clash (sym (b .fits)) f);
     written = λ _ _. (refl, a, b);
   }
+
+module _ (u v : ℕ → List ℕ) (keys starts uk vk : List ℕ) (n m ur ul vr vl : ℕ) (w : WritesTwo u v keys starts uk vk n m)
+    (su : length uk ≡ ur) (cu : ur ≡ keysRoom ul) (sv : length vk ≡ vr) (cv : vr ≡ keysRoom vl) where
+  v-rows : n ≤ ur → WritesRows v keys (map lower starts) vk m
+  v-rows h = w .far (omega arith)
+
+  pub u-over : ur < n → (up vp : ℕ) (us' uk' vs' vk' : List ℕ) → WritesBoth u v keys up ul vp vl us' uk' vs' vk' 6
+  u-over h up vp us' uk' vs' vk' = u-none u v keys up ul vp vl us' uk' vs' vk' (no-room u keys (map upper starts) uk n ur ul (w .near) su cu h)
+
+  pub v-over : n ≤ ur → vr < m → (up vp : ℕ) (us' uk' vs' vk' : List ℕ) → WritesBoth u v keys up ul vp vl us' uk' vs' vk' 7
+  v-over h k up vp us' uk' vs' vk' =
+      v-none u v keys up ul vp vl us' uk' vs' vk' (in-room u keys (map upper starts) uk n ur ul (w .near) su cu h) (no-room v keys (map lower starts) vk m vr vl (v-rows h) sv cv k)
+
+  -- what `finish` leaves
+  pub both-finished : n ≤ ur → m ≤ vr → (up vp places : ℕ) (urest vrest us' uk' vs' vk' : List ℕ) → ur + length urest ≡ ul → vr + length vrest ≡ vl → length starts ≡ up → places ≡ vp
+      → (us' ≡ map upper (take (length keys + 1) starts) ++ replicate (length starts - (length keys + 1)) 0)
+      × (vs' ≡ map lower (take (length keys + 1) starts) ++ replicate (places - (length keys + 1)) 0)
+      × (uk' ≡ take n (uk ++ urest) ++ replicate (length (uk ++ urest) - n) 0) × (vk' ≡ take m (vk ++ vrest) ++ replicate (length (vk ++ vrest) - m) 0)
+      → WritesBoth u v keys up ul vp vl us' uk' vs' vk' 0
+  both-finished h k up vp places urest vrest us' uk' vs' vk' ua va ub vb f =
+      both-done u v keys up ul vp vl us' uk' vs' vk'
+      (list-done u keys (map upper starts) uk n ur ul (w .near) su cu h up (length starts) urest uk' (map upper (take (length keys + 1) starts)) us' ua ub (f .2)
+      (half-begins upper u keys starts (w .near .begins (omega arith))) (f .0))
+      (list-done v keys (map lower starts) vk m vr vl (v-rows h) sv cv k vp places vrest vk' (map lower (take (length keys + 1) starts)) vs' va vb (f .3)
+      (half-begins lower v keys starts (v-rows h .begins (omega arith))) (f .1))

@@ -1,3 +1,4 @@
-pub mod Parents
+pub mod Progress
 pub mod Marks
+pub mod Pairs
 pub mod Both

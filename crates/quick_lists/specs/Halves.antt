@@ -1,27 +1,25 @@
 -- Two starts in one entry: V's in the lower half, U's in the upper one.
 use mathlib.Core.Bool.{Bool, true, false}
 use mathlib.Core.Path.{_≡_}
-use mathlib.Core.List.{List}
-use Prim.Native.Nat.{ℕ, _+_, _*_, _/_, _%_}
+use mathlib.Core.List.{List, map}
+use Prim.Native.Nat.{ℕ, _/_, _%_, _≤_}
 use lib.Dec.{leb}
 use lib.ListN.{length}
 use Rattle.rows.specs.Written.{rowKeys}
-use Rattle.lists.specs.Descent.{keysRoom, WritesList}
+use Rattle.lists.specs.Descent.{keysRoom, WritesRows, WritesList}
 
--- what a list's starts are read from: a V list's from the whole entry, a U list's from its upper half
-abbrev pub upper : Bool → ℕ → ℕ
-upper true x = x
-upper false x = x / 4294967296
+-- U's start in an entry
+abbrev pub upper : ℕ → ℕ
+upper x = x / 4294967296
 
--- what writing a list's starts leaves as it was
-abbrev pub lower : Bool → ℕ → ℕ
-lower true x = 0
-lower false x = x % 4294967296
+-- V's
+abbrev pub lower : ℕ → ℕ
+lower x = x % 4294967296
 
--- an entry with the start n written into it
-abbrev pub marked : Bool → ℕ → ℕ → ℕ
-marked true x n = n
-marked false x n = x % 4294967296 + n * 4294967296
+-- the rows of both lists were written, n keys and m; V's only where U's have room
+pub record WritesTwo (u v : ℕ → List ℕ) (keys starts uk vk : List ℕ) (n m : ℕ) : Type 0 where
+  pub near : WritesRows u keys (map upper starts) uk n
+  pub far : n ≤ length uk → WritesRows v keys (map lower starts) vk m
 
 -- whether the keys of a list's rows have room
 abbrev pub hasRoom : (ℕ → List ℕ) → List ℕ → ℕ → Bool
