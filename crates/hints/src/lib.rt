@@ -16,10 +16,10 @@ pub const FREE: u32 = 4294967295;
 // A look-up of fewer points than one for so many nodes is not worth a table.
 const NODES_A_POINT: usize = 32;
 
-// Up to so many nodes each leaf has a hint of its own; up to so many 8 codes share one, then 64.
-const NODES_ALONE: usize = 49152;
+// A table of so many hints is full enough. Where more nodes own sources, codes share a hint, by at most so many bits.
+const MOST_GROUPS: usize = 32768;
 
-const NODES_BY_8: usize = 262144;
+const MOST_BITS: u64 = 12;
 
 // How the table is tried: the levels, each less 1, the first in the lowest 4 bits, and how many they are. Codes of a level that
 // differ in the last `bits` only share a hint, for the first of them; the others are within twice `reach` of it.
@@ -70,6 +70,41 @@ fn put(hints: &mut [u32; SLOTS], group: u64, node: usize) {
     }
 }
 
+// How many groups there are of the nodes that own sources.
+fn count_groups(key: &[u64], own: &[usize], bits: u64) -> usize
+    requires { ⌜ (length (now own) ≡ length (now key)) × (bits < 64) ⌝ }
+{
+    let mut groups = 0;
+    let mut last = 0;
+    let mut node = 1;
+    while node < key.len() {
+        if own[node] != 0 {
+            let group = group_of(key[node], bits);
+            if group != last {
+                groups = std::num::wrapping_add_usize(groups, 1);
+                last = group;
+            }
+        }
+        node += 1;
+    }
+    groups
+}
+
+// The least bits to share, in steps of 3, with which those groups fit.
+fn bits_for(key: &[u64], own: &[usize]) -> u64
+    requires { ⌜ length (now own) ≡ length (now key) ⌝ }
+    ensures { λ r. ⌜ r < 64 ⌝ }
+{
+    let mut bits = 0;
+    while bits < MOST_BITS {
+        if count_groups(key, own, bits) <= MOST_GROUPS {
+            return bits;
+        }
+        bits += 3;
+    }
+    bits
+}
+
 // Puts in the first node of each group that owns sources, or the first that owns none.
 fn put_nodes(key: &[u64], own: &[usize], owning: bool, bits: u64, hints: &mut [u32; SLOTS])
     requires { ⌜ (length (now own) ≡ length (now key)) × (bits < 64) ⌝ }
@@ -86,14 +121,6 @@ fn put_nodes(key: &[u64], own: &[usize], owning: bool, bits: u64, hints: &mut [u
         }
         node += 1;
     }
-}
-
-// Fills the table, the nodes that own sources first.
-fn fill(key: &[u64], own: &[usize], bits: u64, hints: &mut [u32; SLOTS])
-    requires { ⌜ (length (now own) ≡ length (now key)) × (bits < 64) ⌝ }
-{
-    put_nodes(key, own, true, bits, hints);
-    put_nodes(key, own, false, bits, hints);
 }
 
 // ---- the levels
@@ -168,23 +195,18 @@ pub fn prepare(key: &[u64], own: &[usize], points: usize, hints: &mut [u32; SLOT
             reach: 0,
         };
     }
-    if key.len() <= NODES_ALONE {
-        fill(key, own, 0, hints);
-        return trial_of(key, own, 0, 0);
-    }
-    if key.len() <= NODES_BY_8 {
-        fill(key, own, 3, hints);
-        return trial_of(key, own, 3, 4);
-    }
-    fill(key, own, 6, hints);
-    trial_of(key, own, 6, 32)
+    let bits = bits_for(key, own);
+    put_nodes(key, own, true, bits, hints);
+    put_nodes(key, own, false, bits, hints);
+    let sharing: usize = 1 << bits;
+    trial_of(key, own, bits, sharing / 2)
 }
 
 // ---- the look-up
 
 // So many nodes on, if that node has no key above k.
 fn step(key: &[u64], node: usize, half: usize, k: u64) -> usize
-    requires { ⌜ (node < length (now key)) × (half < 64) ⌝ }
+    requires { ⌜ (node < length (now key)) × (half < 4096) ⌝ }
     ensures { λ r. ⌜ r < length (now (key .entry)) ⌝ }
 {
     let next = node + half;
@@ -203,7 +225,7 @@ fn nearest(key: &[u64], first: usize, reach: usize, k: u64) -> usize
     ensures { λ r. ⌜ r < length (now (key .entry)) ⌝ }
 {
     let mut node = first;
-    let mut half = reach % 64;
+    let mut half = reach % 4096;
     while 0 < half {
         node = step(key, node, half, k);
         half = half / 2;
