@@ -5,18 +5,19 @@ use mathlib.Core.List.{List}
 use Prim.Native.Nat.{ℕ, _<_}
 use lib.ListN.{length, getD}
 use Rattle.morton.specs.Keys.{axesKnown}
-use Rattle.tree.specs.Nodes.{leaf}
 use Rattle.tree.specs.WellFormed.{keysAscend, parentsStored, leavesOwn}
 
-pub record Owned (d : ℕ) (keys own : List ℕ) : Type 0 where
+pub record Parented (d : ℕ) (keys : List ℕ) : Type 0 where
   pub axes : axesKnown d ≡ true
   pub ascends : keysAscend d keys ≡ true
   pub parents : parentsStored d keys ≡ true
+
+pub record Owned (d : ℕ) (keys own : List ℕ) : Type 0 where
+  pub tree : Parented d keys
   pub leaves : leavesOwn d keys own ≡ true
   pub owns : length own ≡ length keys
 
--- a leaf with key k
-pub record LeafAt (d : ℕ) (keys : List ℕ) (k node : ℕ) : Type 0 where
+-- a node with key k
+pub record NodeAt (keys : List ℕ) (k node : ℕ) : Type 0 where
   pub number : node < length keys
   pub key-is : getD keys node 0 ≡ k
-  pub leaf-is : leaf d keys k ≡ true

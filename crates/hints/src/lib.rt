@@ -2,12 +2,11 @@
 // any table and any trial give the same answer; a wrong one costs time alone.
 use tree::Found;
 ghost use mathlib.Core.Path.{_≡_};
-ghost use mathlib.Core.Bool.{true};
-ghost use Prim.Native.Nat.{ℕ, _≤_, _<_};
+ghost use Prim.Native.Nat.{ℕ, _<_};
 ghost use lib.ListN.{length};
 ghost use Rattle.tree.specs.Nodes.{depthOf};
 ghost use Rattle.climb.specs.Leaves.{climbFrom};
-ghost use Rattle.hints.specs.Owned.{Owned, LeafAt};
+ghost use Rattle.hints.specs.Owned.{Parented, Owned, NodeAt};
 
 pub const SLOTS: usize = 65536;
 
@@ -17,10 +16,10 @@ pub const FREE: u32 = 4294967295;
 // A look-up of fewer points than one for so many nodes is not worth a table.
 const NODES_A_POINT: usize = 32;
 
-// Up to so many nodes each leaf has a hint of its own; up to so many 8 codes share one, then 64.
-const NODES_ALONE: usize = 49152;
+// A table of so many hints is full enough. Where more nodes own sources, codes share a hint, by at most so many bits.
+const MOST_GROUPS: usize = 32768;
 
-const NODES_BY_8: usize = 262144;
+const MOST_BITS: u64 = 12;
 
 // How the table is tried: the levels, each less 1, the first in the lowest 4 bits, and how many they are. Codes of a level that
 // differ in the last `bits` only share a hint, for the first of them; the others are within twice `reach` of it.
@@ -71,63 +70,55 @@ fn put(hints: &mut [u32; SLOTS], group: u64, node: usize) {
     }
 }
 
-// Puts in the first node of each group that owns sources.
-fn put_owners(key: &[u64], own: &[usize], bits: u64, hints: &mut [u32; SLOTS])
+// How many groups there are of the nodes that own sources.
+fn count_groups(key: &[u64], own: &[usize], bits: u64) -> usize
+    requires { ⌜ (length (now own) ≡ length (now key)) × (bits < 64) ⌝ }
+{
+    let mut groups = 0;
+    let mut last = 0;
+    let mut node = 1;
+    while node < key.len() {
+        if own[node] != 0 {
+            let group = group_of(key[node], bits);
+            if group != last {
+                groups = std::num::wrapping_add_usize(groups, 1);
+                last = group;
+            }
+        }
+        node += 1;
+    }
+    groups
+}
+
+// The least bits to share, in steps of 3, with which those groups fit.
+fn bits_for(key: &[u64], own: &[usize]) -> u64
+    requires { ⌜ length (now own) ≡ length (now key) ⌝ }
+    ensures { λ r. ⌜ r < 64 ⌝ }
+{
+    let mut bits = 0;
+    while bits < MOST_BITS {
+        if count_groups(key, own, bits) <= MOST_GROUPS {
+            return bits;
+        }
+        bits += 3;
+    }
+    bits
+}
+
+// Puts in the first node of each group that owns sources, or the first that owns none.
+fn put_nodes(key: &[u64], own: &[usize], owning: bool, bits: u64, hints: &mut [u32; SLOTS])
     requires { ⌜ (length (now own) ≡ length (now key)) × (bits < 64) ⌝ }
 {
     let mut last = 0;
-    let mut node = 0;
+    let mut node = 1;
     while node < key.len() {
-        if 0 < own[node] {
+        if (own[node] != 0) == owning {
             let group = group_of(key[node], bits);
             if group != last {
                 put(hints, group, node);
                 last = group;
             }
         }
-        node += 1;
-    }
-}
-
-// Whether a cell is one level below cell k and in it.
-fn is_child(axes: usize, k: u64, cell: u64) -> bool
-    requires { ⌜ axes ≤ 3 ⌝ }
-{
-    if cell % 32768 != k % 32768 + 1 {
-        return false;
-    }
-    (cell / 32768) >> axes == k / 32768
-}
-
-// The number of the first node from `from` on that is no child of cell k.
-fn past_children(axes: usize, key: &[u64], k: u64, from: usize) -> usize
-    requires { ⌜ axes ≤ 3 ⌝ }
-{
-    let mut child = from;
-    while child < key.len() {
-        if !is_child(axes, k, key[child]) {
-            return child;
-        }
-        child += 1;
-    }
-    child
-}
-
-// Puts in the leaves that own nothing, where there is room. Children stand together, in the order of their parents.
-fn put_empty(axes: usize, key: &[u64], own: &[usize], hints: &mut [u32; SLOTS])
-    requires { ⌜ (axes ≤ 3) × (length (now own) ≡ length (now key)) ⌝ }
-{
-    let mut child = 1;
-    let mut node = 0;
-    while node < key.len() {
-        let k = key[node];
-        let past = past_children(axes, key, k, child);
-        if past == child {
-            if own[node] == 0 {
-                put(hints, k, node);
-            }
-        }
-        child = past;
         node += 1;
     }
 }
@@ -193,14 +184,8 @@ fn trial_of(key: &[u64], own: &[usize], bits: u64, reach: usize) -> Trial
 }
 
 // Fills the table for a look-up of so many points, and says how to try it; where that is not worth it, not at all.
-pub fn prepare(
-    axes: usize,
-    key: &[u64],
-    own: &[usize],
-    points: usize,
-    hints: &mut [u32; SLOTS],
-) -> Trial
-    requires { ⌜ (axes ≤ 3) × (length (now own) ≡ length (now key)) ⌝ }
+pub fn prepare(key: &[u64], own: &[usize], points: usize, hints: &mut [u32; SLOTS]) -> Trial
+    requires { ⌜ length (now own) ≡ length (now key) ⌝ }
 {
     if points < key.len() / NODES_A_POINT {
         return Trial {
@@ -210,45 +195,18 @@ pub fn prepare(
             reach: 0,
         };
     }
-    if key.len() <= NODES_ALONE {
-        put_owners(key, own, 0, hints);
-        put_empty(axes, key, own, hints);
-        return trial_of(key, own, 0, 0);
-    }
-    if key.len() <= NODES_BY_8 {
-        put_owners(key, own, 3, hints);
-        return trial_of(key, own, 3, 4);
-    }
-    put_owners(key, own, 6, hints);
-    trial_of(key, own, 6, 32)
+    let bits = bits_for(key, own);
+    put_nodes(key, own, true, bits, hints);
+    put_nodes(key, own, false, bits, hints);
+    let sharing: usize = 1 << bits;
+    trial_of(key, own, bits, sharing / 2)
 }
 
 // ---- the look-up
 
-// Whether a number is that of a leaf with key k. Where nodes own sources they are leaves; others are searched for children if a
-// hint is for one node alone. A shared one finds inner nodes too, and a search of each would cost more than the climb.
-fn is_leaf_with(axes: usize, key: &[u64], own: &[usize], node: usize, k: u64, alone: bool) -> bool
-    requires { ⌜ Owned axes (now key) (now own) ⌝ }
-    ensures { λ r. ⌜ (r ≡ true → LeafAt axes (now (key .entry)) k node) ⌝ }
-{
-    if key.len() <= node {
-        return false;
-    }
-    if key[node] != k {
-        return false;
-    }
-    if own[node] != 0 {
-        return true;
-    }
-    if !alone {
-        return false;
-    }
-    tree::is_leaf(axes, key, node)
-}
-
 // So many nodes on, if that node has no key above k.
 fn step(key: &[u64], node: usize, half: usize, k: u64) -> usize
-    requires { ⌜ (node < length (now key)) × (half < 64) ⌝ }
+    requires { ⌜ (node < length (now key)) × (half < 4096) ⌝ }
     ensures { λ r. ⌜ r < length (now (key .entry)) ⌝ }
 {
     let next = node + half;
@@ -264,9 +222,10 @@ fn step(key: &[u64], node: usize, half: usize, k: u64) -> usize
 // The last of the nodes from `first` on, in twice the reach, whose key is not above k, by halving.
 fn nearest(key: &[u64], first: usize, reach: usize, k: u64) -> usize
     requires { ⌜ first < length (now key) ⌝ }
+    ensures { λ r. ⌜ r < length (now (key .entry)) ⌝ }
 {
     let mut node = first;
-    let mut half = reach % 64;
+    let mut half = reach % 4096;
     while 0 < half {
         node = step(key, node, half, k);
         half = half / 2;
@@ -274,45 +233,89 @@ fn nearest(key: &[u64], first: usize, reach: usize, k: u64) -> usize
     node
 }
 
-// The number of the leaf with key k, if this hint leads to it.
-fn led_to(axes: usize, key: &[u64], own: &[usize], hint: u32, reach: usize, k: u64) -> Found
-    requires { ⌜ Owned axes (now key) (now own) ⌝ }
-    ensures { λ r. ⌜ ((node : ℕ) → r ≡ Found.At node → LeafAt axes (now (key .entry)) k node) ⌝ }
+// The number of the node with key k, if this hint leads to it.
+fn led_to(key: &[u64], hint: u32, reach: usize, k: u64) -> Found
+    ensures { λ r. ⌜ ((node : ℕ) → r ≡ Found.At node → NodeAt (now (key .entry)) k node) ⌝ }
 {
     let first = hint as usize;
     if key.len() <= first {
         return Found::Nothing;
     }
     let node = nearest(key, first, reach, k);
-    if is_leaf_with(axes, key, own, node, k, reach < 1) {
-        return Found::At(node);
+    if key[node] != k {
+        return Found::Nothing;
     }
-    Found::Nothing
+    Found::At(node)
 }
 
-// The number of the leaf with key k, if a hint leads to it. Behind a first slot that is free nothing was put.
-fn hinted(
-    axes: usize,
-    key: &[u64],
-    own: &[usize],
-    hints: &[u32; SLOTS],
-    bits: u64,
-    reach: usize,
-    k: u64,
-) -> Found
-    requires { ⌜ Owned axes (now key) (now own) × (bits < 64) ⌝ }
-    ensures { λ r. ⌜ ((node : ℕ) → r ≡ Found.At node → LeafAt axes (now (key .entry)) k node) ⌝ }
+// The number of the node with key k, if a hint leads to it. Behind a first slot that is free nothing was put.
+fn hinted(key: &[u64], hints: &[u32; SLOTS], bits: u64, reach: usize, k: u64) -> Found
+    requires { ⌜ bits < 64 ⌝ }
+    ensures { λ r. ⌜ ((node : ℕ) → r ≡ Found.At node → NodeAt (now (key .entry)) k node) ⌝ }
 {
     let group = group_of(k, bits);
     let hint = hints[slot_of(group)];
     if hint == FREE {
         return Found::Nothing;
     }
-    let first = led_to(axes, key, own, hint, reach, k);
+    let first = led_to(key, hint, reach, k);
     if let Found::At(node) = first {
         return Found::At(node);
     }
-    led_to(axes, key, own, hints[second_slot_of(group)], reach, k)
+    led_to(key, hints[second_slot_of(group)], reach, k)
+}
+
+// The number of the leaf that holds a level-16 code, if it owns sources and a hint leads to it.
+fn owner_of(
+    axes: usize,
+    key: &[u64],
+    own: &[usize],
+    hints: &[u32; SLOTS],
+    trial: Trial,
+    code: u64,
+) -> Found
+    requires { ⌜ Owned axes (now key) (now own) × (code < 281474976710656) ⌝ }
+    ensures { λ r. ⌜ ((node : ℕ) → r ≡ Found.At node → r ≡ climbFrom axes (now (key .entry)) (depthOf (now (key .entry))) code) ⌝ }
+{
+    let bits = trial.bits % 64;
+    let reach = trial.reach;
+    let mut order = trial.order;
+    let mut left = trial.count;
+    while 0 < left {
+        let level = order % 16 + 1;
+        let above = (axes as u64) * (16 - level);
+        let hint = hinted(key, hints, bits, reach, (code >> above) * 32768 + level);
+        if let Found::At(node) = hint {
+            if own[node] != 0 {
+                return Found::At(node);
+            }
+        }
+        order = order / 16;
+        left -= 1;
+    }
+    Found::Nothing
+}
+
+// The same, if it owns nothing: from the depth up, the first node that a hint leads to is that leaf as a rule.
+fn empty_of(axes: usize, key: &[u64], hints: &[u32; SLOTS], trial: Trial, code: u64) -> Found
+    requires { ⌜ Parented axes (now key) × (code < 281474976710656) ⌝ }
+    ensures { λ r. ⌜ ((node : ℕ) → r ≡ Found.At node → r ≡ climbFrom axes (now (key .entry)) (depthOf (now (key .entry))) code) ⌝ }
+{
+    let bits = trial.bits % 64;
+    let reach = trial.reach;
+    let mut level = tree::depth_of(key);
+    while 0 < level {
+        let above = (axes as u64) * (16 - level);
+        let hint = hinted(key, hints, bits, reach, (code >> above) * 32768 + level);
+        if let Found::At(node) = hint {
+            if tree::is_leaf(axes, key, node) {
+                return Found::At(node);
+            }
+            return Found::Nothing;
+        }
+        level -= 1;
+    }
+    Found::Nothing
 }
 
 // The number of the leaf that holds a level-16 code: by a hint, else by a climb.
@@ -327,20 +330,13 @@ pub fn leaf_of(
     requires { ⌜ Owned axes (now key) (now own) × (code < 281474976710656) ⌝ }
     ensures { λ r. ⌜ r ≡ climbFrom axes (now (key .entry)) (depthOf (now (key .entry))) code ⌝ }
 {
-    let bits = trial.bits % 64;
-    let reach = trial.reach;
-    let mut order = trial.order;
-    let mut left = trial.count;
-    while 0 < left {
-        let level = order % 16 + 1;
-        let above = (axes as u64) * (16 - level);
-        let k = (code >> above) * 32768 + level;
-        let hint = hinted(axes, key, own, hints, bits, reach, k);
-        if let Found::At(node) = hint {
-            return Found::At(node);
-        }
-        order = order / 16;
-        left -= 1;
+    let owner = owner_of(axes, key, own, hints, trial, code);
+    if let Found::At(node) = owner {
+        return Found::At(node);
+    }
+    let empty = empty_of(axes, key, hints, trial, code);
+    if let Found::At(node) = empty {
+        return Found::At(node);
     }
     climb::leaf_of(axes, key, tree::depth_of(key), code)
 }

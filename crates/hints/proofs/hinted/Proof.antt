@@ -1,5 +1,5 @@
 -- `hints::hinted` meets its contract.
-use Rattle.hints.proofs.Owners.{told, none-told}
+use Rattle.hints.proofs.Owners.{again-told, none-told}
 use borrow.Author.Needs.{needs}
 use Rattle.hints.proofs.hinted.Statement.{statement}
 use Rattle.hints.proofs.hinted.Tie as tie
@@ -23,7 +23,7 @@ element-copy-out-hint : tie.Need-element-copy-out-hint
 element-copy-out-hint c = search needs
 
 returns : tie.Need-returns
-returns c = none-told _ _ _
+returns c = λ node e. none-told node e
 
 led-to-requires : tie.Need-led-to-requires
 led-to-requires c κs = search needs
@@ -32,7 +32,7 @@ enum-known-first : tie.Need-enum-known-first
 enum-known-first c = search needs
 
 returns-2 : tie.Need-returns-2
-returns-2 c = told _ _ _ _ (c .before .before .before .led-to .ensures _ (c .before .first .given .1))
+returns-2 c = again-told _ _ _ (c .before .before .before .led-to .ensures _ (c .before .first .given .1))
 
 enum-told : tie.Need-enum-told
 enum-told c = search needs

@@ -1,78 +1,53 @@
 -- `hints::leaf_of` meets its contract.
-use mathlib.Core.Path.{ap, _∙_}
-use Prim.Native.Nat.{ℕ, _+_, _*_, _-_, _%_, _≤_}
+use mathlib.Core.Path.{sym, ap, _∙_}
+use Prim.Native.Nat.{ℕ}
 use native.Mathlib.Omega.{arith}
 use denote.Ref.{now}
-use Rattle.morton.proofs.Checks.{axes-facts}
 use Rattle.climb.specs.Leaves.{climbFrom}
-use Rattle.climb.proofs.Climbing.{above-few, above-small}
-use Rattle.hints.proofs.Owners.{depth-few, leaf-climbed}
+use Rattle.hints.proofs.Owners.{depth-few}
 use borrow.Author.Needs.{needs}
 use Rattle.hints.proofs.leaf_of.Statement.{statement}
 use Rattle.hints.proofs.leaf_of.Tie as tie
 use Rattle.hints.proofs.leaf_of.Reads as reads
 use Rattle.hints.proofs.leaf_of.Lts as lts
 use Rattle.climb.proofs.leaf_of.Reads as leaf-of-reads
-use Rattle.hints.proofs.hinted.Reads as hinted-reads
+use Rattle.hints.proofs.empty_of.Reads as empty-of-reads
+use Rattle.hints.proofs.owner_of.Reads as owner-of-reads
 use Rattle.tree.proofs.depth_of.Reads as depth-of-reads
 
-abbrev Inv-loop : tie.InvT-loop
-Inv-loop axes key own hints code bits reach order₀ left₀ order left = 0 ≤ 0
+owner-of-requires : tie.Need-owner-of-requires
+owner-of-requires c κs = search needs
 
-abbrev μ-loop : tie.MeasureT-loop
-μ-loop axes key own hints code bits reach order₀ left₀ order left = left
+enum-known-owner : tie.Need-enum-known-owner
+enum-known-owner c = search needs
 
-loop-holds : tie.Need-loop-holds Inv-loop μ-loop
-loop-holds c = search needs
+returns : tie.Need-returns
+returns c = sym (c .before .owner .given .1) ∙ c .before .before .before .owner-of .ensures _ (c .before .owner .given .1)
 
-add-level : tie.Need-add-level Inv-loop μ-loop
-add-level c = search needs
-
-sub-above : tie.Need-sub-above Inv-loop μ-loop
-sub-above c = search needs
-
-mul-above : tie.Need-mul-above Inv-loop μ-loop
-mul-above c = omega (arith, above-few (c .before .before .before .before .before .args .axes) (c .before .loop .order % 16 + 1) (axes-facts (c .before .before .before .before .before .args .axes) (c .before .before .before .before .before .pre .0 .axes) .1))
-
-shr-k : tie.Need-shr-k Inv-loop μ-loop
-shr-k c = omega (arith, above-few (c .before .before .before .before .before .args .axes) (c .before .loop .order % 16 + 1) (axes-facts (c .before .before .before .before .before .args .axes) (c .before .before .before .before .before .pre .0 .axes) .1))
-
-mul-k : tie.Need-mul-k Inv-loop μ-loop
-mul-k c = omega (arith, above-small (c .before .before .before .before .before .args .code) (c .before .before .before .before .before .args .axes * (16 - (c .before .loop .order % 16 + 1))) (c .before .before .before .before .before .pre .1))
-
-add-k : tie.Need-add-k Inv-loop μ-loop
-add-k c = omega (arith, above-small (c .before .before .before .before .before .args .code) (c .before .before .before .before .before .args .axes * (16 - (c .before .loop .order % 16 + 1))) (c .before .before .before .before .before .pre .1))
-
-hinted-requires : tie.Need-hinted-requires Inv-loop μ-loop
-hinted-requires c κs = search needs
-
-enum-known-hint : tie.Need-enum-known-hint Inv-loop μ-loop
-enum-known-hint c = search needs
-
-returns : tie.Need-returns Inv-loop μ-loop
-returns c = let a = c .before .before .before .before .before .before .before .before .before .args in leaf-climbed (a .axes) (now (a .key)) (now (a .own)) (c .before .before .before .before .before .before .before .before .before .pre .0) (a .code) (c .before .before .before .before .before .loop .order % 16 + 1) (omega arith) (omega arith) _ (c .before .before .before .hinted .ensures _ (c .before .hint .given .1))
-
-enum-told : tie.Need-enum-told Inv-loop μ-loop
+enum-told : tie.Need-enum-told
 enum-told c = search needs
 
-sub-left : tie.Need-sub-left Inv-loop μ-loop
-sub-left c = search needs
+empty-of-requires : tie.Need-empty-of-requires
+empty-of-requires c κs = search needs
 
-loop-less : tie.Need-loop-less Inv-loop μ-loop
-loop-less c = search needs
+enum-known-empty : tie.Need-enum-known-empty
+enum-known-empty c = search needs
 
-loop-again : tie.Need-loop-again Inv-loop μ-loop
-loop-again c = search needs
+returns-2 : tie.Need-returns-2
+returns-2 c = sym (c .before .empty .given .1) ∙ c .before .before .before .empty-of .ensures _ (c .before .empty .given .1)
 
-depth-of-requires : tie.Need-depth-of-requires Inv-loop μ-loop
+enum-told-2 : tie.Need-enum-told-2
+enum-told-2 c = search needs
+
+depth-of-requires : tie.Need-depth-of-requires
 depth-of-requires c κs = search needs
 
-leaf-of-requires : tie.Need-leaf-of-requires Inv-loop μ-loop
-leaf-of-requires c κs = let a = c .before .before .before .before .before .before .args in let o = c .before .before .before .before .before .before .pre .0 in (o .axes, o .ascends, omega (arith, c .depth-of .ensures, depth-few (a .axes) (now (a .key)) (now (a .own)) o), c .before .before .before .before .before .before .pre .1)
+leaf-of-requires : tie.Need-leaf-of-requires
+leaf-of-requires c κs = let a = c .before .before .before .before .before .before .before .before .before .args in let o = c .before .before .before .before .before .before .before .before .before .pre .0 .tree in (o .axes, o .ascends, omega (arith, c .depth-of .ensures, depth-few (a .axes) (now (a .key)) o), c .before .before .before .before .before .before .before .before .before .pre .1)
 
-returns-2 : tie.Need-returns-2 Inv-loop μ-loop
-returns-2 c = let a = c .before .before .before .before .before .before .before .args in c .leaf-of .ensures ∙ ap (λ (top : ℕ). climbFrom (a .axes) (now (a .key)) top (a .code)) (c .before .depth-of .ensures)
+returns-3 : tie.Need-returns-3
+returns-3 c = let a = c .before .before .before .before .before .before .before .before .before .before .args in c .leaf-of .ensures ∙ ap (λ (top : ℕ). climbFrom (a .axes) (now (a .key)) top (a .code)) (c .before .depth-of .ensures)
 
 pub leaf-of-spec : {M : Type 1} → statement M
 leaf-of-spec =
-    tie.close (tie.spec Inv-loop μ-loop loop-holds add-level sub-above mul-above shr-k mul-k add-k hinted-requires enum-known-hint returns enum-told sub-left loop-less loop-again depth-of-requires leaf-of-requires returns-2)
+    tie.close (tie.spec owner-of-requires enum-known-owner returns enum-told empty-of-requires enum-known-empty returns-2 enum-told-2 depth-of-requires leaf-of-requires returns-3)

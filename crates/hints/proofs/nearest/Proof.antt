@@ -9,7 +9,7 @@ use Rattle.hints.proofs.nearest.Lts as lts
 use Rattle.hints.proofs.step.Reads as step-reads
 
 abbrev Inv-loop : tie.InvT-loop
-Inv-loop key first reach k node₀ half₀ node half = (node < length key) × (half < 64)
+Inv-loop key first reach k node₀ half₀ node half = (node < length key) × (half < 4096)
 
 abbrev μ-loop : tie.MeasureT-loop
 μ-loop key first reach k node₀ half₀ node half = half

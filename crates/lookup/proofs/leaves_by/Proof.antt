@@ -45,7 +45,7 @@ slice-write-codes : tie.Need-slice-write-codes Inv-loop μ-loop
 slice-write-codes c = let a = c .before .before .before .before .before .before .before .before .before .before .before .args in look-room (a .axes) (now (a .key)) (a .n) (now (a .codes)) (c .before .before .before .before .before .before .before .before .before .before .before .pre .1) (c .before .before .before .before .before .before .loop .row) (c .before .before .before .before .before .before .loop .steps) (c .before .before .before .before .before .before .loop .codes) (c .before .before .before .before .before .before .loop .inv) (c .before .before .before .before .before .loop-test .taken)
 
 add-steps : tie.Need-add-steps Inv-loop μ-loop
-add-steps c = let a = c .before .before .before .before .before .before .before .before .before .before .before .args in let deep = depth-le (a .axes) (now (a .key)) (c .before .before .before .before .before .before .before .before .before .before .before .pre .0 .ascends) in let f = climb-leaf (a .axes) (now (a .key)) (getD (c .before .before .before .before .before .before .loop .codes) (c .before .before .before .before .before .before .loop .row) 0) _ _ (sym (c .before .before .before .climb-by .ensures ∙ ap (λ t. climbTo (a .axes) (now (a .key)) t (getD (c .before .before .before .before .before .before .loop .codes) (c .before .before .before .before .before .before .loop .row) 0)) (c .before .before .before .before .before .before .before .depth-of .ensures)) ∙ c .before .climb .given .1) in omega (arith, look-few (a .axes) (now (a .key)) (a .n) (now (a .codes)) (c .before .before .before .before .before .before .before .before .before .before .before .pre .1) (c .before .before .before .before .before .before .loop .row) (c .before .before .before .before .before .before .loop .steps) (c .before .before .before .before .before .before .loop .codes) (c .before .before .before .before .before .before .loop .inv) (c .before .before .before .before .before .loop-test .taken) _ deep (f .2), c .before .before .before .before .before .before .before .before .before .before .before .pre .2, c .before .before .before .before .before .loop-test .taken)
+add-steps c = let a = c .before .before .before .before .before .before .before .before .before .before .before .args in let deep = depth-le (a .axes) (now (a .key)) (c .before .before .before .before .before .before .before .before .before .before .before .pre .0 .tree .ascends) in let f = climb-leaf (a .axes) (now (a .key)) (getD (c .before .before .before .before .before .before .loop .codes) (c .before .before .before .before .before .before .loop .row) 0) _ _ (sym (c .before .before .before .climb-by .ensures ∙ ap (λ t. climbTo (a .axes) (now (a .key)) t (getD (c .before .before .before .before .before .before .loop .codes) (c .before .before .before .before .before .before .loop .row) 0)) (c .before .before .before .before .before .before .before .depth-of .ensures)) ∙ c .before .climb .given .1) in omega (arith, look-few (a .axes) (now (a .key)) (a .n) (now (a .codes)) (c .before .before .before .before .before .before .before .before .before .before .before .pre .1) (c .before .before .before .before .before .before .loop .row) (c .before .before .before .before .before .before .loop .steps) (c .before .before .before .before .before .before .loop .codes) (c .before .before .before .before .before .before .loop .inv) (c .before .before .before .before .before .loop-test .taken) _ deep (f .2), c .before .before .before .before .before .before .before .before .before .before .before .pre .2, c .before .before .before .before .before .loop-test .taken)
 
 enum-told : tie.Need-enum-told Inv-loop μ-loop
 enum-told c = search needs
@@ -63,7 +63,7 @@ loop-less : tie.Need-loop-less Inv-loop μ-loop
 loop-less c = search needs
 
 loop-again : tie.Need-loop-again Inv-loop μ-loop
-loop-again c = let a = c .before .before .before .before .before .before .before .before .before .before .before .args in let deep = depth-le (a .axes) (now (a .key)) (c .before .before .before .before .before .before .before .before .before .before .before .pre .0 .ascends) in let f = climb-leaf (a .axes) (now (a .key)) (getD (c .before .before .before .before .before .before .loop .codes) (c .before .before .before .before .before .before .loop .row) 0) _ _ (sym (c .before .before .before .climb-by .ensures ∙ ap (λ t. climbTo (a .axes) (now (a .key)) t (getD (c .before .before .before .before .before .before .loop .codes) (c .before .before .before .before .before .before .loop .row) 0)) (c .before .before .before .before .before .before .before .depth-of .ensures)) ∙ c .before .climb .given .1) in look-more (a .axes) (now (a .key)) (a .n) (now (a .codes)) (c .before .before .before .before .before .before .before .before .before .before .before .pre .1) (c .before .before .before .before .before .before .loop .row) (c .before .before .before .before .before .before .loop .steps) (c .before .before .before .before .before .before .loop .codes) (c .before .before .before .before .before .before .loop .inv) (c .before .before .before .before .before .loop-test .taken) _ deep _ (f .0) (f .1) (f .2)
+loop-again c = let a = c .before .before .before .before .before .before .before .before .before .before .before .args in let deep = depth-le (a .axes) (now (a .key)) (c .before .before .before .before .before .before .before .before .before .before .before .pre .0 .tree .ascends) in let f = climb-leaf (a .axes) (now (a .key)) (getD (c .before .before .before .before .before .before .loop .codes) (c .before .before .before .before .before .before .loop .row) 0) _ _ (sym (c .before .before .before .climb-by .ensures ∙ ap (λ t. climbTo (a .axes) (now (a .key)) t (getD (c .before .before .before .before .before .before .loop .codes) (c .before .before .before .before .before .before .loop .row) 0)) (c .before .before .before .before .before .before .before .depth-of .ensures)) ∙ c .before .climb .given .1) in look-more (a .axes) (now (a .key)) (a .n) (now (a .codes)) (c .before .before .before .before .before .before .before .before .before .before .before .pre .1) (c .before .before .before .before .before .before .loop .row) (c .before .before .before .before .before .before .loop .steps) (c .before .before .before .before .before .before .loop .codes) (c .before .before .before .before .before .before .loop .inv) (c .before .before .before .before .before .loop-test .taken) _ deep _ (f .0) (f .1) (f .2)
 
 same-length-2 : tie.Need-same-length-2 Inv-loop μ-loop
 same-length-2 c = c .before .loop .inv .kept

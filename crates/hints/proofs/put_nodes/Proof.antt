@@ -1,19 +1,19 @@
--- `hints::put_owners` meets its contract.
+-- `hints::put_nodes` meets its contract.
 use Prim.Native.Nat.{_≤_, _-_}
 use lib.ListN.{length}
 use borrow.Author.Needs.{needs}
-use Rattle.hints.proofs.put_owners.Statement.{statement}
-use Rattle.hints.proofs.put_owners.Tie as tie
-use Rattle.hints.proofs.put_owners.Reads as reads
-use Rattle.hints.proofs.put_owners.Lts as lts
+use Rattle.hints.proofs.put_nodes.Statement.{statement}
+use Rattle.hints.proofs.put_nodes.Tie as tie
+use Rattle.hints.proofs.put_nodes.Reads as reads
+use Rattle.hints.proofs.put_nodes.Lts as lts
 use Rattle.hints.proofs.group_of.Reads as group-of-reads
 use Rattle.hints.proofs.put.Reads as put-reads
 
 abbrev Inv-loop : tie.InvT-loop
-Inv-loop key own bits hints₀ last₀ node₀ hints last node = 0 ≤ 0
+Inv-loop key own owning bits hints₀ last₀ node₀ hints last node = 0 ≤ 0
 
 abbrev μ-loop : tie.MeasureT-loop
-μ-loop key own bits hints₀ last₀ node₀ hints last node = length key - node
+μ-loop key own owning bits hints₀ last₀ node₀ hints last node = length key - node
 
 loop-holds : tie.Need-loop-holds Inv-loop μ-loop
 loop-holds c = search needs
@@ -48,6 +48,6 @@ loop-again c = search needs
 returns : tie.Need-returns Inv-loop μ-loop
 returns c = search needs
 
-pub put-owners-spec : {M : Type 1} → statement M
-put-owners-spec =
+pub put-nodes-spec : {M : Type 1} → statement M
+put-nodes-spec =
     tie.close (tie.spec Inv-loop μ-loop loop-holds mul-if1 shared-slice-read-if1 mul-group-of shared-slice-read-group-of group-of-requires put-requires add-node loop-less loop-again returns)
