@@ -7,7 +7,7 @@ use Rattle.refusal.specs.declared.Outcome.{Outcome}
 use Rattle.refusal.specs.declared.Outcome.the-variants.{Done, Refused}
 use Rattle.space.specs.declared.Box.{Box}
 use Rattle.lookup.specs.declared.LookedUp.{LookedUp}
-use Rattle.lookup.specs.Grouping.{written}
+use Rattle.grouping.specs.Batches.{written}
 use Rattle.lookup.specs.Batch.{leafKeys, stepsSum, codesInside, lookupOutcome, foundOr}
 use Rattle.exports_trees.specs.Told.{lookedEnd, stepsIn}
 

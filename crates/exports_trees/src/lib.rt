@@ -12,7 +12,8 @@ ghost use Rattle.tree.specs.Nodes.{depthOf};
 ghost use Rattle.tree.specs.WellFormed.{wellFormed};
 ghost use Rattle.tree.specs.Sources.{leafSources};
 ghost use Rattle.grouping.specs.Groups.{grouped};
-ghost use Rattle.lookup.specs.Grouping.{groupStarts, groupOutcome, written};
+ghost use Rattle.grouping.specs.Batches.{written};
+ghost use Rattle.leaf_points.specs.Grouping.{groupStarts, groupOutcome};
 ghost use Rattle.lookup.specs.Batch.{leafKeys, stepsSum, codesInside, lookupOutcome, foundOr};
 ghost use Rattle.lookup.specs.Single.{pointToLeaf};
 ghost use Rattle.sourced.specs.Answers.{cellsAnswer, cellsLeft};
@@ -140,7 +141,15 @@ pub extern "C" fn lohandema_get_points_to_leaves_map(
     ensures starts { λ _. ⌜ now (starts .exit) ≡ written (groupOutcome axes (now (key .entry)) (now (own .entry)) (now (begin .entry)) (now (points .entry)) (length (now (starts .entry))) (length (now (indices .entry)))) (length (now (starts .entry))) (groupStarts (now (points .entry)) (now (key .entry))) ⌝ }
     ensures indices { λ _. ⌜ now (indices .exit) ≡ written (groupOutcome axes (now (key .entry)) (now (own .entry)) (now (begin .entry)) (now (points .entry)) (length (now (starts .entry))) (length (now (indices .entry)))) (length (now (indices .entry))) (grouped (now (points .entry)) (now (key .entry))) ⌝ }
 {
-    let outcome = lookup::get_points_to_leaves_map(axes, key, own, begin, points, starts, indices);
+    let outcome = leaf_points::get_points_to_leaves_map(
+        axes,
+        key,
+        own,
+        begin,
+        points,
+        starts,
+        indices,
+    );
     exports_keys::end_of(outcome)
 }
 

@@ -3,3 +3,4 @@ pub mod Blocks
 pub mod Arranged
 pub mod Counting
 pub mod Placing
+pub mod Passing

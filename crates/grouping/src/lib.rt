@@ -1,1 +1,1 @@
-// Points grouped by node: definitions and laws alone.
+// Points grouped by node, and what the calls on a batch share: definitions and laws alone.

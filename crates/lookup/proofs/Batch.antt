@@ -16,11 +16,11 @@ use Rattle.tree.proofs.Rules.{ascend-facts}
 use Rattle.lookup.specs.declared.Climb.the-variants.{Leaf, Unstored}
 use Rattle.lookup.specs.declared.Climbs.the-variants.{Ended, Failed}
 use Rattle.grouping.proofs.Values.{up-more, up-next}
+use Rattle.grouping.proofs.Passing.{Passed, pass-start, pass-more, pass-stop, pass-done}
 use Rattle.climb.specs.Leaves.{held, leafKey, stepsTo}
 use Rattle.climb.proofs.Answers.{depth-most}
 use Rattle.lookup.specs.Lookup.{leafOr, climbTo}
 use Rattle.lookup.specs.Batch.{heldBefore, leafKeys, stepsSum, endedOr, climbsOf}
-use Rattle.lookup.proofs.Verdict.{Passed, pass-start, pass-more, pass-stop, pass-done}
 
 -- ---- one climb
 pub depth-le : (d : ℕ) (keys : List ℕ) → keysAscend d keys ≡ true → depthOf keys ≤ 16

@@ -36,7 +36,7 @@ use Rattle.lookup.specs.declared.Climbs.{Climbs}
 use Rattle.lookup.specs.declared.Climbs.the-variants.{Ended, Failed}
 use Rattle.lookup.specs.declared.LookedUp.{LookedUp}
 use Rattle.lookup.specs.declared.LookedUp.the-variants.{Found, Refused as NotFound}
-use Rattle.lookup.specs.Grouping.{mostPoints, written}
+use Rattle.grouping.specs.Batches.{mostPoints, written}
 use Rattle.climb.specs.Leaves.{leafKey}
 use Rattle.lookup.specs.Batch.{heldBefore, leafKeys, stepsSum, endedOr, climbsOf, insideOf, rowsOf, rowsInside, codesInside, callOutcome, pointsOutcome, lookupOutcome, foundOr}
 

@@ -1,6 +1,5 @@
 -- A climb's end, as the leaf's key and the steps.
 use mathlib.Core.Path.{_≡_, refl, sym, ap, ap₂, _∙_}
-use mathlib.Core.Bool.{true, false}
 use mathlib.Core.List.{List}
 use Prim.Native.Nat.{ℕ, _-_, _≤_}
 use native.Mathlib.Omega.{arith}
@@ -8,21 +7,14 @@ use lib.Dec.{ltb}
 use lib.ListN.{getD}
 use borrow.Author.Tests.{lt-ltb}
 use Rattle.morton.specs.Keys.{levelOf}
-use Rattle.tree.specs.Nodes.{leaf, placeOf}
+use Rattle.tree.specs.Nodes.{placeOf}
 use Rattle.tree.specs.declared.Found.{Found}
 use Rattle.tree.specs.declared.Found.the-variants.{At, Nothing}
-use Rattle.climb.specs.Leaves.{cellOf, climbed, leafWith, climbFrom}
-use Rattle.climb.proofs.Climbing.{found-if, nothing-if}
+use Rattle.climb.specs.Leaves.{cellOf, climbed, climbFrom}
+use Rattle.climb.proofs.Climbing.{nothing-if}
 use Rattle.climb.proofs.Answers.{Ended, climb-end}
 use Rattle.lookup.specs.Lookup.{leafOr, climbTo, climbAt, Reached}
 use Rattle.lookup.specs.declared.Climb.the-variants.{Leaf, Unstored}
-
-module _ (d : ℕ) (keys : List ℕ) (k : ℕ) (r : Found) (q : r ≡ leafWith d keys k) where
-  pub is-leaf : (node : ℕ) → r ≡ At node → true ≡ leaf d keys k
-  is-leaf node e = sym (found-if (leaf d keys k) (placeOf keys k) node (sym q ∙ e) .0)
-
-  pub no-leaf : r ≡ Nothing → false ≡ leaf d keys k
-  no-leaf e = sym (nothing-if (leaf d keys k) (placeOf keys k) (sym q ∙ e))
 
 module _ (d : ℕ) (keys : List ℕ) (top code : ℕ) (m : top ≤ 16) (r : Found) (q : r ≡ climbFrom d keys top code) where
   ended : (node : ℕ) → r ≡ At node → Ended d keys top code node

@@ -1,5 +1,3 @@
-pub mod Verdict
-pub mod Starts
 pub mod Climbing
 pub mod Batch
 pub mod Calls

@@ -1,11 +1,11 @@
 -- In a batch the index of 7 or 12 is the lowest failing one.
 use mathlib.Core.Path.{_≡_, refl, sym, ap, ap₂, subst, _∙_}
-use mathlib.Core.Bool.{Bool, true, false, cond}
-use mathlib.Core.List.{List, [], _∷_}
+use mathlib.Core.Bool.{Bool, true, false}
+use mathlib.Core.List.{List}
 use mathlib.Core.Logic.{_⊎_, inl, inr}
-use Prim.Native.Nat.{ℕ, zero, suc, _*_, _-_, _≤_, _<_}
+use Prim.Native.Nat.{ℕ, _*_, _-_, _≤_, _<_}
 use native.Mathlib.Omega.{arith}
-use native.Mathlib.Nat.{not-suc-le-zero, le-of-suc-le-suc, eq-or-lt-of-le}
+use native.Mathlib.Nat.{eq-or-lt-of-le}
 use lib.Dec.{eqb}
 use lib.Ieee.{Float}
 use lib.ListN.{length, getD, drop}
@@ -17,39 +17,8 @@ use Rattle.space.specs.declared.Box.{Box}
 use Rattle.space.specs.Cells.{frameOf, inside, code16}
 use Rattle.space.proofs.Batches.{codes-length, rows-le, code-at-row, row-inside, row-outside}
 use Rattle.climb.specs.Leaves.{held}
-use Rattle.lookup.specs.Grouping.{passing}
+use Rattle.grouping.proofs.Passing.{passing-le, passing-before, passing-stop}
 use Rattle.lookup.specs.Batch.{heldBefore, rowsOf, rowsInside, codesInside, pointsOutcome}
-
--- those before the first that fails a test pass it, and that one fails
-module _ (p : ℕ → Bool) where
-  passing-le : (xs : List ℕ) → passing p xs ≤ length xs
-  unfolding passing
-  passing-le [] = omega arith
-  passing-le (x ∷ xs) = go (p x) (passing-le xs)
-    where
-      go : (t : Bool) → passing p xs ≤ length xs → cond t (suc (passing p xs)) 0 ≤ suc (length xs)
-      go true h = omega arith
-      go false h = omega arith
-
-  passing-before : (xs : List ℕ) (i : ℕ) → i < passing p xs → p (getD xs i 0) ≡ true
-  unfolding passing
-  passing-before [] i h = absurd (not-suc-le-zero h)
-  passing-before (x ∷ xs) i h = go (p x) refl i h (passing-before xs)
-    where
-      go : (t : Bool) → p x ≡ t → (i : ℕ) → i < cond t (suc (passing p xs)) 0 → ((i : ℕ) → i < passing p xs → p (getD xs i 0) ≡ true) → p (getD (x ∷ xs) i 0) ≡ true
-      go true e zero h rest = e
-      go true e (suc i) h rest = rest i (le-of-suc-le-suc h)
-      go false e i h rest = absurd (not-suc-le-zero h)
-
-  passing-stop : (xs : List ℕ) → passing p xs < length xs → p (getD xs (passing p xs) 0) ≡ false
-  unfolding passing
-  passing-stop [] h = absurd (not-suc-le-zero h)
-  passing-stop (x ∷ xs) h = go (p x) refl h (passing-stop xs)
-    where
-      go : (t : Bool) → p x ≡ t → cond t (suc (passing p xs)) 0 < suc (length xs) → (passing p xs < length xs → p (getD xs (passing p xs) 0) ≡ false)
-          → p (getD (x ∷ xs) (cond t (suc (passing p xs)) 0) 0) ≡ false
-      go true e h rest = rest (le-of-suc-le-suc h)
-      go false e h rest = e
 
 lt-of : (m n : ℕ) → m ≤ n → (m ≡ n → ⊥) → m < n
 lt-of m n h e = go (eq-or-lt-of-le h)

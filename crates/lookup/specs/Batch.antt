@@ -18,12 +18,12 @@ use Rattle.space.specs.Domain.{boxOutcome}
 use Rattle.space.specs.Cells.{frameOf}
 use Rattle.space.specs.Rows.{insideRows, codes16}
 use Rattle.tree.specs.WellFormed.{wellFormed}
+use Rattle.grouping.specs.Batches.{mostPoints, passing}
 use Rattle.climb.specs.Leaves.{held, leafKey, stepsTo}
 use Rattle.lookup.specs.declared.Climbs.{Climbs}
 use Rattle.lookup.specs.declared.Climbs.the-variants.{Ended, Failed}
 use Rattle.lookup.specs.declared.LookedUp.{LookedUp}
 use Rattle.lookup.specs.declared.LookedUp.the-variants.{Found, Refused as NotFound}
-use Rattle.lookup.specs.Grouping.{mostPoints, passing}
 
 -- how many of the codes stand before the first that no leaf holds
 abbrev pub heldBefore : ℕ → List ℕ → List ℕ → ℕ

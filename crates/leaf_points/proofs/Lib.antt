@@ -1,0 +1,3 @@
+pub mod OneKey
+pub mod Verdict
+pub mod Starts
