@@ -1,0 +1,198 @@
+//! The crate as a caller sees it: document 01's example from points to lists, refusals with number and value, what a refusal
+//! leaves in a lent slice, and, on scattered points in 1 to 3 axes, that each leaf meets each source exactly once.
+
+use lohandema::lent::{self, Asked, Columns};
+use lohandema::points::Bounds;
+use lohandema::trees::{Lists, Tree};
+use lohandema::{Refusal, keys};
+use std::collections::{HashMap, HashSet};
+
+fn asked<'a>(bounds: &'a Bounds, sources: &'a [f64], limit: usize) -> Asked<'a> {
+    Asked {
+        bounds,
+        sources,
+        targets: &[],
+        limit,
+        order: 1,
+        keep_empty: false,
+        refine: false,
+    }
+}
+
+fn example() -> (Bounds, Tree) {
+    let bounds = Bounds::new(&[4.0], 4.0);
+    let tree = Tree::build(asked(&bounds, &[0.5, 1.5, 6.5, 7.5], 1)).unwrap();
+    (bounds, tree)
+}
+
+/// Points that are scattered by a fixed rule, more of them near one place.
+fn scattered(axes: usize, count: usize) -> Vec<f64> {
+    let mut x: u64 = 88_172_645_463_325_252;
+    let mut unit = || {
+        x ^= x << 13;
+        x ^= x >> 7;
+        x ^= x << 17;
+        (x >> 11) as f64 / (1u64 << 53) as f64
+    };
+    let mut points = vec![];
+    for i in 0..count {
+        for _ in 0..axes {
+            let wide = 64.0 * unit();
+            points.push(if i % 2 == 0 { wide } else { 20.0 + wide / 50.0 });
+        }
+    }
+    points
+}
+
+#[test]
+fn the_example_of_document_01() {
+    let (bounds, tree) = example();
+    assert_eq!(tree.key, [0, 1, 32769, 2, 98306, 3, 32771, 196611, 229379]);
+    assert_eq!(tree.own, [0, 0, 0, 0, 0, 1, 1, 1, 1]);
+    assert_eq!(tree.begin, [0, 0, 0, 0, 0, 0, 1, 2, 3]);
+    assert_eq!(tree.order, [0, 1, 2, 3]);
+    assert_eq!(tree.depth(), 3);
+    assert!(tree.is_well_formed());
+    assert_eq!(tree.leaf_sources(6), [1]);
+    assert_eq!(tree.point_to_leaf(&bounds, &[6.9]), Ok((196611, 0)));
+    let (leaves, steps) = tree.points_to_keys(&bounds, &[7.9, 0.0]).unwrap();
+    assert_eq!((leaves, steps), (vec![229379, 3], 0));
+    let groups = tree.get_points_to_leaves_map(&[229379, 3, 229379]).unwrap();
+    assert_eq!(groups.starts, [0, 0, 0, 0, 0, 0, 1, 1, 1, 3]);
+    assert_eq!(groups.indices, [1, 0, 2]);
+    assert_eq!(tree.get_sourced_cells().unwrap().len(), 9);
+    assert_eq!(tree.get_near_work(), Ok(8));
+    let lists = tree.get_interaction_lists().unwrap();
+    assert_eq!(lists.u.row(5), [3, 32771]);
+    assert_eq!(lists.u.row(3), []);
+    assert_eq!(lists.v.row(3), [98306]);
+}
+
+#[test]
+fn a_refusal_is_an_error_with_number_and_value() {
+    let refusal = Bounds::new(&[0.0], -1.0).check().unwrap_err();
+    assert_eq!((refusal.number, refusal.value), (2, 0));
+    let error: Box<dyn std::error::Error + Send + Sync> = Box::new(refusal);
+    assert_eq!(error.to_string(), "refused 2 BOX");
+
+    let (bounds, tree) = example();
+    let outside = asked(&bounds, &[0.5, f64::NAN, 9.0], 1);
+    assert_eq!(
+        Tree::build(outside).unwrap_err(),
+        Refusal {
+            number: 6,
+            value: 1
+        }
+    );
+    let lookup = tree.points_to_keys(&bounds, &[0.5, 3.0, 8.5]).unwrap_err();
+    assert_eq!(lookup.to_string(), "refused 12 UNSTORED 1");
+    let group = tree.get_points_to_leaves_map(&[3, 1]).unwrap_err();
+    assert_eq!(
+        group,
+        Refusal {
+            number: 14,
+            value: 1
+        }
+    );
+    assert_eq!(keys::get_level(4, 0).unwrap_err().number, 1);
+    assert_eq!(keys::get_parent(3, 17).unwrap_err().number, 9);
+}
+
+#[test]
+fn a_refusal_leaves_zeros() {
+    let (bounds, tree) = example();
+    let mut output = [7; 4];
+    let looked = lent::points_to_keys(&bounds, tree.columns(), &[0.5, -1.0], &mut output);
+    assert_eq!((looked.unwrap_err().number, output), (7, [0; 4]));
+
+    let nodes = tree.key.len();
+    let (mut u_starts, mut v_starts) = (vec![7; nodes + 1], vec![7; nodes + 1]);
+    let (mut u_keys, mut v_keys) = (vec![7; 1], vec![7; 99]);
+    let lists = lent::get_interaction_lists(
+        1,
+        tree.columns(),
+        &mut u_starts,
+        &mut u_keys,
+        &mut v_starts,
+        &mut v_keys,
+    );
+    assert_eq!(
+        lists.unwrap_err(),
+        Refusal {
+            number: 8,
+            value: 6
+        }
+    );
+    assert!(u_starts.iter().chain(&v_starts).all(|start| *start == 0));
+    assert!(u_keys.iter().chain(&v_keys).all(|key| *key == 0));
+}
+
+#[test]
+fn columns_that_lie_are_refused() {
+    let (_, tree) = example();
+    let mut own = tree.own.clone();
+    own[1] = 1;
+    let lying = Columns {
+        key: &tree.key,
+        own: &own,
+        begin: &tree.begin,
+    };
+    let mut cells = [7; 9];
+    let answer = lent::get_sourced_cells(1, lying, &mut cells);
+    assert_eq!((answer.unwrap_err().number, cells), (13, [0; 9]));
+}
+
+/// The sources at or under each cell, by its key.
+fn sources_below(tree: &Tree) -> HashMap<u64, Vec<usize>> {
+    let mut below: HashMap<u64, Vec<usize>> = HashMap::new();
+    for node in 0..tree.key.len() {
+        let mut key = tree.key[node];
+        let sources = tree.leaf_sources(node);
+        below.entry(key).or_default().extend(sources);
+        while let Ok(parent) = keys::get_parent(tree.axes, key) {
+            below.entry(parent).or_default().extend(sources);
+            key = parent;
+        }
+    }
+    below
+}
+
+/// The sources that a leaf meets: those of its U row, and those of the V rows of itself and its ancestors.
+fn met(tree: &Tree, lists: &Lists, below: &HashMap<u64, Vec<usize>>, leaf: usize) -> Vec<usize> {
+    let number: HashMap<u64, usize> = tree.key.iter().enumerate().map(|(i, k)| (*k, i)).collect();
+    let mut cells = lists.u.row(leaf).to_vec();
+    let mut node = leaf;
+    loop {
+        cells.extend(lists.v.row(node));
+        match keys::get_parent(tree.axes, tree.key[node]) {
+            Ok(parent) => node = number[&parent],
+            Err(_) => break,
+        }
+    }
+    cells.iter().flat_map(|cell| below[cell].clone()).collect()
+}
+
+#[test]
+fn each_leaf_meets_each_source_once() {
+    for axes in 1..=3 {
+        let bounds = Bounds::new(&[32.0; 3][..axes], 32.0);
+        let points = scattered(axes, 400);
+        let tree = Tree::build(asked(&bounds, &points, 3)).unwrap();
+        let lists = tree.get_interaction_lists().unwrap();
+        let below = sources_below(&tree);
+        let inner: HashSet<u64> = tree
+            .key
+            .iter()
+            .filter_map(|key| keys::get_parent(axes, *key).ok())
+            .collect();
+        for leaf in (0..tree.key.len()).filter(|i| !inner.contains(&tree.key[*i])) {
+            let mut sources = met(&tree, &lists, &below, leaf);
+            sources.sort_unstable();
+            assert_eq!(
+                sources,
+                (0..400).collect::<Vec<_>>(),
+                "axes {axes}, leaf {leaf}"
+            );
+        }
+    }
+}
