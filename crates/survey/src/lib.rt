@@ -29,7 +29,7 @@ fn byte_at(file: &[u8], at: usize) -> u64
 }
 
 // The u32 that begins at a place.
-fn u32_at(file: &[u8], at: usize) -> u64
+pub fn u32_at(file: &[u8], at: usize) -> u64
     requires { ⌜ at + 4 ≤ length (now file) ⌝ }
     ensures { λ r. ⌜ (r ≡ u32At (now (file .entry)) at) × (r < 4294967296) ⌝ }
 {
