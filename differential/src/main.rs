@@ -55,6 +55,7 @@ fn main() {
     t.run("refine-limit", 2_000, limits::refinement);
     t.run("build-refusals", 10_000, builds::refusals);
     t.run("lookup", 3_000, trees::lookup);
+    t.run("lookup-many", 1, trees::lookup_many);
     t.run("grouping", 2_000, trees::grouping);
     t.run("sourced", 2_000, trees::sourced);
     t.run("lists", 20_000, trees::lists);
