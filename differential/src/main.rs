@@ -3,6 +3,7 @@ mod builds;
 mod differences;
 mod inputs;
 mod keys;
+mod limits;
 mod oracle;
 mod points;
 mod random;
@@ -51,8 +52,10 @@ fn main() {
     t.run("cells", 300_000, points::cells);
     t.run("reference-depth", 1, points::depths);
     t.run("build", 3_000, builds::build);
+    t.run("refine-limit", 2_000, limits::refinement);
     t.run("build-refusals", 10_000, builds::refusals);
     t.run("lookup", 3_000, trees::lookup);
+    t.run("lookup-many", 1, trees::lookup_many);
     t.run("grouping", 2_000, trees::grouping);
     t.run("sourced", 2_000, trees::sourced);
     t.run("lists", 20_000, trees::lists);

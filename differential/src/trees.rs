@@ -7,6 +7,7 @@ use crate::tally::Tally;
 use ferreus_bbfmm::bbfmm::TreeLists;
 use ferreus_bbfmm::{FmmError, linear_tree, morton};
 use lohandema::Refusal;
+use lohandema::points::Bounds;
 use lohandema::trees::{Rows, Tree};
 use std::collections::{HashMap, HashSet};
 
@@ -93,6 +94,35 @@ pub fn lookup(t: &mut Tally, r: &mut Random, _case: u64) {
         t.same("lookup", ours, right, || {
             format!("{} points {points:?}", show(&s))
         });
+    }
+}
+
+/// Lookups in a tree of so many leaves with sources that their hints are shared.
+pub fn lookup_many(t: &mut Tally, r: &mut Random, _case: u64) {
+    let bounds = Bounds::new(&[7.5], 64.0);
+    let mut points = |rows: usize| -> Vec<f64> {
+        let low = bounds.centre[0] - bounds.radius;
+        (0..rows)
+            .map(|_| low + 2.0 * bounds.radius * r.unit())
+            .collect()
+    };
+    let (sources, others) = (points(50_000), points(20_000));
+    let s = Survey {
+        bounds,
+        sources,
+        targets: vec![],
+        limit: 1,
+        order: 1,
+        keep_empty: true,
+    };
+    let (lists, depth) = oracle::build(&s);
+    let tree = oracle::columns(1, &lists);
+    let owners = tree.own.iter().filter(|&&own| own > 0).count();
+    assert!(owners > 32_768, "hints are not shared: {owners} leaves");
+    for points in [&s.sources, &others] {
+        let right = looked_up(&s, &lists.leaves, depth, points);
+        let ours = tree.points_to_keys(&s.bounds, points);
+        t.same("lookup", ours, right, || format!("{} points", points.len()));
     }
 }
 
