@@ -146,6 +146,26 @@ module _ (d : ℕ) (keys own : List ℕ) (t : SoundTree d keys own) where
                   same (yes s) u o = absurd (o s)
                   same (no s) u o = omega arith
 
+  -- and they rise: a node between them would have its parent on both sides
+  pub parts-rise : (i a b : ℕ) → Parts d keys i a → Parts d keys (suc i) b → a ≤ b
+  parts-rise i a b p q = go (decLt b a)
+    where
+      go : Dec (b < a) → a ≤ b
+      go (no h) = omega arith
+      go (yes h) = absurd (between (parent-mem d keys (w .ascending) (w .parents) (getD keys b 0) (b, lb, refl) deep))
+        where
+          lb : b < length keys
+          lb = omega (arith, h, p .within)
+
+          deep : 0 < levelOf (getD keys b 0)
+          deep = node-level d keys own (w .ascending) b (q .root) lb
+
+          between : Mem (parent d (getD keys b 0)) keys → ⊥
+          between (m, lm, e) =
+              let ch : childOf d (getD keys m 0) (getD keys b 0) ≡ true = both (lt-ltb 0 (levelOf (getD keys b 0)) deep) (eq-eqb (parent d (getD keys b 0)) (getD keys m 0) (sym e)) in
+              let low : m < i = ltb-true m i (sym (p .splits b m lb lm ch) ∙ lt-ltb b a h) in
+              clash (q .splits b m lb lm ch ∙ lt-ltb m (suc i) (omega (arith, low))) (le-ltb b b (omega arith))
+
 -- a node's children by the column
 pub kids-at : {d : ℕ} {keys own first : List ℕ} → FirstChildren d keys own first → (i : ℕ) → i < length keys → Children d keys (getD keys i 0) (firstOf first i) (firstOf first (i + 1))
 kids-at {d} {keys} {own} {first} f i l = let e : suc i ≡ i + 1 = omega arith in subst (λ n. Children d keys (getD keys i 0) (firstOf first i) (firstOf first n)) e (f .children i l)

@@ -20,7 +20,7 @@ use Rattle.tree.proofs.Stored.{earlier-at}
 use Rattle.sourced.specs.Trees.{SoundTree, anySourced}
 use Rattle.sourced.proofs.Below.{child-level, tree-facts, own-length, sourced-own, sourced-below, between-range}
 use Rattle.firsts.specs.Firsts.{Parts, firstOf, markOf, anyMarked, Numbered, FirstChildren}
-use Rattle.firsts.proofs.Columns.{parts-start, parts-children}
+use Rattle.firsts.proofs.Columns.{parts-start, parts-children, parts-rise}
 
 -- what is said of each entry up to i, and of the one written there
 pub entry-more : (P : ℕ → ℕ → Type 0) (first : List ℕ) (i x : ℕ) → i < length first → ((m : ℕ) → m < i → P m (getD first m 0)) → P i x → (m : ℕ) → m < i + 1 → P m (getD (set first i x) m 0)
@@ -125,7 +125,12 @@ module _ (d : ℕ) (keys own : List ℕ) (t : SoundTree d keys own) where
   )
 
   pub mark-all : (first : List ℕ) (i : ℕ) → i ≤ 0 → Marking d keys own first i → FirstChildren d keys own first
-  mark-all first i z s = record { entries = s .entries; children = λ m l. parts-children d keys own t m _ _ l (s .parts m (omega arith)) (s .parts (suc m) l); marks = λ m l. s .marks m (omega arith) l }
+  mark-all first i z s = record {
+    entries = s .entries;
+    children = λ m l. parts-children d keys own t m _ _ l (s .parts m (omega arith)) (s .parts (suc m) l);
+    marks = λ m l. s .marks m (omega arith) l;
+    rises = λ m l. parts-rise d keys own t m _ _ (s .parts m (omega arith)) (s .parts (suc m) l);
+  }
 
   module _ (first : List ℕ) (i : ℕ) (l : i < length keys) (s : Marking d keys own first (suc i)) where
     kids : Children d keys (getD keys i 0) (firstOf first i) (firstOf first (suc i))

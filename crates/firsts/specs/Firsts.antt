@@ -38,3 +38,4 @@ pub record FirstChildren (d : ℕ) (keys own first : List ℕ) : Type 0 where
   pub entries : length keys < length first
   pub children : (i : ℕ) → i < length keys → Children d keys (getD keys i 0) (firstOf first i) (firstOf first (suc i))
   pub marks : (i : ℕ) → i < length keys → markOf first i ≡ sourced d keys own (getD keys i 0)
+  pub rises : (i : ℕ) → i < length keys → firstOf first i ≤ firstOf first (suc i)

@@ -1,16 +1,17 @@
 -- The row of a node, from what was prepared for its parent.
 use mathlib.Core.Path.{_≡_, refl, sym, ap, ap₂, _∙_, subst}
-use mathlib.Core.Bool.{Bool, true, false}
+use mathlib.Core.Bool.{Bool, true, false, _&&_}
 use mathlib.Core.List.{List, [], _∷_, map}
-use Prim.Native.Nat.{ℕ, zero, suc, _+_, _*_, _-_, _%_, _^_, _≤_, _<_}
+use Prim.Native.Nat.{ℕ, zero, suc, _+_, _*_, _-_, _/_, _%_, _^_, _≤_, _<_}
 use native.Mathlib.Omega.{arith}
 use native.Mathlib.Decide.{decLt}
-use lib.Dec.{leb}
+use lib.Dec.{leb, eqb}
 use lib.ListN.{length, getD, take, length-map}
-use borrow.Author.Tests.{lt-leb, le-leb, eqb-true}
-use Rattle.slices.specs.Lists.{Distinct}
-use Rattle.slices.proofs.Tests.{and-l, clash}
+use borrow.Author.Tests.{lt-leb, le-leb, eqb-true, eq-eqb}
+use Rattle.slices.specs.Lists.{bit, count, Distinct}
+use Rattle.slices.proofs.Tests.{and-l, and-r, both, clash}
 use Rattle.morton.specs.Keys.{levelOf, codeOf, parent}
+use Rattle.morton.specs.Anchors.{near}
 use Rattle.morton.proofs.Cells.{level-parent, code-parent}
 use Rattle.tree.specs.Nodes.{leaf}
 use Rattle.tree.proofs.Rules.{WellFormed}
@@ -18,7 +19,7 @@ use Rattle.tree.proofs.Walk.{root-no-leaf, node-level}
 use Rattle.tree.proofs.Kids.{leaf-children}
 use Rattle.sourced.specs.Room.{Puts}
 use Rattle.sourced.proofs.Below.{tree-facts, tree-level}
-use Rattle.places.specs.Places.{stepOf, placeAt, placeOf}
+use Rattle.places.specs.Places.{stepOf, placeAt, placeOf, beside}
 use Rattle.places.proofs.Laws.{fan, place-more}
 use Rattle.firsts.specs.Firsts.{firstOf}
 use Rattle.firsts.proofs.Columns.{kids-at}
@@ -26,17 +27,29 @@ use Rattle.lists.specs.Descent.{PutsThose, PutsRow, listRow, takes}
 use Rattle.lists.proofs.Those.{those-none, those-join}
 use Rattle.lists.proofs.Rows.{row-put, row-none}
 use Rattle.lists.proofs.Tests.{far-root, node-valid}
-use Rattle.around.specs.Around.{around, owner}
+use Rattle.around.specs.Around.{around, nearTo, owner}
 use Rattle.around.specs.Candidates.{Found, Prepared, Child, touches}
-use Rattle.around.proofs.Counting.{found-distinct, found-test}
+use Rattle.around.proofs.Counting.{count-numbers, count-found, found-distinct, found-test}
+use Rattle.spread.proofs.FewNear.{near-few}
 use Rattle.quick.specs.Marks.{Numbered, Marks, PutsUnmarked, ownsUnder, PutsOwners}
-use Rattle.quick.proofs.FarRow.{up-level, far-row}
+use Rattle.quick.specs.Runs.{FewMarked}
+use Rattle.quick.proofs.FarRow.{up-level, touch-near, far-row}
 use Rattle.quick.proofs.NearRow.{near-split}
 
 getD-map : (f : ℕ → ℕ) (xs : List ℕ) (i : ℕ) → i < length xs → getD (map f xs) i 0 ≡ f (getD xs i 0)
 getD-map f [] i h = absurd (omega arith)
 getD-map f (x ∷ xs) zero h = refl
 getD-map f (x ∷ xs) (suc i) h = getD-map f xs i (omega arith)
+
+count-less : (p q : ℕ → Bool) (xs : List ℕ) → ((x : ℕ) → p x ≡ true → q x ≡ true) → count p xs ≤ count q xs
+unfolding count
+count-less p q [] h = omega arith
+count-less p q (x ∷ xs) h = omega (arith, count-less p q xs h, less (p x) (q x) (h x))
+  where
+    less : (a b : Bool) → (a ≡ true → b ≡ true) → bit a ≤ bit b
+    less true true f = omega arith
+    less true false f = absurd (clash (f refl) refl)
+    less false b f = omega arith
 
 -- a child's index
 index-lt : (d x : ℕ) → d ≤ 3 → (x % 2 ^ d < 2 ^ d) × (x % 2 ^ d < 64)
@@ -126,6 +139,26 @@ module _ (d : ℕ) (keys own first : List ℕ) (p : ℕ) (nodes masks held : Lis
         eqb-true (levelOf (getD keys (getD nodes i 0) 0)) (suc (levelOf p)) (and-l _ _ (found-test d keys (around d keys own p) nodes places c found i r)),
         up-level d keys own first p (getD keys node 0) (stepOf s + 2 * placeOf d p) child,
       )
+
+      -- at most 27 of them touch the node
+      pub few : FewMarked nodes masks c s
+      few = (
+        touches d keys (stepOf s + 2 * placeOf d p),
+        marks,
+        subst (λ (m : ℕ). m ≤ 27) (sym (count-found d keys (around d keys own p) nodes places c found (touches d keys (stepOf s + 2 * placeOf d p)) ∙ count-numbers both-ways keys))
+            (omega (arith, count-less both-ways (nearTo d keys own (getD keys node 0)) keys near-one, near-few d keys own (q .setting .tree) (getD keys node 0))),
+      )
+        where
+          both-ways : ℕ → Bool
+          both-ways y = around d keys own p y && beside (placeOf d y) (stepOf s + 2 * placeOf d p) 0
+
+          near-one : (y : ℕ) → (around d keys own p y && beside (placeOf d y) (stepOf s + 2 * placeOf d p) 0) ≡ true → nearTo d keys own (getD keys node 0) y ≡ true
+          near-one y h =
+              let ar = and-l (around d keys own p y) _ h in
+              let level : levelOf y ≡ levelOf (getD keys node 0) = eqb-true (levelOf y) (suc (levelOf p)) (and-l _ _ ar) ∙ up-level d keys own first p (getD keys node 0) (stepOf s + 2 * placeOf d p) child in
+              let close = sym (touch-near d keys own first p (getD keys node 0) (stepOf s + 2 * placeOf d p) child y level) ∙ and-r (around d keys own p y) _ h in
+              both (eq-eqb (levelOf y) (levelOf (getD keys node 0)) level)
+              (both close (and-r (near d d (levelOf p) (codeOf p) (codeOf y / 2 ^ d)) _ (and-r (eqb (levelOf y) (suc (levelOf p))) _ ar)))
 
       pub far-put : (far : Bool) → far ≡ true → (out out' : List ℕ) (n n' : ℕ) → PutsUnmarked keys nodes masks c s out n out' n' → PutsRow (listRow d keys own far (getD keys node 0)) out n out' n'
       far-put far f out out' n n' put = subst (λ f. PutsRow (listRow d keys own f (getD keys node 0)) out n out' n') (sym f)

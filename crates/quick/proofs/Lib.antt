@@ -1,6 +1,7 @@
 pub mod Rest
 pub mod FarRow
 pub mod NearRow
-pub mod Owners
-pub mod Near
+pub mod EachOne
+pub mod Downwards
+pub mod Singles
 pub mod EachRow

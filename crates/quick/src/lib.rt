@@ -1,16 +1,17 @@
 // The U and V rows of a tree's nodes, as `lists` writes them, in less time: what lies around a parent was gathered once for its children, with a mask of those that each node touches.
 ghost use mathlib.Core.Path.{_≡_};
-ghost use mathlib.Core.Bool.{_&&_};
+ghost use mathlib.Core.Bool.{false, _&&_};
 ghost use Prim.Native.Nat.{ℕ, _+_, _≤_, _<_};
 ghost use lib.ListN.{length, getD, take};
 ghost use Rattle.slices.specs.Lists.{Distinct};
-ghost use Rattle.morton.specs.Keys.{levelOf, under, parent};
-ghost use Rattle.sourced.specs.Trees.{SoundTree, LevelsLeft};
+ghost use Rattle.morton.specs.Keys.{levelOf, parent};
+ghost use Rattle.sourced.specs.Trees.{SoundTree};
 ghost use Rattle.sourced.specs.Room.{Puts};
 ghost use Rattle.firsts.specs.Firsts.{FirstChildren};
-ghost use Rattle.lists.specs.Descent.{underOne, PutsThose, PutsRow, listRow};
+ghost use Rattle.lists.specs.Descent.{PutsThose, PutsRow, listRow};
 ghost use Rattle.around.specs.Candidates.{Prepared};
 ghost use Rattle.quick.specs.Marks.{Numbered, PutsUnmarked, owns, PutsOwners};
+ghost use Rattle.quick.specs.Runs.{among, isNode, inRun, underRun, belowRuns, Runs, Lowers, CollectsMarked, FewMarked};
 
 // Puts the keys of the nodes that bit s does not mark, where there is room for all of them: each key is stored, and the next one takes its place unless it counts.
 fn store_far(
@@ -82,53 +83,146 @@ fn put_far(
     try_far(key, nodes, masks, c, s, out, n)
 }
 
-// The cell step: puts the keys of the owners at or under a node with so many levels left, its own among them.
-fn owners_cell(
-    axes: usize,
-    key: &[u64],
-    own: &[usize],
-    first: &[usize],
-    node: usize,
-    left: usize,
-    out: &mut [u64],
-    n: usize,
-) -> usize
-    requires { ⌜ SoundTree axes (now key) (now own) × FirstChildren axes (now key) (now own) (now first) × (node < length (now key)) × (levelOf (getD (now key) node 0) + left ≡ 17) ⌝ }
-    ensures { λ r. ⌜ PutsThose (now (key .entry)) (λ x. under axes (getD (now (key .entry)) node 0) x && owns (now (key .entry)) (now (own .entry)) x) (now (out .entry)) n (now (out .exit)) r ⌝ }
-{
-    if 0 < own[node] {
-        return sourced::put(out, n, key[node]);
-    }
-    if !firsts::is_sourced(axes, key, own, first, node) {
-        return n;
-    }
-    let from = firsts::first_of(first, node);
-    let to = firsts::first_of(first, node + 1);
-    owners_kids(axes, key, own, first, from, to, left - 1, out, n)
-}
-
-// The children step: the same for the nodes from one number up to another.
-fn owners_kids(
-    axes: usize,
-    key: &[u64],
-    own: &[usize],
-    first: &[usize],
-    from: usize,
-    to: usize,
-    left: usize,
-    out: &mut [u64],
-    n: usize,
-) -> usize
-    requires { ⌜ SoundTree axes (now key) (now own) × FirstChildren axes (now key) (now own) (now first) × (to ≤ length (now key)) × LevelsLeft (now key) from to left ⌝ }
-    ensures { λ r. ⌜ PutsThose (now (key .entry)) (λ x. underOne axes (now (key .entry)) from to x && owns (now (key .entry)) (now (own .entry)) x) (now (out .entry)) n (now (out .exit)) r ⌝ }
+// Puts the keys of the owners among the nodes from one number up to another.
+fn put_run(key: &[u64], own: &[usize], from: usize, to: usize, out: &mut [u64], n: usize) -> usize
+    requires { ⌜ ((d : ℕ) × SoundTree d (now key) (now own)) × (to ≤ length (now key)) ⌝ }
+    ensures { λ r. ⌜ PutsThose (now (key .entry)) (λ x. among (isNode (now (key .entry))) from to x && owns (now (key .entry)) (now (own .entry)) x) (now (out .entry)) n (now (out .exit)) r ⌝ }
 {
     let mut m = n;
     let mut j = from;
     while j < to {
-        m = owners_cell(axes, key, own, first, j, left, out, m);
+        if 0 < own[j] {
+            m = sourced::put(out, m, key[j]);
+            j += 1;
+        } else {
+            j += 1;
+        }
+    }
+    m
+}
+
+// The same for the nodes of the first c runs.
+fn put_runs(
+    key: &[u64],
+    own: &[usize],
+    from: &[usize],
+    to: &[usize],
+    c: usize,
+    out: &mut [u64],
+    n: usize,
+) -> usize
+    requires { ⌜ ((d : ℕ) × SoundTree d (now key) (now own)) × ((left : ℕ) × Runs (now key) (now from) (now to) c left) ⌝ }
+    ensures { λ r. ⌜ PutsThose (now (key .entry)) (λ x. among (inRun (now (key .entry)) (now (from .entry)) (now (to .entry))) 0 c x && owns (now (key .entry)) (now (own .entry)) x) (now (out .entry)) n (now (out .exit)) r ⌝ }
+{
+    let mut m = n;
+    let mut j: usize = 0;
+    while j < c {
+        m = put_run(key, own, from[j], to[j], out, m);
         j += 1;
     }
     m
+}
+
+// Puts the first child's number in the place of each of the first c numbers.
+fn go_down(first: &[usize], ends: &mut [usize], c: usize)
+    requires { ⌜ (c ≤ length (now ends)) × ((j : ℕ) → j < c → getD (now ends) j 0 < length (now first)) ⌝ }
+    ensures { λ _. ⌜ Lowers (now (first .entry)) (now (ends .entry)) c (now (ends .exit)) ⌝ }
+{
+    let mut j: usize = 0;
+    while j < c {
+        ends[j] = firsts::first_of(first, ends[j]);
+        j += 1;
+    }
+}
+
+// Whether one of the first c runs has a node.
+fn any_filled(from: &[usize], to: &[usize], c: usize) -> bool
+    requires { ⌜ (c ≤ length (now from)) × (length (now to) ≡ length (now from)) ⌝ }
+    ensures { λ r. ⌜ (r ≡ false → (j : ℕ) → j < c → getD (now (to .entry)) j 0 ≤ getD (now (from .entry)) j 0) ⌝ }
+{
+    let mut j: usize = 0;
+    while j < c {
+        if from[j] < to[j] {
+            return true;
+        }
+        j += 1;
+    }
+    false
+}
+
+// The cell step: puts the keys of the owners at or under the nodes of the first c runs, which have so many levels left, their own among them.
+// Level by level: so the keys come nearly in order, and little is left to sort.
+fn cells_step(
+    axes: usize,
+    key: &[u64],
+    own: &[usize],
+    first: &[usize],
+    left: usize,
+    from: &mut [usize],
+    to: &mut [usize],
+    c: usize,
+    out: &mut [u64],
+    n: usize,
+) -> usize
+    requires { ⌜ SoundTree axes (now key) (now own) × FirstChildren axes (now key) (now own) (now first) × Runs (now key) (now from) (now to) c left ⌝ }
+    ensures { λ r. ⌜ PutsThose (now (key .entry)) (λ x. among (underRun axes (now (key .entry)) (now (from .entry)) (now (to .entry))) 0 c x && owns (now (key .entry)) (now (own .entry)) x) (now (out .entry)) n (now (out .exit)) r ⌝ }
+{
+    let m = put_runs(key, own, from, to, c, out, n);
+    children_step(axes, key, own, first, left, from, to, c, out, m)
+}
+
+// The children step: the same for what lies under them. The children of a run are a run, one level down.
+fn children_step(
+    axes: usize,
+    key: &[u64],
+    own: &[usize],
+    first: &[usize],
+    left: usize,
+    from: &mut [usize],
+    to: &mut [usize],
+    c: usize,
+    out: &mut [u64],
+    n: usize,
+) -> usize
+    requires { ⌜ SoundTree axes (now key) (now own) × FirstChildren axes (now key) (now own) (now first) × Runs (now key) (now from) (now to) c left ⌝ }
+    ensures { λ r. ⌜ PutsThose (now (key .entry)) (λ x. belowRuns axes (now (key .entry)) (now (from .entry)) (now (to .entry)) c left x && owns (now (key .entry)) (now (own .entry)) x) (now (out .entry)) n (now (out .exit)) r ⌝ }
+{
+    if left < 2 {
+        return n;
+    }
+    go_down(first, from, c);
+    go_down(first, to, c);
+    if !any_filled(from, to, c) {
+        return n;
+    }
+    cells_step(axes, key, own, first, left - 1, from, to, c, out, n)
+}
+
+// The numbers of the nodes that bit s marks, each as a run of its own; how many they are.
+fn collect(
+    nodes: &[usize],
+    masks: &[u64],
+    c: usize,
+    s: u64,
+    from: &mut [usize],
+    to: &mut [usize],
+) -> usize
+    requires { ⌜ (c ≤ length (now nodes)) × (length (now masks) ≡ length (now nodes)) × (s < 64) × FewMarked (now nodes) (now masks) c s × (27 ≤ length (now from)) × (length (now to) ≡ length (now from)) × ((i : ℕ) → i < c → getD (now nodes) i 0 < 18446744073709551615) ⌝ }
+    ensures { λ r. ⌜ CollectsMarked (now (nodes .entry)) (now (masks .entry)) c s (now (from .exit)) (now (to .exit)) r ⌝ }
+{
+    let mut k: usize = 0;
+    let mut j: usize = 0;
+    while j < c {
+        if (masks[j] >> s) % 2 == 1 {
+            from[k] = nodes[j];
+            to[k] = nodes[j] + 1;
+            k += 1;
+            j += 1;
+        } else {
+            j += 1;
+        }
+    }
+    k
 }
 
 // Puts the keys of the owners at or under the nodes that bit s marks, which are of one level and have so many left.
@@ -145,20 +239,13 @@ fn put_near(
     out: &mut [u64],
     n: usize,
 ) -> usize
-    requires { ⌜ SoundTree axes (now key) (now own) × FirstChildren axes (now key) (now own) (now first) × Numbered (now key) (now nodes) (now masks) c × (s < 64) × Distinct (take c (now nodes)) × ((i : ℕ) → i < c → levelOf (getD (now key) (getD (now nodes) i 0) 0) + left ≡ 17) ⌝ }
+    requires { ⌜ SoundTree axes (now key) (now own) × FirstChildren axes (now key) (now own) (now first) × Numbered (now key) (now nodes) (now masks) c × (s < 64) × Distinct (take c (now nodes)) × ((i : ℕ) → i < c → levelOf (getD (now key) (getD (now nodes) i 0) 0) + left ≡ 17) × FewMarked (now nodes) (now masks) c s ⌝ }
     ensures { λ r. ⌜ PutsOwners axes (now (key .entry)) (now (own .entry)) (now (nodes .entry)) (now (masks .entry)) c s (now (out .entry)) n (now (out .exit)) r ⌝ }
 {
-    let mut m = n;
-    let mut j: usize = 0;
-    while j < c {
-        if (masks[j] >> s) % 2 == 1 {
-            m = owners_cell(axes, key, own, first, nodes[j], left, out, m);
-            j += 1;
-        } else {
-            j += 1;
-        }
-    }
-    m
+    let mut from = [0usize; 27];
+    let mut to = [0usize; 27];
+    let k = collect(nodes, masks, c, s, &mut from, &mut to);
+    cells_step(axes, key, own, first, left, &mut from, &mut to, k, out, n)
 }
 
 // Puts the first c of some keys.

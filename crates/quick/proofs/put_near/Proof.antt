@@ -1,66 +1,36 @@
 -- `quick::put_near` meets its contract.
 use borrow.Author.Needs.{needs}
-use mathlib.Core.Path.{_≡_, refl, _∙_}
-use Prim.Native.Nat.{_-_}
+use mathlib.Core.Path.{_≡_, refl, _∙_, sym}
 use native.Mathlib.Omega.{arith}
-use borrow.Author.Tests.{eq-eqb, ne-eqb}
 use denote.Ref.{now}
-use lib.ListN.{length}
-use Rattle.quick.proofs.Near.{AwaitsNear, near-start, near-skip, near-more, near-all}
+use Rattle.quick.proofs.Singles.{near-runs, near-put}
 use Rattle.quick.proofs.put_near.Statement.{statement}
 use Rattle.quick.proofs.put_near.Tie as tie
 
-abbrev Inv-loop : tie.InvT-loop
-Inv-loop axes key own first nodes masks c s left out₀ n m₀ j₀ out m j = AwaitsNear axes key own nodes masks c s out₀ n j out m × (length out ≡ length out₀)
+slice-aggregate-collect : tie.Need-slice-aggregate-collect
+slice-aggregate-collect c = search needs
 
-abbrev μ-loop : tie.MeasureT-loop
-μ-loop axes key own first nodes masks c s left out₀ n m₀ j₀ out m j = c - j
+slice-aggregate-collect-2 : tie.Need-slice-aggregate-collect-2
+slice-aggregate-collect-2 c = search needs
 
-loop-holds : tie.Need-loop-holds Inv-loop μ-loop
-loop-holds c = let a = c .before .before .before .before .before .before .args in let q = c .before .before .before .before .before .before .pre in (near-start (a .axes) (now (a .key)) (now (a .own)) (q .0) (now (a .nodes)) (now (a .masks)) (a .c) (a .s) (a .left) (q .2) (q .4) (q .5) _ _, refl)
+collect-requires : tie.Need-collect-requires
+collect-requires c κs = let q = c .before .before .before .before .before .before .before .before .pre in (q .2 .fits, q .2 .room, q .3, q .6, search needs, search needs, λ i h. omega (arith, q .2 .inside i h, q .1 .entries))
 
-mul-if1 : tie.Need-mul-if1 Inv-loop μ-loop
-mul-if1 c = omega (arith, c .before .before .before .before .before .before .before .before .pre .2 .fits, c .before .before .before .before .before .before .before .before .pre .2 .room, c .loop-test .taken)
+slice-aggregate-cells-step : tie.Need-slice-aggregate-cells-step
+slice-aggregate-cells-step c = search needs
 
-shared-slice-read-if1 : tie.Need-shared-slice-read-if1 Inv-loop μ-loop
-shared-slice-read-if1 c = omega (arith, c .before .before .before .before .before .before .before .before .before .pre .2 .fits, c .before .before .before .before .before .before .before .before .before .pre .2 .room, c .before .loop-test .taken)
+slice-aggregate-cells-step-2 : tie.Need-slice-aggregate-cells-step-2
+slice-aggregate-cells-step-2 c = search needs
 
-shr-if1 : tie.Need-shr-if1 Inv-loop μ-loop
-shr-if1 c = search needs
+cells-step-requires : tie.Need-cells-step-requires
+cells-step-requires c κs = let a = c .before .before .before .before .before .before .before .before .before .before .before .before .before .before .args in let q = c .before .before .before .before .before .before .before .before .before .before .before .before .before .before .pre in (q .0, q .1, near-runs (a .axes) (now (a .key)) (now (a .own)) (now (a .nodes)) (now (a .masks)) (a .c) (a .s) (a .left) (q .2) (q .4) (q .5) _ _ _ (c .before .before .before .before .before .collect .ensures) (q .6) (c .before .before .before .before .before .collect .kept .1 .1 .1 .1 .1 .0 ∙ sym (c .before .before .before .before .before .collect .kept .1 .1 .1 .1 .0)))
 
-mul-owners-cell : tie.Need-mul-owners-cell Inv-loop μ-loop
-mul-owners-cell c = omega (arith, c .before .before .before .before .before .before .before .before .before .before .pre .2 .fits, c .before .before .before .before .before .before .before .before .before .before .pre .2 .room, c .before .before .loop-test .taken)
+same-length : tie.Need-same-length
+same-length c = search needs
 
-shared-slice-read-owners-cell : tie.Need-shared-slice-read-owners-cell Inv-loop μ-loop
-shared-slice-read-owners-cell c = omega (arith, c .before .before .before .before .before .before .before .before .before .before .before .pre .2 .fits, c .before .before .before .before .before .before .before .before .before .before .before .pre .2 .room, c .before .before .before .loop-test .taken)
-
-owners-cell-requires : tie.Need-owners-cell-requires Inv-loop μ-loop
-owners-cell-requires c κs = let q = c .before .before .before .before .before .before .before .before .before .before .before .before .pre in let h = c .before .before .before .before .loop-test .taken in (q .0, q .1, q .2 .inside _ h, q .5 _ h)
-
-add-j : tie.Need-add-j Inv-loop μ-loop
-add-j c = search needs
-
-loop-less : tie.Need-loop-less Inv-loop μ-loop
-loop-less c = search needs
-
-loop-again : tie.Need-loop-again Inv-loop μ-loop
-loop-again c = let a = c .before .before .before .before .before .before .before .before .before .before .before .before .before .before .before .args in let q = c .before .before .before .before .before .before .before .before .before .before .before .before .before .before .before .pre in (near-more (a .axes) (now (a .key)) (now (a .own)) (q .0) (now (a .nodes)) (now (a .masks)) (a .c) (a .s) (a .left) (q .2) (q .4) (q .5) _ _ _ (c .before .before .before .before .before .before .before .loop-test .taken) _ _ (c .before .before .before .before .before .before .before .before .loop .inv .0) (eq-eqb _ 1 (c .before .before .before .before .before .if1 .taken)) _ _ (c .before .before .owners-cell .ensures), c .before .before .owners-cell .kept .1 .1 .1 .1 .1 .1 .0 ∙ c .before .before .before .before .before .before .before .before .loop .inv .1)
-
-add-j-2 : tie.Need-add-j-2 Inv-loop μ-loop
-add-j-2 c = search needs
-
-loop-less-2 : tie.Need-loop-less-2 Inv-loop μ-loop
-loop-less-2 c = search needs
-
-loop-again-2 : tie.Need-loop-again-2 Inv-loop μ-loop
-loop-again-2 c = let a = c .before .before .before .before .before .before .before .before .before .before .args in let q = c .before .before .before .before .before .before .before .before .before .before .pre in (near-skip (a .axes) (now (a .key)) (now (a .own)) (q .0) (now (a .nodes)) (now (a .masks)) (a .c) (a .s) (a .left) (q .2) (q .4) (q .5) _ _ _ (c .before .before .loop-test .taken) _ _ (c .before .before .before .loop .inv .0) (ne-eqb _ 1 (c .if1 .left)), c .before .before .before .loop .inv .1)
-
-same-length : tie.Need-same-length Inv-loop μ-loop
-same-length c = c .before .loop .inv .1
-
-returns : tie.Need-returns Inv-loop μ-loop
-returns c = let a = c .before .before .before .before .before .before .before .before .args in let q = c .before .before .before .before .before .before .before .before .pre in near-all (a .axes) (now (a .key)) (now (a .own)) (q .0) (now (a .nodes)) (now (a .masks)) (a .c) (a .s) (a .left) (q .2) (q .4) (q .5) _ _ _ (c .loop-test .left) _ _ (c .before .loop .inv .0)
+returns : tie.Need-returns
+returns c = let a = c .before .before .before .before .before .before .before .before .before .before .before .before .before .before .before .before .before .before .before .args in let q = c .before .before .before .before .before .before .before .before .before .before .before .before .before .before .before .before .before .before .before .pre in near-put (a .axes) (now (a .key)) (now (a .own)) (now (a .nodes)) (now (a .masks)) (a .c) (a .s) (a .left) (q .2) (q .4) (q .5) _ _ _ (c .before .before .before .before .before .before .before .before .before .before .collect .ensures) _ _ _ _ (c .before .before .before .before .cells-step .ensures)
 
 pub put-near-spec : {M : Type 1} → statement M
 put-near-spec =
-    tie.close (tie.spec Inv-loop μ-loop loop-holds mul-if1 shared-slice-read-if1 shr-if1 mul-owners-cell shared-slice-read-owners-cell owners-cell-requires add-j loop-less loop-again add-j-2 loop-less-2 loop-again-2 same-length returns)
+    tie.close (tie.spec slice-aggregate-collect slice-aggregate-collect-2 collect-requires slice-aggregate-cells-step slice-aggregate-cells-step-2 cells-step-requires same-length returns)

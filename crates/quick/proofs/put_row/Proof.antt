@@ -5,7 +5,7 @@ use native.Mathlib.Omega.{arith}
 use denote.Ref.{now}
 use Rattle.sourced.proofs.Below.{tree-level}
 use Rattle.places.proofs.Laws.{fan-some}
-use Rattle.quick.proofs.EachRow.{root-row, numbered, once, inner-row, index-small, levels, far-put, near-put}
+use Rattle.quick.proofs.EachRow.{root-row, numbered, once, inner-row, index-small, few, levels, far-put, near-put}
 use Rattle.quick.proofs.put_row.Statement.{statement}
 use Rattle.quick.proofs.put_row.Tie as tie
 
@@ -52,7 +52,7 @@ sub-left : tie.Need-sub-left
 sub-left c = omega (arith, tree-level _ _ _ (c .before .before .before .before .before .before .before .before .before .before .before .before .before .before .before .before .before .pre .0 .setting .tree) _ (c .before .before .before .before .before .before .before .before .before .before .before .before .before .before .before .before .before .pre .1))
 
 put-near-requires : tie.Need-put-near-requires
-put-near-requires c κs = let a = c .before .before .before .before .before .before .before .before .before .before .before .before .before .before .before .before .before .before .args in let q = c .before .before .before .before .before .before .before .before .before .before .before .before .before .before .before .before .before .before .pre in (q .0 .setting .tree, q .0 .setting .firsts, numbered (a .axes) (now (a .key)) (now (a .own)) (now (a .first)) (a .p) (now (a .nodes)) (now (a .masks)) (now (a .held)) (a .c) (a .h) (q .0), index-small _ _ (q .0 .setting .tree .most), once (a .axes) (now (a .key)) (now (a .own)) (now (a .first)) (a .p) (now (a .nodes)) (now (a .masks)) (now (a .held)) (a .c) (a .h) (q .0), levels (a .axes) (now (a .key)) (now (a .own)) (now (a .first)) (a .p) (now (a .nodes)) (now (a .masks)) (now (a .held)) (a .c) (a .h) (q .0) (a .node) (q .1) (c .before .before .before .before .before .before .before .before .before .if1 .left) (q .2) _ refl _ refl)
+put-near-requires c κs = let a = c .before .before .before .before .before .before .before .before .before .before .before .before .before .before .before .before .before .before .args in let q = c .before .before .before .before .before .before .before .before .before .before .before .before .before .before .before .before .before .before .pre in (q .0 .setting .tree, q .0 .setting .firsts, numbered (a .axes) (now (a .key)) (now (a .own)) (now (a .first)) (a .p) (now (a .nodes)) (now (a .masks)) (now (a .held)) (a .c) (a .h) (q .0), index-small _ _ (q .0 .setting .tree .most), once (a .axes) (now (a .key)) (now (a .own)) (now (a .first)) (a .p) (now (a .nodes)) (now (a .masks)) (now (a .held)) (a .c) (a .h) (q .0), levels (a .axes) (now (a .key)) (now (a .own)) (now (a .first)) (a .p) (now (a .nodes)) (now (a .masks)) (now (a .held)) (a .c) (a .h) (q .0) (a .node) (q .1) (c .before .before .before .before .before .before .before .before .before .if1 .left) (q .2) _ refl _ refl, few (a .axes) (now (a .key)) (now (a .own)) (now (a .first)) (a .p) (now (a .nodes)) (now (a .masks)) (now (a .held)) (a .c) (a .h) (q .0) (a .node) (q .1) (c .before .before .before .before .before .before .before .before .before .if1 .left) (q .2) _ refl)
 
 same-length-2 : tie.Need-same-length-2
 same-length-2 c = search needs
