@@ -1,10 +1,7 @@
 -- `quick::go_down` meets its contract.
 use borrow.Author.Needs.{needs}
-use Prim.Native.Nat.{_-_, _≤_, _<_}
-use mathlib.Core.Path.{_≡_, refl, sym}
+use Prim.Native.Nat.{_-_}
 use native.Mathlib.Omega.{arith}
-use denote.Ref.{now}
-use lib.ListN.{length, getD}
 use Rattle.quick.proofs.Downwards.{Lowered, lower-start, lower-more, lower-all}
 use Rattle.quick.proofs.go_down.Statement.{statement}
 use Rattle.quick.proofs.go_down.Tie as tie
