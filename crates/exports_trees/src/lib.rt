@@ -141,16 +141,8 @@ pub extern "C" fn lohandema_get_points_to_leaves_map(
     ensures starts { λ _. ⌜ now (starts .exit) ≡ written (groupOutcome axes (now (key .entry)) (now (own .entry)) (now (begin .entry)) (now (points .entry)) (length (now (starts .entry))) (length (now (indices .entry)))) (length (now (starts .entry))) (groupStarts (now (points .entry)) (now (key .entry))) ⌝ }
     ensures indices { λ _. ⌜ now (indices .exit) ≡ written (groupOutcome axes (now (key .entry)) (now (own .entry)) (now (begin .entry)) (now (points .entry)) (length (now (starts .entry))) (length (now (indices .entry)))) (length (now (indices .entry))) (grouped (now (points .entry)) (now (key .entry))) ⌝ }
 {
-    let outcome = leaf_points::get_points_to_leaves_map(
-        axes,
-        key,
-        own,
-        begin,
-        points,
-        starts,
-        indices,
-    );
-    exports_keys::end_of(outcome)
+    let end = leaf_points::get_points_to_leaves_map(axes, key, own, begin, points, starts, indices);
+    exports_keys::end_of(end)
 }
 
 #[no_mangle]
