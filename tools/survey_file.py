@@ -1,4 +1,4 @@
-"""What the tools share: the house survey file, the box, a point's cell and the keys, as document 01 has them."""
+"""What the tools share: the house survey file, the box, a point's cell and the keys, as docs/RULES.md has them."""
 
 import math
 import struct
@@ -50,7 +50,7 @@ def read_lines(path):
         text = data.decode("utf-8-sig")
     except UnicodeDecodeError as error:
         line = data.count(b"\n", 0, error.start) + 1
-        raise Refused("%s: line %d: not UTF-8 text" % (path, line))
+        raise Refused("%s: line %d: not UTF-8 text; save the file as UTF-8" % (path, line))
     return list(enumerate(text.split("\n"), 1))
 
 
@@ -92,7 +92,11 @@ def unpack(data, name):
 
 
 def read_survey(path):
-    return unpack(read_bytes(path), path)
+    data = read_bytes(path)
+    try:
+        return unpack(data, path)
+    except Refused as refused:
+        raise Refused("%s; make the survey file anew with make-survey" % refused)
 
 
 # The box, and a point's cell

@@ -1,0 +1,115 @@
+"""A CSV file of places: which of its columns are the axes, and the rows in them."""
+
+import csv
+import re
+from dataclasses import dataclass
+
+import survey_file as house
+from survey_file import Refused
+
+NUMBER = re.compile(r"[+-]?([0-9]+\.?[0-9]*|\.[0-9]+)([eE][+-]?[0-9]+)?|[+-]?inf|nan")
+NOT_FINITE = re.compile("nan|inf|infinity", re.IGNORECASE)
+# a header with these names alone has nothing but axes, and no choice is asked for
+PLACE_NAMES = {"x", "y", "z", "east", "north", "up", "easting", "northing", "elevation", "height", "altitude", "depth"}
+
+
+@dataclass
+class Table:
+    path: str
+    # the chosen columns, counted from 1, and what they and the others are called
+    columns: list
+    names: list
+    left_out: list
+    rows: list
+    lines: list
+
+
+def read_table(path, asked, axes, option):
+    """The rows of a CSV file, with the columns that are asked for. Without a choice every column is an axis, if the
+    header leaves no doubt of it: it has the names of places alone, or as many as there are axes by the box."""
+    records = read_records(path)
+    if not records:
+        return Table(path, [], [], [], [], [])
+    line, first = records[0]
+    columns = chosen_columns(path, line, first, asked, option) if asked else list(range(1, len(first) + 1))
+    has_header = is_header(first, columns) or not all(is_whole(word) for word in asked or [])
+    if not asked:
+        check_whole(path, line, first, axes, option, has_header)
+    called = {i: "%s (column %d)" % (field, i) if has_header and field else "column %d" % i
+              for i, field in enumerate(first, 1)}
+    left_out = [called[i] for i in called if i not in columns]
+    body = records[1:] if has_header else records
+    rows = [read_row(path, line, fields, columns) for line, fields in body]
+    return Table(path, columns, [called[i] for i in columns], left_out, rows, [line for line, _ in body])
+
+
+def read_records(path):
+    """The fields of each line that is not blank and no comment, with the number of the line."""
+    records = []
+    for line, text in house.read_lines(path):
+        if not text.strip() or text.lstrip().startswith("#"):
+            continue
+        try:
+            fields = next(csv.reader([text.strip()], skipinitialspace=True, strict=True))
+        except csv.Error:
+            raise Refused("%s: line %d: a quote is not closed or stands inside a field; put quotes around whole fields"
+                          % (path, line))
+        if records and len(fields) != len(records[0][1]):
+            raise Refused("%s: line %d: %d columns, but %d before; give every line the same columns"
+                          % (path, line, len(fields), len(records[0][1])))
+        records.append((line, [field.strip() for field in fields]))
+    return records
+
+
+def chosen_columns(path, line, first, asked, option):
+    """The columns, counted from 1, that are asked for by number or by name."""
+    columns = [one_column(path, line, first, word, option) for word in asked]
+    for column in columns:
+        if columns.count(column) > 1:
+            raise Refused("%s: %s=%s takes column %d twice; name each axis once"
+                          % (path, option, ",".join(asked), column))
+    return columns
+
+
+def one_column(path, line, first, word, option):
+    if is_whole(word):
+        if not 1 <= int(word) <= len(first):
+            raise Refused("%s: line %d: no column %s; %s takes 1 to %d" % (path, line, word, option, len(first)))
+        return int(word)
+    found = [i for i, field in enumerate(first, 1) if field == word]
+    if not found:
+        raise Refused("%s: line %d: no column is called %r; choose with %s from %s"
+                      % (path, line, word, option, ", ".join(first)))
+    if len(found) > 1:
+        raise Refused("%s: line %d: columns %s are all called %r; choose one with %s by its number"
+                      % (path, line, " and ".join(map(str, found)), word, option))
+    return found[0]
+
+
+def is_whole(word):
+    return re.fullmatch("[0-9]+", word) is not None
+
+
+def check_whole(path, line, first, axes, option, has_header):
+    """Without a choice: that every column may be taken for an axis."""
+    if has_header and len(first) != axes and not {name.lower() for name in first} <= PLACE_NAMES:
+        some = first[:max(1, min(3, len(first) - 1))]
+        raise Refused("%s: line %d: the header names %d columns (%s) and none was chosen; say which are the axes, "
+                      "as %s=%s" % (path, line, len(first), ", ".join(first), option, ",".join(some)))
+    if len(first) > 3:
+        raise Refused("%s: line %d: %d columns, but at most 3 axes; say which are the axes, as %s=1,2"
+                      % (path, line, len(first), option))
+
+
+def is_header(first, columns):
+    # a letter in front of every chosen field, and no NaN or Infinity, so that a spoilt first reading is not taken for one
+    fields = [first[column - 1] for column in columns]
+    return all(re.match(r"[^\W\d_]", field) and not NOT_FINITE.fullmatch(field) for field in fields)
+
+
+def read_row(path, line, fields, columns):
+    for column in columns:
+        if not NUMBER.fullmatch(fields[column - 1]):
+            raise Refused("%s: line %d: column %d: %r is not a number; mend the line or take it out (commas part the "
+                          "columns, a point the decimals)" % (path, line, column, fields[column - 1]))
+    return tuple(float(fields[column - 1]) for column in columns)

@@ -1,0 +1,207 @@
+"""make-survey: the samples, round trips, columns, the summary, and bad input."""
+
+import os
+import random
+import struct
+import subprocess
+
+import survey_file as house
+from common import SAMPLES, TOOLS, ToolTest
+
+# how each sample survey is made; samples/README.md says the same
+SURVEYS = {
+    "example": "example.csv --centre=4 --radius=4 --limit 1 --order 1",
+    "three-lines": "three-lines.csv --centre=32,32 --radius=32 --limit 2 --order 4",
+    "two-heights": "two-heights.csv two-heights-targets.csv "
+                   "--centre=32,32,32 --radius=32 --limit 3 --order 2 --keep-empty",
+}
+
+
+class MakeSurvey(ToolTest):
+    def test_samples(self):
+        self.copy_samples()
+        for name, arguments in SURVEYS.items():
+            self.done("make-survey", *arguments.split(), "-o", "out")
+            self.assertEqual(self.read("out"), self.read(name + ".survey"), name)
+
+    def test_as_a_command(self):
+        command = [os.path.join(TOOLS, "make-survey"), os.path.join(SAMPLES, "example.csv"), "-o", self.path("out")]
+        result = subprocess.run(command, capture_output=True, text=True)
+        self.assertEqual((result.returncode, result.stdout), (0, ""))
+        self.assertTrue(result.stderr.startswith("make-survey: "))
+        self.assertNotEqual(subprocess.run(command[:1], capture_output=True).returncode, 0)
+
+    def test_example_bytes(self):
+        self.copy_samples()
+        rows = struct.pack("<4d", 0.5, 1.5, 6.5, 7.5)
+        trailer = struct.pack("<IIIIddddIIII", 1, 0, 1, 1, 4.0, 0.0, 0.0, 4.0, 32, 4, 0, 0)
+        self.assertEqual(self.read("example.survey"), rows + trailer)
+
+    def test_round_trip(self):
+        """Any numbers in a survey come back from CSV to the same bytes, with the options that the CSV names."""
+        chance = random.Random(1)
+        for axes in (1, 2, 3):
+            # every exponent and sign; NaN is left out, since CSV has one NaN
+            numbers = [struct.unpack("<d", chance.randbytes(8))[0] for _ in range(3000)]
+            numbers = [x for x in numbers if x == x][:2400] + [-0.0, 5e-324, 0.1, 1e308, float("-inf"), 2.0 ** 53 + 2]
+            rows = [tuple(numbers[i:i + axes]) for i in range(0, 240 * axes, axes)]
+            rows.append(tuple(numbers[-axes:]))
+            survey = house.Survey(axes, axes == 2, 4294967295, 0, (-1e-3,) * axes, 0.3, rows[:200], rows[200:])
+            self.write("in", house.pack(survey))
+            self.done("make-survey", "--csv", "in", "-o", "s.csv", "-t", "t.csv")
+            options = self.read("s.csv").decode().split("\n")[0].lstrip("# ").split()
+            self.done("make-survey", "--as-is", "s.csv", "t.csv", *options, "-o", "again")
+            self.assertEqual(self.read("again"), self.read("in"))
+
+    def test_csv_forms(self):
+        self.write("plain.csv", "1,-2.5\n3,4e0\n")
+        self.write("odd.csv", "\ufeff# a note\r\n\r\n East , north\r\n +1.0 ,-25e-1\r\n  # more\r\n3., 4")
+        for name in ("plain", "odd"):
+            self.done("make-survey", name + ".csv", "-o", name)
+        self.assertEqual(self.read("plain"), self.read("odd"))
+
+    def test_columns(self):
+        """Any columns of a wide export, by name or number, in the order that is asked for."""
+        self.write("wide.csv", 'line,"when, UTC",easting,mag_nT,northing,note\n'
+                               '7,"09:10, dry",1,50000.5,-2.5,\n8,"09:11, wet",3,spoilt,4e0,"a ""hit"""\n')
+        self.write("bare.csv", "a,1,50000.5,-2.5\nb,3,,4\n")
+        self.write("plain.csv", "1,-2.5\n3,4\n")
+        self.write("turned.csv", "-2.5,1\n4,3\n")
+        for name in ("plain", "turned"):
+            self.done("make-survey", name + ".csv", "-o", name)
+        for name, columns in (("wide", "easting,northing"), ("wide", "3,5"), ("wide", "easting, 5"), ("bare", "2,4")):
+            self.done("make-survey", name + ".csv", "--columns", columns, "-o", "out")
+            self.assertEqual(self.read("out"), self.read("plain"), columns)
+        self.done("make-survey", "wide.csv", "--columns=northing,easting", "-o", "out")
+        self.assertEqual(self.read("out"), self.read("turned"))
+
+    def test_whole_header(self):
+        """Without a choice every column is an axis where the header leaves no doubt: places alone, or the box says."""
+        for header, options in (("Easting,NORTHING", []), ("a,b", ["--centre=0,0", "--radius=9"]), ("x,height", [])):
+            self.write("s.csv", header + "\n1,2\n3,5\n")
+            self.done("make-survey", "s.csv", "-o", "out", *options)
+            self.assertEqual(house.read_survey(self.path("out")).sources, [(1.0, 2.0), (3.0, 5.0)])
+
+    def test_summary(self):
+        self.write("s.csv", "line,easting,northing,mag_nT\n1,0,0,50000\n1,8,6,50001\n")
+        self.write("t.csv", "3,5\n")
+        told = self.done("make-survey", "s.csv", "t.csv", "--columns=easting,northing", "--target-columns=1,2",
+                         "--limit", "5", "--order", "4", "--keep-empty", "-o", "out").splitlines()
+        self.assertEqual(told, ["make-survey: " + line for line in (
+            "out: 2 sources, 1 target",
+            "s.csv: 2 axes: x is easting (column 2), y is northing (column 3); not read: line (column 1), mag_nT (column 4)",
+            "t.csv: 2 axes: x is column 1, y is column 2",
+            "box from the extents: centre 4.0,3.0, radius 4.001",
+            "limit 5, order 4, cells without sources kept")])
+
+    def test_unused_targets(self):
+        self.write("s.csv", "0\n8\n")
+        told = self.done("make-survey", "s.csv", "s.csv", "-o", "out").splitlines()[-1]
+        self.assertEqual(told, "make-survey: warning: no flag uses the 2 targets of s.csv, so no cell is split for them; "
+                               "give --keep-empty if it should be")
+        for options in (["s.csv", "--keep-empty"], ["--keep-empty"], []):
+            self.assertNotIn("warning", self.done("make-survey", "s.csv", *options, "-o", "out"))
+
+    def test_bad_columns(self):
+        self.write("s.csv", "easting,northing,mag_nT\n1,2,50000\n")
+        self.write("two.csv", "distance,mag_nT\n1,50000\n")
+        self.write("wide.csv", "a,b,b,d,e\n1,2,3,4,5\n")
+        self.write("t.csv", "x,y\n1,2\n")
+        names = "the header names %d columns (%s) and none was chosen; say which are the axes, as --columns=%s"
+        bad = {
+            "s.csv": "s.csv: line 1: " + names % (3, "easting, northing, mag_nT", "easting,northing"),
+            "s.csv --centre=0,0 --radius=9": names % (3, "easting, northing, mag_nT", "easting,northing"),
+            "two.csv": "two.csv: line 1: " + names % (2, "distance, mag_nT", "distance"),
+            "wide.csv": names % (5, "a, b, b, d, e", "a,b,b"),
+            "s.csv --columns=easting,north":
+                "no column is called 'north'; choose with --columns from easting, northing, mag_nT",
+            "s.csv --columns=1,4": "s.csv: line 1: no column 4; --columns takes 1 to 3",
+            "s.csv --columns=0,1": "s.csv: line 1: no column 0",
+            "s.csv --columns=1,easting": "--columns=1,easting takes column 1 twice; name each axis once",
+            "wide.csv --columns=a,b": "columns 2 and 3 are all called 'b'; choose one with --columns by its number",
+            "wide.csv --columns=1,2,3,4": "give one to three columns",
+            "wide.csv --columns=1,,2": "give one to three columns",
+            "s.csv t.csv --columns=easting,northing":
+                "t.csv: line 1: no column is called 'easting'; choose with --target-columns",
+            "s.csv t.csv --columns=easting": "t.csv: line 1: no column is called 'easting'",
+            "t.csv s.csv": "s.csv: line 1: the header names 3 columns",
+            "t.csv wide.csv --target-columns=1,2,4": "wide.csv: 3 axes, but t.csv has 2; make them agree",
+            "t.csv --target-columns=1,2": "--target-columns goes with TARGETS.csv",
+            "--csv t.csv --columns=1,2": "go with SOURCES.csv, not with --csv",
+            "t.csv --columns=1,2 --centre=0 --radius=9": "--centre: 1 axis, but t.csv has 2",
+            "t.csv --centre=0,a --radius=9": "--centre: 'a' is not a number; write one to three with commas between",
+        }
+        for arguments, message in bad.items():
+            self.refused(message, "make-survey", *arguments.split(), "-o", "out")
+
+    def test_box_from_extents(self):
+        self.write("s.csv", "-0.5,10\n3.25,10.5\n")
+        self.write("t.csv", "2,-7.25\n")
+        self.done("make-survey", "s.csv", "t.csv", "-o", "out")
+        survey = house.read_survey(self.path("out"))
+        # lows -0.5, -7.25; highs 3.25, 10.5
+        self.assertEqual((survey.centre, survey.radius), ((1.5, 1.5), 9.5 + 1e-3))
+        self.assertEqual((survey.sources, survey.targets), ([(-0.5, 10.0), (3.25, 10.5)], [(2.0, -7.25)]))
+
+    def test_largest(self):
+        self.write("s.csv", "1\n" * 4088)
+        self.write("more.csv", "1\n" * 4089)
+        self.done("make-survey", "s.csv", "-o", "full", "--centre=1", "--radius=1")
+        self.assertEqual(len(self.read("full")), 32768)
+        self.refused("more.csv: 4089 rows make 32776 bytes; a survey file has at most 32768, which is 4088 rows",
+                     "make-survey", "more.csv", "-o", "out", "--centre=1", "--radius=1")
+
+    def test_no_rows(self):
+        self.write("s.csv", "x,y\n")
+        self.done("make-survey", "s.csv", "-o", "empty", "--centre=0,0", "--radius=1")
+        self.assertEqual(len(self.read("empty")), 64)
+        self.refused("s.csv: no rows", "make-survey", "s.csv", "-o", "out")
+
+    def test_bad_csv(self):
+        bad = {
+            "1,2\n3,x\n": "s.csv: line 2: column 2: 'x' is not a number",
+            "x,y\n1,2\n\n3\n": "s.csv: line 4: 1 columns, but 2 before",
+            "1,2,3,4\n": "s.csv: line 1: 4 columns, but at most 3 axes; say which are the axes, as --columns=1,2",
+            '1,2\n"3,4\n': "s.csv: line 2: a quote is not closed",
+            "1;2\n3;4\n": "s.csv: line 1: column 1: '1;2' is not a number",
+            "NaN,NaN\n1,2\n": "s.csv: line 1: column 1: 'NaN' is not a number",
+            "1,2\n2,1e999\n": "s.csv: line 2: a number that is not finite",
+            "1,2\n1_0,2\n": "s.csv: line 2: column 1: '1_0' is not a number",
+            "1,2\n# a note\n3,\n": "s.csv: line 3: column 2: '' is not a number",
+            b"1,2\n\xff\n": "s.csv: line 2: not UTF-8 text",
+            "x,y\ny,x\n": "s.csv: line 2: column 1: 'y' is not a number",
+            "1,1\n": "s.csv: the box from the extents is outside its domain: radius 0.001",
+        }
+        for content, message in bad.items():
+            self.write("s.csv", content)
+            self.refused(message, "make-survey", "s.csv", "-o", "out")
+        self.refused("none.csv: No such file", "make-survey", "none.csv", "-o", "out")
+
+    def test_refused_as_the_program_would(self):
+        self.write("s.csv", "x\n1\n\n2\n8\n")
+        self.write("t.csv", "4\n-1e-300\n")
+        self.write("wide.csv", "1,2\n")
+        box = ["--centre=4", "--radius=4", "-o", "out"]
+        self.refused("s.csv: line 5: 8.0 is outside the box", "make-survey", "s.csv", *box)
+        self.refused("t.csv: line 2: -1e-300 is outside", "make-survey", "t.csv", *box)
+        self.refused("wide.csv: 2 axes, but t.csv has 1", "make-survey", "t.csv", "wide.csv", *box)
+        self.refused("--order 65 is not from 1 to 64", "make-survey", "s.csv", "-o", "out", "--order", "65")
+        self.refused("radius 0.2 is not from", "make-survey", "s.csv", "--centre=4", "--radius=0.2", "-o", "out")
+        self.refused("--limit: '-1' is not a whole number", "make-survey", "s.csv", "--limit=-1", "-o", "out")
+        self.done("make-survey", "--as-is", "s.csv", *box)
+
+    def test_bad_survey(self):
+        good = house.pack(house.Survey(1, False, 1, 1, (4.0,), 4.0, [(1.0,)], [(2.0,)]))
+        bad = {
+            good[-63:]: "in: 63 bytes, but a survey file has 64 to 32768",
+            bytes(32769): "in: 32769 bytes",
+            good[:16] + struct.pack("<I", 4) + good[20:]: "in: trailer: 4 axes",
+            good[:20] + struct.pack("<I", 2) + good[24:]: "in: trailer: flags are 2",
+            good[:68] + struct.pack("<I", 2) + good[72:]: "in: trailer: 2 sources and 1 targets of 1 axes do not fill",
+            good[:64] + struct.pack("<I", 8) + good[68:]: "in: trailer: the ways back are 8 and 8, but",
+        }
+        for content, message in bad.items():
+            self.write("in", content)
+            self.refused(message, "make-survey", "--csv", "in", "-o", "out", "-t", "t")
+        self.write("in", good)
+        self.refused("in: has 1 targets; name a file", "make-survey", "--csv", "in", "-o", "out")
