@@ -43,8 +43,32 @@ class Listing:
                 return node
         return None
 
+    def rows_of(self, leaf):
+        """The rows that bring a leaf its sources, as level and keys: U first, then V of the leaf and its ancestors."""
+        around = [self.by_key[key] for key in house.ancestors(self.axes, leaf.key)]
+        return [(house.level_of(leaf.key), leaf.near)] + [(house.level_of(node.key), node.far) for node in around]
+
+    def meets_once(self, leaf):
+        """Whether a leaf's rows hold each source exactly once: no cell of them lies in another, and none is missing."""
+        listed = [key for _, row in self.rows_of(leaf) for key in row if self.held[key]]
+        cells = set(listed)
+        apart = all(cells.isdisjoint(house.ancestors(self.axes, key)[1:]) for key in listed)
+        return len(cells) == len(listed) and apart and sum(self.held[key] for key in listed) == len(self.source_keys)
+
+    def leaves_at_fault(self):
+        return [node for node in self.nodes if node.is_leaf and node.number > 0 and not self.meets_once(node)]
+
 
 def read_listing(path, survey, survey_name):
+    """The listing at a path, held against its survey."""
+    check_survey(survey, survey_name)
+    try:
+        return checked_listing(path, survey, survey_name)
+    except Refused as refused:
+        raise Refused("%s; make the listing anew with ./listing %s" % (refused, survey_name))
+
+
+def checked_listing(path, survey, survey_name):
     lines = [(line, text.rstrip("\r")) for line, text in house.read_lines(path)]
     if lines[-1][1] == "":
         lines.pop()
@@ -60,7 +84,7 @@ def read_listing(path, survey, survey_name):
     if depth != deepest:
         raise Refused("%s: line 1: depth %d, but the deepest node has level %d" % (path, depth, deepest))
     check_rows(path, nodes, by_key)
-    keys = source_keys(survey, survey_name)
+    keys = source_keys(survey)
     held = Counter(around for key in keys for around in house.ancestors(axes, key))
     listing = Listing(axes, depth, near_work, nodes, by_key, keys, held)
     check_sources(path, listing, survey_name)
@@ -120,14 +144,19 @@ def check_rows(path, nodes, by_key):
                 raise Refused("%s: line %d: key %d in the U row is no leaf" % (path, i + 2, key))
 
 
-def source_keys(survey, survey_name):
+def source_keys(survey):
+    return [house.point_key(survey.centre, survey.radius, source) for source in survey.sources]
+
+
+def check_survey(survey, survey_name):
+    """That the survey's box and sources are such as the listing program takes."""
     fault = house.box_fault(survey.centre, survey.radius)
     if fault:
-        raise Refused("%s: the box is outside its domain: %s" % (survey_name, fault))
-    keys = [house.point_key(survey.centre, survey.radius, source) for source in survey.sources]
+        raise Refused("%s: the box is outside its domain: %s; make the file anew with another box" % (survey_name, fault))
+    keys = source_keys(survey)
     if None in keys:
-        raise Refused("%s: source %d is outside the box" % (survey_name, keys.index(None)))
-    return keys
+        raise Refused("%s: source %d is outside the box; make the file anew with a larger box"
+                      % (survey_name, keys.index(None)))
 
 
 def check_sources(path, listing, survey_name):

@@ -1,6 +1,8 @@
 """What stands where on the page: the views of one, two and three axes, and the shapes they are drawn with."""
 
+import heapq
 import math
+import statistics
 from xml.sax.saxutils import escape, quoteattr
 
 import survey_file as house
@@ -9,6 +11,9 @@ import survey_file as house
 PLOT, LEFT, TOP, ROW = 640, 112, 84, 38
 LEGEND = LEFT + PLOT + 34
 PAGE_WIDTH = LEGEND + 400
+# A mark's radius where there is room, the least one that has an outline, the least one, and a radius as part of the way
+# from reading to reading
+MARK, OUTLINED_MARK, LEAST_MARK, MARK_PART = 3.6, 1.4, 0.9, 0.42
 
 # Orange and yellow against blues of different lightness, which the usual kinds of colour blindness leave apart
 UNSTORED, PLAIN, LINE = "url(#hatch)", "#ffffff", "#8c8c8c"
@@ -29,8 +34,8 @@ def along(survey, axis, coordinate):
 class Plan:
     """Two axes across and up the page, the third one cut at a coordinate."""
 
-    def __init__(self, survey, axes, cut_axis=None, cut=None):
-        self.survey, self.axes, self.cut_axis, self.cut = survey, axes, cut_axis, cut
+    def __init__(self, survey, axes, cut_axis=None, cut=None, source=None):
+        self.survey, self.axes, self.cut_axis, self.cut, self.source = survey, axes, cut_axis, cut, source
         self.ground = self.height = PLOT
         if cut_axis is not None:
             self.anchor = house.axis_anchor(survey.centre[cut_axis], survey.radius, cut)
@@ -47,6 +52,9 @@ class Plan:
         side = PLOT / 2 ** level
         across, up = (anchors[axis] for axis in self.axes)
         return LEFT + side * across, TOP + PLOT - side * (up + 1), side, side
+
+    def strip(self):
+        return []
 
     def spot(self, row):
         across, up = (along(self.survey, axis, row[axis]) for axis in self.axes)
@@ -68,6 +76,10 @@ class Rows:
         level = house.level_of(key)
         side = PLOT / 2 ** level
         return LEFT + side * house.anchors_of(1, key)[0], TOP + ROW * level, side, ROW
+
+    def strip(self):
+        """What lies under the readings, grey, so that black and white marks are seen on it."""
+        return [box((LEFT, TOP + self.ground + 4, PLOT, 20), fill="#c4ccd4")]
 
     def spot(self, row):
         return LEFT + PLOT * along(self.survey, 0, row[0]), TOP + self.height - 14
@@ -97,16 +109,43 @@ def words(x, y, text, size=13, **attributes):
     return tag("text", escape(text), x=float(x), y=float(y), font_size=size, **attributes)
 
 
-def mark(kind, spot, **attributes):
+def mark(kind, spot, radius=MARK, **attributes):
     x, y = (float(part) for part in spot)
     if kind == "fault":
-        cross = "M %.2f %.2f l 12 12 m 0 -12 l -12 12" % (x - 6, y - 6)
-        return tag("path", d=cross, class_=kind, stroke=FAULT, stroke_width=3, fill="none", **attributes)
+        arm = max(3.0, 1.7 * radius)
+        cross = "M %.2f %.2f l %.2f %.2f m 0 %.2f l %.2f %.2f" % (
+            x - arm, y - arm, 2 * arm, 2 * arm, -2 * arm, -2 * arm, 2 * arm)
+        return tag("path", d=cross, class_=kind, stroke=FAULT, stroke_width=arm / 2, fill="none", **attributes)
     if kind == "target":
         plus = "M %.2f %.2f h 6 m -3 -3 v 6" % (x - 3, y)
         return tag("path", d=plus, class_=kind, stroke="#555555", stroke_width=1, fill="none", **attributes)
     fill, stroke = ("#ffffff", "#000000") if kind == "grouped" else ("#000000", "#ffffff")
-    return tag("circle", cx=x, cy=y, r=3.6, class_=kind, fill=fill, stroke=stroke, stroke_width=1.3, **attributes)
+    # small marks run together: without outlines they stay black or white
+    line = 0.36 * radius if radius >= OUTLINED_MARK else 0
+    return tag("circle", cx=x, cy=y, r=radius, class_=kind, fill=fill, stroke=stroke, stroke_width=line, **attributes)
+
+
+def mark_radii(spots):
+    """A radius for each mark, smaller where readings are dense, so that neighbours on a line do not cover each other.
+    What counts is how far the readings around are from their second nearest, in the middle of the order: one that was
+    taken twice does not shrink its mark."""
+    reach = MARK / MARK_PART
+    places = [(math.floor(x / reach), math.floor(y / reach)) for x, y in spots]
+    patches = {}
+    for i, place in enumerate(places):
+        patches.setdefault(place, []).append(i)
+    around = {(across, up): [i for a in (-1, 0, 1) for b in (-1, 0, 1) for i in patches.get((across + a, up + b), [])]
+              for across, up in patches}
+    # the nearest to a reading is the reading itself
+    ways = [(heapq.nsmallest(3, (math.dist(spot, spots[i]) for i in around[place])) + [reach] * 2)[2]
+            for spot, place in zip(spots, places)]
+    middle = {place: statistics.median(ways[i] for i in some) for place, some in around.items()}
+    return [max(LEAST_MARK, MARK * min(1, middle[place] / reach)) for place in places]
+
+
+def line_width(rect, most):
+    """The width of a cell's outline, at most so much, and thinner around a small cell."""
+    return min(most, max(0.1, min(rect[2], rect[3]) / 8))
 
 
 def far_colour(place, count):

@@ -4,8 +4,9 @@ import os
 from collections import Counter
 
 import survey_file as house
-from page import (CHOSEN, HATCH, LEFT, LEGEND, LINE, NEAR, PAGE_WIDTH, PLAIN, PLOT, ROW, TOP, UNSTORED, across_tick,
-                  along, box, far_colour, ink_on, mark, sample_mark, swatch, tag, ticks, up_tick, words)
+from page import (CHOSEN, HATCH, LEFT, LEGEND, LINE, MARK, NEAR, PAGE_WIDTH, PLAIN, PLOT, ROW, TOP, UNSTORED, across_tick,
+                  along, box, far_colour, ink_on, line_width, mark, mark_radii, sample_mark, swatch, tag, ticks, up_tick,
+                  words)
 
 
 class Picture:
@@ -13,12 +14,14 @@ class Picture:
 
     def __init__(self, names, survey, listing, leaf, view):
         self.names, self.survey, self.listing, self.leaf, self.view = names, survey, listing, leaf, view
-        self.far = far_rows(listing, leaf) if leaf else []
+        # the V rows that are not empty, the leaf's own first
+        self.far = [(level, row) for level, row in listing.rows_of(leaf)[1:] if row] if leaf else []
         self.colours = {level: far_colour(i, len(self.far)) for i, (level, _) in enumerate(self.far)}
         self.kinds = [self.kind(key) for key in listing.source_keys]
         self.marks = Counter(self.kinds)
         self.shown = [i for i, key in enumerate(listing.source_keys) if view.rect(listing.leaf_at(key).key)]
         self.spots = [view.spot(survey.sources[i]) for i in self.shown]
+        self.radii = mark_radii(self.spots)
         self.targets = [row for row in survey.targets if names.targets and self.cuts(row)]
 
     def kind(self, source_key):
@@ -71,7 +74,8 @@ class Picture:
             if rect and self.view.shows(node):
                 hint = "node %d, key %d, level %d: %d readings" % (
                     node.number, node.key, house.level_of(node.key), self.listing.held[node.key])
-                shapes.append(box(rect, class_="cell", fill=PLAIN, stroke=LINE, stroke_width=0.8, hint=hint))
+                shapes.append(box(rect, class_="cell", fill=PLAIN, stroke=LINE, stroke_width=line_width(rect, 0.8),
+                                  hint=hint))
         return shapes
 
     def listed_cells(self):
@@ -83,7 +87,8 @@ class Picture:
         for key in self.leaf.near if self.leaf else []:
             shapes += self.listed("near", key, "U", NEAR)
         inside = [self.view.rect(node.key) for node in self.listing.nodes if self.view.shows(node) and self.far]
-        return shapes + [box(rect, fill="none", stroke="#333333", stroke_width=0.4) for rect in inside if rect]
+        return shapes + [box(rect, fill="none", stroke="#333333", stroke_width=line_width(rect, 0.4))
+                         for rect in inside if rect]
 
     def listed(self, kind, key, name, colour):
         rect = self.view.rect(key)
@@ -92,7 +97,8 @@ class Picture:
         node = self.listing.by_key[key]
         hint = "%s: node %d, key %d, level %d: %d readings" % (
             name, node.number, key, house.level_of(key), self.listing.held[key])
-        shape = box(rect, class_=kind, data_key=key, fill=colour, stroke="#333333", stroke_width=1.2, hint=hint)
+        shape = box(rect, class_=kind, data_key=key, fill=colour, stroke="#333333", stroke_width=line_width(rect, 1.2),
+                    hint=hint)
         return [shape] + self.name_in(rect, name, ink_on(colour))
 
     def name_in(self, rect, name, ink):
@@ -110,7 +116,7 @@ class Picture:
         rect = self.view.rect(self.leaf.key) if self.leaf else None
         if not rect:
             return []
-        shapes = [box(rect, class_="chosen", fill=CHOSEN, stroke="#000000", stroke_width=3.5,
+        shapes = [box(rect, class_="chosen", fill=CHOSEN, stroke="#000000", stroke_width=2 * line_width(rect, 1.75),
                       hint="the chosen leaf, node %d, key %d" % (self.leaf.number, self.leaf.key))]
         return shapes + self.ring(rect)
 
@@ -123,10 +129,14 @@ class Picture:
         return [tag("circle", **middle, r=13, fill="none", stroke="#000000", stroke_width=3.5)]
 
     def points(self):
-        shapes = [mark("target", self.view.spot(row)) for row in self.targets]
-        for i, spot in zip(self.shown, self.spots):
-            hint = "source %d: %s" % (i, ", ".join("%r" % x for x in self.survey.sources[i]))
-            shapes.append(mark(self.kinds[i], spot, hint=hint))
+        """The marks, those in groups first, so that none of them covers a reading that is summed singly or wrongly."""
+        shapes = self.view.strip() + [mark("target", self.view.spot(row)) for row in self.targets]
+        placed = list(zip(self.shown, self.spots, self.radii))
+        for kind in ("grouped", "single", "fault"):
+            for i, spot, radius in placed:
+                if self.kinds[i] == kind:
+                    hint = "source %d: %s" % (i, ", ".join("%r" % x for x in self.survey.sources[i]))
+                    shapes.append(mark(kind, spot, radius, hint=hint))
         return shapes
 
     def cuts(self, row):
@@ -152,7 +162,8 @@ class Picture:
     def slice_entry(self):
         if self.view.cut_axis is None:
             return []
-        return [(None, ["Slice at %s = %r:" % (house.AXIS_NAMES[self.view.cut_axis], self.view.cut),
+        through = ", through source %d" % self.view.source if self.view.source is not None else ""
+        return [(None, ["Slice at %s = %r%s:" % (house.AXIS_NAMES[self.view.cut_axis], self.view.cut, through),
                         "the cells that it cuts, and the readings", "in the leaves among them"])]
 
     def row_entries(self):
@@ -196,18 +207,14 @@ class Picture:
         here = Counter(self.kinds[i] for i in self.shown)
         entries = [(sample_mark(kind), ["%s: %d%s" % (name, self.marks[kind], self.in_slice(here[kind]))])
                    for kind, name in names.items() if self.marks[kind]]
+        if any(radius < 0.9 * MARK for radius in self.radii):
+            entries.append((None, ["(marks are smaller where readings are dense)"]))
         if self.names.targets:
             entries.append((sample_mark("target"), ["target in a leaf drawn here: %d" % len(self.targets)]))
         return entries
 
     def in_slice(self, count):
         return " (%d in the slice)" % count if self.view.cut_axis is not None else ""
-
-
-def far_rows(listing, leaf):
-    """The V rows of a leaf and its ancestors that are not empty, as level and keys, the leaf's own first."""
-    nodes = [listing.by_key[key] for key in house.ancestors(listing.axes, leaf.key)]
-    return [(house.level_of(node.key), node.far) for node in nodes if node.far]
 
 
 def some(count, name):

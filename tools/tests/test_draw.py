@@ -1,0 +1,186 @@
+"""draw: the samples, each leaf's rows, slices, marks, listings with a fault, and bad input."""
+
+import math
+import re
+import xml.etree.ElementTree as xml
+from collections import Counter
+from types import SimpleNamespace
+
+import survey_file as house
+from common import ToolTest
+from listing_file import read_listing
+from page import MARK, Plan, Rows, mark_radii
+from picture import Picture
+
+# how each sample picture is made; samples/README.md says the same
+PICTURES = {"example": "--leaf 6", "three-lines": "--leaf 46", "two-heights": "--at=20,30,8 --slice z --targets"}
+
+
+class Draw(ToolTest):
+    def setUp(self):
+        super().setUp()
+        self.copy_samples()
+
+    def draw(self, name, *arguments):
+        """The picture as a list of elements."""
+        told = self.done("draw", name + ".survey", name + ".listing", "-o", "picture", *arguments)
+        self.assertEqual(told, "")
+        return list(xml.fromstring(self.read("picture")).iter())
+
+    def pictures(self, name, number, views):
+        """The same without a process for each picture: one leaf in several views."""
+        survey = house.read_survey(self.path(name + ".survey"))
+        listing = read_listing(self.path(name + ".listing"), survey, name)
+        names = SimpleNamespace(survey=name, targets=False)
+        texts = [Picture(names, survey, listing, listing.nodes[number], view(survey)).text() for view in views]
+        return [list(xml.fromstring(text).iter()) for text in texts]
+
+    def listing(self, name):
+        """Key, own sources, U row and V row of each node, read without the tools."""
+        nodes = []
+        for line in self.read(name + ".listing").decode().splitlines()[1:]:
+            front, far = line.split(" V")
+            front, near = front.split(" U")
+            _, key, own = map(int, front.split())
+            nodes.append((key, own, [int(key) for key in near.split()], [int(key) for key in far.split()]))
+        return nodes
+
+    def test_samples(self):
+        for name, arguments in PICTURES.items():
+            self.draw(name, *arguments.split())
+            self.assertEqual(self.read("picture"), self.read(name + ".svg"), name)
+
+    def test_rows_of_every_leaf(self):
+        """One and two axes: exactly the cells of the leaf's rows are coloured, and all readings are marked by them."""
+        views = {1: lambda survey: Rows(survey, 3), 2: lambda survey: Plan(survey, [0, 1])}
+        for name, axes in (("example", 1), ("three-lines", 2)):
+            nodes = self.listing(name)
+            by_key = {node[0]: node for node in nodes}
+            for number, (key, own, near, _) in enumerate(nodes):
+                if not own:
+                    continue
+                shapes, = self.pictures(name, number, [views[axes]])
+                far = [cell for around in house.ancestors(axes, key) for cell in by_key[around][3]]
+                self.assertEqual(sorted(drawn(shapes, "near")), sorted(near))
+                self.assertEqual(sorted(drawn(shapes, "far")), sorted(far))
+                singly = sum(by_key[cell][1] for cell in near)
+                total = sum(node[1] for node in nodes)
+                marks = Counter(shape.get("class") for shape in shapes if shape.tag.endswith("circle"))
+                # the legend has one of each kind
+                self.assertEqual((marks["single"] - 1, marks["grouped"] - 1), (singly, total - singly))
+
+    def test_slices(self):
+        """Three axes: slices through the middle of every layer of finest cells show each listed cell at some place."""
+        nodes = self.listing("two-heights")
+        by_key = {node[0]: node for node in nodes}
+        key = nodes[55][0]
+        far = {cell for around in house.ancestors(3, key) for cell in by_key[around][3]}
+        for axis, others in enumerate(([1, 2], [0, 2], [0, 1])):
+            views = [lambda survey, c=c: Plan(survey, others, axis, c) for c in range(4, 64, 8)]
+            pictures = self.pictures("two-heights", 55, views)
+            self.assertEqual(set().union(*(drawn(shapes, "near") for shapes in pictures)), set(nodes[55][2]))
+            self.assertEqual(set().union(*(drawn(shapes, "far") for shapes in pictures)), far)
+
+    def test_slice_place(self):
+        survey = house.read_survey(self.path("two-heights.survey"))
+        low, high = house.cell_bounds(survey, self.listing("two-heights")[55][0])
+        inside = self.draw("two-heights", "--leaf", "55", "--slice", "x=%r" % (low[0] + 0.1))
+        outside = self.draw("two-heights", "--leaf", "55", "--slice", "x=%r" % (high[0] + 0.1))
+        chosen = [[s for s in shapes if s.get("class") == "chosen"] for shapes in (inside, outside)]
+        self.assertEqual([len(shapes) for shapes in chosen], [1, 0])
+
+    def test_choices_agree(self):
+        key = self.listing("three-lines")[46][0]
+        self.draw("three-lines", "--leaf", "46")
+        first = self.read("picture")
+        for choice in ("--key=%d" % key, "--at=38,30"):
+            self.draw("three-lines", choice)
+            self.assertEqual(self.read("picture"), first)
+
+    def test_lost_reading(self):
+        """A listing that leaves a cell out of a row, or has one twice, is drawn with its readings crossed out, and ends
+        with a sentence and status 1; it ends so too if another leaf or none is chosen."""
+        text = self.read("example.listing").decode()
+        self.write("lost", text.replace("U V 98306", "U V"))
+        self.write("twice", text.replace("6 32771 1 U 3 32771 V", "6 32771 1 U 3 32771 V 98306"))
+        end = (" not at all or more than once, as %d of its leaves do; "
+               "make the listing anew with ./listing example.survey, and report it if that one is the same\n")
+        which = {("lost", "--leaf=6"): "leaf 6 meets 2 readings" + end % 2,
+                 ("twice", "--leaf=6"): "leaf 6 meets 2 readings" + end % 1,
+                 ("lost", "--leaf=7"): "leaf 5 (see it with --leaf 5) meets readings" + end % 2,
+                 ("twice", ""): "leaf 6 (see it with --leaf 6) meets readings" + end % 1}
+        for (name, choice), sentence in which.items():
+            result = self.run_tool("draw", "example.survey", name, *choice.split(), "-o", "picture")
+            self.assertEqual((result.returncode, result.stderr), (1, "draw: %s: %s" % (name, sentence)))
+            shapes = list(xml.fromstring(self.read("picture")).iter())
+            # two readings and the legend
+            crossed = 3 if "6" in choice else 0
+            self.assertEqual(len([s for s in shapes if s.get("class") == "fault"]), crossed)
+
+    def test_marks(self):
+        """Marks keep their size where there is room, also beside a reading taken twice; on a dense line they do not
+        cover each other."""
+        self.assertEqual(mark_radii([(100 + 20 * i, 50) for i in range(30)] + [(100.5, 50)]), [MARK] * 31)
+        line = [(100 + 3 * i + 0.2 * math.sin(i), 200 + math.cos(i)) for i in range(200)]
+        radii = mark_radii(line + [(500 + 30 * i, 600) for i in range(5)])
+        self.assertEqual(radii[200:], [MARK] * 5)
+        for i in range(199):
+            self.assertLess(radii[i] + radii[i + 1], math.dist(line[i], line[i + 1]))
+        self.assertEqual(mark_radii([]), [])
+
+    def test_default_slice(self):
+        """Three axes: without a coordinate the slice goes through a reading, and cuts the chosen leaf."""
+        heights = [row[2] for row in house.read_survey(self.path("two-heights.survey")).sources]
+        leaves = [number for number, node in enumerate(self.listing("two-heights")) if node[1]]
+        for choice in [[]] + [["--leaf", str(number)] for number in leaves[::6]]:
+            shapes = self.draw("two-heights", *choice)
+            told = [s.text for s in shapes if (s.text or "").startswith("Slice at")][0]
+            height, source = re.fullmatch("Slice at z = (.*), through source (.*):", told).groups()
+            self.assertEqual(float(height), heights[int(source)])
+            self.assertEqual(len([s for s in shapes if s.get("class") == "chosen"]), len(choice) // 2)
+
+    def test_bad_listing(self):
+        text = self.read("example.listing").decode()
+        bad = {
+            "": "in: empty",
+            "refused 6 3\n": "in: line 1: the program refused the survey (refused 6 3)",
+            "tree 1 9 3 4\n": "in: line 1: not 'tree' and five numbers",
+            text.replace("tree 1", "tree 2"): "in: line 1: 2 axes, but example.survey has 1",
+            text.replace("3 4 8", "3 5 8"): "in: line 1: 5 sources, but example.survey has 4",
+            text.replace("tree 1 9", "tree 1 8"): "in: line 1: 8 nodes, but 9 lines follow",
+            text.replace("4 98306 0 U", "4 98306 0 W"): "in: line 6: not number, key, own sources, U keys, V keys",
+            text.replace("5 3 1", "6 3 1"): "in: line 7: node number 6, not 5",
+            text.replace("U 3 32771", "U 3  32771"): "in: line 7: not number",
+            text.replace("2 32769 0", "2 65537 0"): "in: line 4: 65537 is no key of 1 axes",
+            text.replace("2 32769 0", "2 1 0"): "in: line 4: key 1 is not in the order",
+            text.replace("V 98306", "V 65538"): "in: line 5: key 65538 in a row is not listed",
+            text.replace("3 2 0 U", "3 2 0 U 3"): "in: line 5: a U row, but node 3 is no leaf",
+            text.replace("5 3 1 U 3", "5 3 1 U 2"): "in: line 7: key 2 in the U row is no leaf",
+            text.replace("tree 1 9 3", "tree 1 9 4"): "in: line 1: depth 4, but the deepest node has level 3",
+            text.replace("8 229379 1", "8 163843 1"): "in: line 10: key 163843 is not in the order",
+            text.replace("3 2 0", "3 32770 0"): "in: line 7: the parent of key 3 is not listed",
+            text.replace("5 3 1", "5 3 2"): "in: line 7: 2 own sources, but 1 of example.survey lie there",
+        }
+        for content, message in bad.items():
+            self.write("in", content)
+            self.refused(message, "draw", "example.survey", "in", "-o", "out")
+
+    def test_bad_choice(self):
+        bad = {
+            "--leaf 9": "--leaf 9: example.listing has no such node",
+            "--leaf 3": "--leaf 3: node 3 of example.listing is no leaf",
+            "--key 5": "--key 5: example.listing has no such node",
+            "--at=8": "--at=8.0: outside the box of example.survey",
+            "--at=4": "--at=4.0: no leaf of example.listing holds it",
+            "--at=1,2": "--at=1.0,2.0: example.survey has 1 axes",
+            "--slice z=1": "--slice: example.survey has 1 axes, not 3",
+            "--slice w": "the axis is x, y or z",
+        }
+        for arguments, message in bad.items():
+            self.refused(message, "draw", "example.survey", "example.listing", *arguments.split(), "-o", "out")
+        self.refused("--slice: z = 64.0 is outside the box of two-heights.survey",
+                     "draw", "two-heights.survey", "two-heights.listing", "--slice", "z=64", "-o", "out")
+
+
+def drawn(shapes, kind):
+    return [int(shape.get("data-key")) for shape in shapes if shape.get("class") == kind]
