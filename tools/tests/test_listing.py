@@ -83,19 +83,25 @@ cp ../program target/bin/listing
         self.assertEqual(self.run_listing("house/listing --version")[1], self.read("house/VERSION").decode())
 
     def test_refused(self):
-        """The program's line stays, and a sentence follows on standard error; every refusal has one."""
+        """The program's line stays, and a sentence follows on standard error."""
         room = " keys, which is all that the program has room for; make the file anew with a larger --limit"
         starts = {"15 0": "this is no survey file:", "6 7": "source 7, counted from 0, is outside", "7 12": "target 12,",
-                  "2 0": "the box is outside", "5 0": "the order is not", "8 3": "the tree has more than 2048 nodes",
-                  "8 6": "the U rows have more than 8192" + room, "8 7": "the V rows have more than 8192" + room,
-                  "99 1": "docs/REFUSALS.md says why"}
-        every = ["%d 0" % number for number in range(1, 16)] + ["8 %d" % value for value in range(1, 10)]
-        for figures in list(starts) + every:
+                  "1 0": "the file says a number of axes", "2 0": "the box is outside", "5 0": "the order is not",
+                  "8 3": "the tree has more than 2048 nodes", "8 6": "the U rows have more than 8192" + room,
+                  "8 7": "the V rows have more than 8192" + room, "99 1": "docs/REFUSALS.md says why\n"}
+        for figures, start in starts.items():
             self.program("refused %s\n" % figures)
             status, out, error = self.run_listing("house/listing survey")
             self.assertEqual((status, out), (1, "refused %s\n" % figures))
-            self.assertTrue(error.startswith("listing: survey is refused: " + starts.get(figures, "")), error)
-            self.assertEqual((error.count("\n"), "REFUSALS" in error), (1, figures == "99 1"), error)
+            self.assertTrue(error.startswith("listing: survey is refused: " + start), error)
+            self.assertEqual(error.count("\n"), 1, error)
+
+    def test_sentences(self):
+        """Every refusal has a sentence for any value, with its cure behind a semicolon."""
+        lines = [line for line in self.read("house/tools/refusals.txt").decode().splitlines() if not line.startswith("#")]
+        for line in lines:
+            self.assertRegex(line, r"^[0-9]+ ([0-9]+|\*) [^;]+; [^;]+\.$")
+        self.assertEqual([int(line.split()[0]) for line in lines if line.split()[1] == "*"], list(range(1, 16)))
 
     def test_first_run(self):
         """While it proves it tells the crates and the log; then no more, until a crate is changed."""
