@@ -1,6 +1,7 @@
 """What the tools share: the house survey file, the box, a point's cell and the keys, as docs/RULES.md has them."""
 
 import math
+import os
 import struct
 from dataclasses import dataclass
 
@@ -41,6 +42,13 @@ def write_bytes(path, data):
             file.write(data)
     except OSError as error:
         raise Refused("%s: %s" % (path, error.strerror))
+
+
+def check_apart(out, others):
+    """That a file to be written is none of the others."""
+    for other in others:
+        if out and other and os.path.realpath(out) == os.path.realpath(other):
+            raise Refused("%s: would be written over %s; name another file" % (out, other))
 
 
 def read_lines(path):

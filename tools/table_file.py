@@ -26,7 +26,7 @@ class Table:
 
 def read_table(path, asked, axes, option):
     """The rows of a CSV file, with the columns that are asked for. Without a choice every column is an axis, if the
-    header leaves no doubt of it: it has the names of places alone, or as many as there are axes by the box."""
+    header leaves no doubt of it: one name, names of places alone, or as many as there are axes by the box."""
     records = read_records(path)
     if not records:
         return Table(path, [], [], [], [], [])
@@ -54,6 +54,9 @@ def read_records(path):
         except csv.Error:
             raise Refused("%s: line %d: a quote is not closed or stands inside a field; put quotes around whole fields"
                           % (path, line))
+        for other, name in ((";", "semicolons"), ("\t", "tabs")):
+            if len(fields) == 1 and other in fields[0]:
+                raise Refused("%s: line %d: %s part the columns; save the file with commas" % (path, line, name))
         if records and len(fields) != len(records[0][1]):
             raise Refused("%s: line %d: %d columns, but %d before; give every line the same columns"
                           % (path, line, len(fields), len(records[0][1])))
@@ -92,8 +95,8 @@ def is_whole(word):
 
 def check_whole(path, line, first, axes, option, has_header):
     """Without a choice: that every column may be taken for an axis."""
-    if has_header and len(first) != axes and not {name.lower() for name in first} <= PLACE_NAMES:
-        some = first[:max(1, min(3, len(first) - 1))]
+    if has_header and len(first) not in (1, axes) and not {name.lower() for name in first} <= PLACE_NAMES:
+        some = first[:min(3, len(first) - 1)]
         raise Refused("%s: line %d: the header names %d columns (%s) and none was chosen; say which are the axes, "
                       "as %s=%s" % (path, line, len(first), ", ".join(first), option, ",".join(some)))
     if len(first) > 3:

@@ -175,9 +175,12 @@ class Draw(ToolTest):
             "--at=1,2": "--at=1.0,2.0: example.survey has 1 axes",
             "--slice z=1": "--slice: example.survey has 1 axes, not 3",
             "--slice w": "the axis is x, y or z",
+            "--slice z=low": "'low' is not a number; give coordinates as 2.5",
+            "--at=1,here": "'here' is not a number",
+            "-o example.survey": "example.survey: would be written over example.survey; name another file",
         }
         for arguments, message in bad.items():
-            self.refused(message, "draw", "example.survey", "example.listing", *arguments.split(), "-o", "out")
+            self.refused(message, "draw", "example.survey", "example.listing", "-o", "out", *arguments.split())
         self.refused("--slice: z = 64.0 is outside the box of two-heights.survey",
                      "draw", "two-heights.survey", "two-heights.listing", "--slice", "z=64", "-o", "out")
 

@@ -81,6 +81,16 @@ class MakeSurvey(ToolTest):
             self.write("s.csv", header + "\n1,2\n3,5\n")
             self.done("make-survey", "s.csv", "-o", "out", *options)
             self.assertEqual(house.read_survey(self.path("out")).sources, [(1.0, 2.0), (3.0, 5.0)])
+        self.write("s.csv", "along\n1\n3\n")
+        self.done("make-survey", "s.csv", "-o", "out")
+        self.assertEqual(house.read_survey(self.path("out")).sources, [(1.0,), (3.0,)])
+
+    def test_not_over_its_input(self):
+        self.write("s.csv", "1\n3\n")
+        for arguments in ("s.csv -o s.csv", "s.csv s.csv -o ./s.csv", "--csv s.csv -o s.csv", "--csv s.csv -o a -t s.csv",
+                          "--csv s.csv -o a -t a"):
+            self.refused("name another file", "make-survey", *arguments.split())
+        self.assertEqual(self.read("s.csv"), b"1\n3\n")
 
     def test_summary(self):
         self.write("s.csv", "line,easting,northing,mag_nT\n1,0,0,50000\n1,8,6,50001\n")
@@ -163,7 +173,9 @@ class MakeSurvey(ToolTest):
             "x,y\n1,2\n\n3\n": "s.csv: line 4: 1 columns, but 2 before",
             "1,2,3,4\n": "s.csv: line 1: 4 columns, but at most 3 axes; say which are the axes, as --columns=1,2",
             '1,2\n"3,4\n': "s.csv: line 2: a quote is not closed",
-            "1;2\n3;4\n": "s.csv: line 1: column 1: '1;2' is not a number",
+            "1;2\n3;4\n": "s.csv: line 1: semicolons part the columns; save the file with commas",
+            "x\ty\n3\t4\n": "s.csv: line 1: tabs part the columns; save the file with commas",
+            "1 2\n3 4\n": "s.csv: line 1: column 1: '1 2' is not a number",
             "NaN,NaN\n1,2\n": "s.csv: line 1: column 1: 'NaN' is not a number",
             "1,2\n2,1e999\n": "s.csv: line 2: a number that is not finite",
             "1,2\n1_0,2\n": "s.csv: line 2: column 1: '1_0' is not a number",
