@@ -86,7 +86,8 @@ cp ../program target/bin/listing
         """The program's line stays, and a sentence follows on standard error."""
         room = " keys, which is all that the program has room for; make the file anew with a larger --limit"
         starts = {"15 0": "this is no survey file:", "6 7": "source 7, counted from 0, is outside", "7 12": "target 12,",
-                  "1 0": "the file says a number of axes", "2 0": "the box is outside", "5 0": "targets are used, and the order is not",
+                  "1 0": "the file says a number of axes", "2 0": "the box is outside",
+                  "5 0": "targets are used, and the order is not",
                   "8 3": "the tree has more than 2048 nodes", "8 6": "the U rows have more than 8192" + room,
                   "8 7": "the V rows have more than 8192" + room, "99 1": "docs/REFUSALS.md says why\n"}
         for figures, start in starts.items():
