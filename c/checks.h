@@ -20,11 +20,11 @@ bool all_junk(const void *place, size_t bytes);
 
 /* An array of 8-byte entries, of which the first `lent` were lent to a call that refused: those are 0, the others as they
  * were. */
-#define ZEROED(array, lent) (all_zero((array), (lent) * 8) && all_junk((array) + (lent), sizeof(array) - (lent) * 8))
+#define ZEROED(array, lent) (all_zero((array), (lent)*8) && all_junk((array) + (lent), sizeof(array) - (lent)*8))
 
 /* And one into which `used` entries were written: 0 from there up to `lent`, the others as they were. */
 #define REST_ZEROED(array, used, lent)                                                                                       \
-    (all_zero((array) + (used), ((lent) - (used)) * 8) && all_junk((array) + (lent), sizeof(array) - (lent) * 8))
+    (all_zero((array) + (used), ((lent) - (used)) * 8) && all_junk((array) + (lent), sizeof(array) - (lent)*8))
 
 /* Whether an array starts with these entries. */
 #define STARTS_WITH(array, entries) (memcmp((array), (entries), sizeof(entries)) == 0)

@@ -20,8 +20,8 @@ void expect_ended(lohandema_ended ended, uint64_t number, size_t value, const ch
     made++;
     if (ended.number != number || ended.value != value) {
         failed++;
-        fprintf(stderr, "%s:%d: ended %s %zu, not %s %zu: %s\n", file, line, lohandema_refusal_name(ended.number), ended.value,
-                lohandema_refusal_name(number), value, what);
+        fprintf(stderr, "%s:%d: ended %s %zu, not %s %zu: %s\n", file, line, lohandema_refusal_name(ended.number),
+                ended.value, lohandema_refusal_name(number), value, what);
     }
 }
 

@@ -37,9 +37,9 @@ static lohandema_ended build(asked a)
     fill_with_junk(begin, sizeof begin);
     nodes = 77;
     depth = 77;
-    return lohandema_build_tree(centre, a.radius, a.axes, a.sources, a.sources_len, a.targets, a.targets_len, a.limit, a.order,
-                                a.keep_empty, a.refine, work, a.work_len, indices, a.indices_len, key, a.key_len, own,
-                                a.own_len, begin, a.begin_len, &nodes, &depth);
+    return lohandema_build_tree(centre, a.radius, a.axes, a.sources, a.sources_len, a.targets, a.targets_len, a.limit,
+                                a.order, a.keep_empty, a.refine, work, a.work_len, indices, a.indices_len, key, a.key_len,
+                                own, a.own_len, begin, a.begin_len, &nodes, &depth);
 }
 
 #define BUILD_REFUSED(a, number, value)                                                                                      \

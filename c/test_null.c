@@ -10,24 +10,32 @@ static void builds(void)
 {
     uint64_t work[4] = {0}, keys[4] = {0}, depth = 7;
     size_t indices[4] = {0}, owns[4] = {0}, begins[4] = {0}, nodes = 7;
-    ENDED(lohandema_build_tree(centre, 4.0, 1, NULL, 0, NULL, 0, 1, 1, true, true, NULL, 0, NULL, 0, keys, 3, owns, 3, begins, 3,
-                               &nodes, &depth), 0, 0);
+    ENDED(lohandema_build_tree(centre, 4.0, 1, NULL, 0, NULL, 0, 1, 1, true, true, NULL, 0, NULL, 0, keys, 3, owns, 3, begins,
+                               3, &nodes, &depth),
+          0, 0);
     EXPECT(nodes == 3 && depth == 1);
-    ENDED(lohandema_build_tree(centre, 4.0, 3, NULL, 0, NULL, 0, 1, 1, false, false, NULL, 0, NULL, 0, NULL, 0, NULL, 0, NULL, 0,
-                               &nodes, &depth), LOHANDEMA_ROOM, LOHANDEMA_ROOM_NODES);
+    ENDED(lohandema_build_tree(centre, 4.0, 3, NULL, 0, NULL, 0, 1, 1, false, false, NULL, 0, NULL, 0, NULL, 0, NULL, 0, NULL,
+                               0, &nodes, &depth),
+          LOHANDEMA_ROOM, LOHANDEMA_ROOM_NODES);
     EXPECT(nodes == 0 && depth == 0);
     ENDED(lohandema_build_tree(centre, 4.0, 1, halves, 2, NULL, 0, 1, 1, false, false, NULL, 0, indices, 2, keys, 3, owns, 3,
-                               begins, 3, &nodes, &depth), LOHANDEMA_ROOM, LOHANDEMA_ROOM_WORK);
-    ENDED(lohandema_build_tree(centre, 4.0, 1, halves, 2, NULL, 0, 1, 1, false, false, work, 4, NULL, 0, keys, 3, owns, 3, begins,
-                               3, &nodes, &depth), LOHANDEMA_ROOM, LOHANDEMA_ROOM_ORDER);
+                               begins, 3, &nodes, &depth),
+          LOHANDEMA_ROOM, LOHANDEMA_ROOM_WORK);
+    ENDED(lohandema_build_tree(centre, 4.0, 1, halves, 2, NULL, 0, 1, 1, false, false, work, 4, NULL, 0, keys, 3, owns, 3,
+                               begins, 3, &nodes, &depth),
+          LOHANDEMA_ROOM, LOHANDEMA_ROOM_ORDER);
     ENDED(lohandema_build_tree(centre, 4.0, 1, halves, 2, NULL, 0, 1, 1, false, false, work, 4, indices, 2, NULL, 0, owns, 3,
-                               begins, 3, &nodes, &depth), LOHANDEMA_ROOM, LOHANDEMA_ROOM_NODES);
+                               begins, 3, &nodes, &depth),
+          LOHANDEMA_ROOM, LOHANDEMA_ROOM_NODES);
     ENDED(lohandema_build_tree(centre, 4.0, 1, halves, 2, NULL, 0, 1, 1, false, false, work, 4, indices, 2, keys, 3, NULL, 0,
-                               begins, 3, &nodes, &depth), LOHANDEMA_ROOM, LOHANDEMA_ROOM_NODES);
+                               begins, 3, &nodes, &depth),
+          LOHANDEMA_ROOM, LOHANDEMA_ROOM_NODES);
     ENDED(lohandema_build_tree(centre, 4.0, 1, halves, 2, NULL, 0, 1, 1, false, false, work, 4, indices, 2, keys, 3, owns, 3,
-                               NULL, 0, &nodes, &depth), LOHANDEMA_ROOM, LOHANDEMA_ROOM_NODES);
-    ENDED(lohandema_build_tree(centre, 0.0, 1, NULL, 0, NULL, 0, 1, 1, true, true, NULL, 0, NULL, 0, NULL, 0, NULL, 0, NULL, 0,
-                               &nodes, &depth), LOHANDEMA_BOX, 0);
+                               NULL, 0, &nodes, &depth),
+          LOHANDEMA_ROOM, LOHANDEMA_ROOM_NODES);
+    ENDED(lohandema_build_tree(centre, 0.0, 1, NULL, 0, NULL, 0, 1, 1, true, true, NULL, 0, NULL, 0, NULL, 0, NULL, 0, NULL,
+                               0, &nodes, &depth),
+          LOHANDEMA_BOX, 0);
 }
 
 static void columns(void)
@@ -92,11 +100,11 @@ static void lists(void)
           LOHANDEMA_ROOM, LOHANDEMA_ROOM_V_STARTS);
     ENDED(lohandema_get_interaction_lists(1, key, 3, own, 3, begin, 3, u_starts, 4, NULL, 0, v_starts, 4, v_keys, 4, &u, &v),
           LOHANDEMA_ROOM, LOHANDEMA_ROOM_U_KEYS);
-    ENDED(lohandema_get_interaction_lists(1, key, 3, own, 3, begin, 3, u_starts, 4, u_keys, 4, v_starts, 4, NULL, 0, &u, &v), 0,
-          0);
+    ENDED(lohandema_get_interaction_lists(1, key, 3, own, 3, begin, 3, u_starts, 4, u_keys, 4, v_starts, 4, NULL, 0, &u, &v),
+          0, 0);
     EXPECT(u == 4 && v == 0);
-    ENDED(lohandema_get_interaction_lists(1, root, 1, none, 1, none, 1, u_starts, 2, NULL, 0, v_starts, 2, NULL, 0, &u, &v), 0,
-          0);
+    ENDED(lohandema_get_interaction_lists(1, root, 1, none, 1, none, 1, u_starts, 2, NULL, 0, v_starts, 2, NULL, 0, &u, &v),
+          0, 0);
     EXPECT(u == 0 && v == 0);
 }
 
@@ -105,8 +113,10 @@ static void near_work(void)
     uint64_t keys[4] = {0}, work = 7;
     size_t starts[4] = {0};
     ENDED(lohandema_get_near_work(1, NULL, 0, NULL, 0, NULL, 0, NULL, 0, NULL, 0, &work), LOHANDEMA_TREE, 0);
-    ENDED(lohandema_get_near_work(1, key, 3, own, 3, begin, 3, NULL, 0, keys, 4, &work), LOHANDEMA_ROOM, LOHANDEMA_ROOM_U_STARTS);
-    ENDED(lohandema_get_near_work(1, key, 3, own, 3, begin, 3, starts, 4, NULL, 0, &work), LOHANDEMA_ROOM, LOHANDEMA_ROOM_U_KEYS);
+    ENDED(lohandema_get_near_work(1, key, 3, own, 3, begin, 3, NULL, 0, keys, 4, &work), LOHANDEMA_ROOM,
+          LOHANDEMA_ROOM_U_STARTS);
+    ENDED(lohandema_get_near_work(1, key, 3, own, 3, begin, 3, starts, 4, NULL, 0, &work), LOHANDEMA_ROOM,
+          LOHANDEMA_ROOM_U_KEYS);
     EXPECT(work == 0);
     ENDED(lohandema_get_near_work(1, root, 1, none, 1, none, 1, starts, 2, NULL, 0, &work), 0, 0);
     EXPECT(work == 0);

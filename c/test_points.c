@@ -119,7 +119,8 @@ static void refused_extents(void)
         double centre[3], radius = 7;
         size_t axes = 7;
         fill_with_junk(centre, sizeof centre);
-        ENDED(lohandema_calculate_tree_center_and_radius(extents, refused[i].len, centre, &radius, &axes), refused[i].number, 0);
+        ENDED(lohandema_calculate_tree_center_and_radius(extents, refused[i].len, centre, &radius, &axes), refused[i].number,
+              0);
         EXPECT(ZEROED(centre, 3) && radius == 0 && axes == 0);
     }
     double centre[3], radius = 7;

@@ -67,7 +67,8 @@ static void lookup(void)
     LOOKUP_REFUSED(look_up(4.0, 1, own, worse, 3, 4), 4, LOHANDEMA_POINT, 1);
 }
 
-static lohandema_ended look_up_one(size_t axes, double radius, const size_t *owns, double x, uint64_t *leaf, uint64_t *climbed)
+static lohandema_ended look_up_one(size_t axes, double radius, const size_t *owns, double x, uint64_t *leaf,
+                                   uint64_t *climbed)
 {
     const double point[3] = {x, NAN, NAN};
     *leaf = *climbed = 77;
@@ -195,8 +196,8 @@ static lohandema_ended list(size_t axes, const size_t *owns, size_t us, size_t u
     fill_with_junk(u_keys, sizeof u_keys);
     fill_with_junk(v_keys, sizeof v_keys);
     u = v = 77;
-    return lohandema_get_interaction_lists(axes, key, NODES, owns, NODES, begin, NODES, u_starts, us, u_keys, uk, v_starts, vs,
-                                           v_keys, vk, &u, &v);
+    return lohandema_get_interaction_lists(axes, key, NODES, owns, NODES, begin, NODES, u_starts, us, u_keys, uk, v_starts,
+                                           vs, v_keys, vk, &u, &v);
 }
 
 #define LISTS_REFUSED(axes, owns, us, uk, vs, vk, number, value)                                                             \

@@ -20,8 +20,9 @@
  * Numbers: double is IEEE 754 binary64, in the environment with which C starts: rounded to nearest, subnormal numbers kept.
  * (-ffast-math at the link may set subnormal numbers to 0 in the whole program; do not use it.) size_t has 64 bits.
  *
- * Stack: a thread that calls needs
- * STACKTABLE
+ * Stack: 288 KiB for lohandema_points_to_keys, 48 KiB for every other call (LOHANDEMA_STACK_POINTS_TO_KEYS and LOHANDEMA_STACK
+ * below), beside what the caller needs itself. A thread with less dies at its guard page. These are figures of
+ * the compiled code, with room to spare, and not promises; docs/BENCHMARKS.md has what each call was seen to use.
  */
 #ifndef LOHANDEMA_H
 #define LOHANDEMA_H
@@ -61,6 +62,10 @@ extern "C" {
 #define LOHANDEMA_LEAST_RADIUS 0.25         /* of a box */
 #define LOHANDEMA_MOST_RADIUS 1048576.0
 #define LOHANDEMA_MOST_CENTRE 16777216.0    /* size of a centre coordinate */
+
+/* Bytes of stack that a call may use. */
+#define LOHANDEMA_STACK_POINTS_TO_KEYS 294912
+#define LOHANDEMA_STACK 49152
 
 /* How a call ended: 0 and 0, or the number and value of a refusal.
  * The value of 6, 7, 12 and 14 is the lowest index that fails (0 where the call takes a single point), counted in points and
@@ -245,8 +250,9 @@ bool lohandema_is_well_formed(size_t axes, const uint64_t *key, size_t key_len, 
 /* The level of the last node, at least 1; 1 for an empty column. For any column, and never refused. */
 uint64_t lohandema_depth_of(const uint64_t *key, size_t key_len);
 
-/* A node's part of the order column: answers how many entries it has, and start, where they start. The part is empty and start
- * 0 where the node is past own or begin, or the part would pass the order column's end. For any columns, and never refused. */
+/* A node's part of the order column: answers how many entries it has, and start, where they start. The part is empty where the
+ * node is past own or begin, or begin plus own passes the order column's end; an empty part has start 0. For any columns, and
+ * never refused. */
 size_t lohandema_leaf_sources(const size_t *own, size_t own_len, const size_t *begin, size_t begin_len, const size_t *order,
                               size_t order_len, size_t node, size_t *start);
 
