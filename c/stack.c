@@ -1,15 +1,15 @@
 /* Measures the stack that each call uses. A call runs on a thread whose stack is painted; the lowest place that has lost its
- * paint says how far the call went. Prints the most that was seen over trees that go deep in several ways, and ends with an
- * error if a call went further than the header says. c/test compiles and runs it. */
+ * paint says how far the call went, with the arguments that its caller puts there. Prints the most that was seen over trees
+ * that go deep in several ways, 512 bytes where it was less, and ends with an error if a call went further than the table in
+ * the header says. c/test compiles and runs it. */
 #define _GNU_SOURCE
 #include "../include/lohandema.h"
 
 #include <pthread.h>
 #include <stdio.h>
 #include <stdlib.h>
-#include <string.h>
 
-enum { STACK = 1 << 20, PAINT = 0xA5, POINTS = 600, NODES = 1 << 18, KEYS = 1 << 22 };
+enum { KIB = 1024, STACK = 512 * KIB, POINTS = 200, NODES = 1 << 17, KEYS = 1 << 20 };
 
 /* ---- what the calls are given */
 
@@ -197,33 +197,33 @@ static struct {
     void (*run)(void);
     size_t said, seen;
 } calls[] = {
-    {"(nothing, for comparison)", nothing, LOHANDEMA_STACK, 0},
+    {"(nothing, for comparison)", nothing, 8 * KIB, 0},
     {"build_tree", build_tree, LOHANDEMA_STACK, 0},
-    {"is_well_formed", is_well_formed, LOHANDEMA_STACK, 0},
-    {"depth_of", depth_of, LOHANDEMA_STACK, 0},
-    {"leaf_sources", leaf_sources, LOHANDEMA_STACK, 0},
+    {"is_well_formed", is_well_formed, 8 * KIB, 0},
+    {"depth_of", depth_of, 8 * KIB, 0},
+    {"leaf_sources", leaf_sources, 8 * KIB, 0},
     {"points_to_keys", points_to_keys, LOHANDEMA_STACK_POINTS_TO_KEYS, 0},
-    {"point_to_leaf", point_to_leaf, LOHANDEMA_STACK, 0},
-    {"get_points_to_leaves_map", get_points_to_leaves_map, LOHANDEMA_STACK, 0},
-    {"get_sourced_cells", get_sourced_cells, LOHANDEMA_STACK, 0},
+    {"point_to_leaf", point_to_leaf, 24 * KIB, 0},
+    {"get_points_to_leaves_map", get_points_to_leaves_map, 8 * KIB, 0},
+    {"get_sourced_cells", get_sourced_cells, 24 * KIB, 0},
     {"get_interaction_lists", get_interaction_lists, LOHANDEMA_STACK, 0},
     {"get_near_work", get_near_work, LOHANDEMA_STACK, 0},
-    {"get_neighbours", get_neighbours, LOHANDEMA_STACK, 0},
-    {"get_children", get_children, LOHANDEMA_STACK, 0},
-    {"get_siblings", get_siblings, LOHANDEMA_STACK, 0},
-    {"get_ancestors", get_ancestors, LOHANDEMA_STACK, 0},
-    {"get_level, get_parent, get_child_index", number_of_a_key, LOHANDEMA_STACK, 0},
-    {"encode_morton_point", encode_morton_point, LOHANDEMA_STACK, 0},
-    {"decode_key", decode_key, LOHANDEMA_STACK, 0},
-    {"touching", touching, LOHANDEMA_STACK, 0},
-    {"box_outcome", box_outcome, LOHANDEMA_STACK, 0},
-    {"point_to_anchor", point_to_anchor, LOHANDEMA_STACK, 0},
-    {"point_to_key", point_to_key, LOHANDEMA_STACK, 0},
-    {"get_side_length", get_side_length, LOHANDEMA_STACK, 0},
-    {"get_center_length", get_center_length, LOHANDEMA_STACK, 0},
-    {"are_adjacent", are_adjacent, LOHANDEMA_STACK, 0},
-    {"calculate_tree_center_and_radius", calculate_tree_center_and_radius, LOHANDEMA_STACK, 0},
-    {"reference_depth", reference_depth, LOHANDEMA_STACK, 0},
+    {"get_neighbours", get_neighbours, 32 * KIB, 0},
+    {"get_children", get_children, 8 * KIB, 0},
+    {"get_siblings", get_siblings, 8 * KIB, 0},
+    {"get_ancestors", get_ancestors, 8 * KIB, 0},
+    {"get_level, get_parent, get_child_index", number_of_a_key, 8 * KIB, 0},
+    {"encode_morton_point", encode_morton_point, 24 * KIB, 0},
+    {"decode_key", decode_key, 24 * KIB, 0},
+    {"touching", touching, 24 * KIB, 0},
+    {"box_outcome", box_outcome, 8 * KIB, 0},
+    {"point_to_anchor", point_to_anchor, 8 * KIB, 0},
+    {"point_to_key", point_to_key, 24 * KIB, 0},
+    {"get_side_length", get_side_length, 8 * KIB, 0},
+    {"get_center_length", get_center_length, 24 * KIB, 0},
+    {"are_adjacent", are_adjacent, 24 * KIB, 0},
+    {"calculate_tree_center_and_radius", calculate_tree_center_and_radius, 8 * KIB, 0},
+    {"reference_depth", reference_depth, 8 * KIB, 0},
 };
 enum { CALLS = sizeof calls / sizeof calls[0] };
 
@@ -267,24 +267,25 @@ static void make_points(int way)
 
 /* ---- the measuring */
 
-static unsigned char *stack;
+static const uint64_t paint = 0xA5A5A5A5A5A5A5A5u;
+static uint64_t *stack;
 static size_t used;
 
-static void __attribute__((noinline)) paint(volatile unsigned char *from, volatile unsigned char *to)
+static void __attribute__((noinline)) paint_below(volatile uint64_t *end)
 {
-    while (from < to)
-        *from++ = PAINT;
+    for (volatile uint64_t *word = stack; word < end; word++)
+        *word = paint;
 }
 
+/* Runs a call with nothing but paint below it, and sees how far the paint is gone. */
 static void *on_thread(void *run)
 {
-    unsigned char *here = (unsigned char *)__builtin_frame_address(0);
-    paint(stack, here - 512);
+    uint64_t *here = (uint64_t *)__builtin_frame_address(0), *lowest = stack;
+    paint_below(here - 64);
     (*(void (**)(void))run)();
-    size_t low = 0;
-    while (stack[low] == PAINT)
-        low++;
-    used = (size_t)(here - (stack + low));
+    while (*lowest == paint)
+        lowest++;
+    used = (size_t)(here - lowest) * sizeof *here;
     return NULL;
 }
 
@@ -298,7 +299,6 @@ static void measure(size_t call)
 {
     pthread_attr_t attributes;
     pthread_t thread;
-    memset(stack, PAINT, STACK);
     last.number = 0;
     if (pthread_attr_init(&attributes) != 0 || pthread_attr_setstack(&attributes, stack, STACK) != 0 ||
         pthread_create(&thread, &attributes, on_thread, &calls[call].run) != 0 || pthread_join(thread, NULL) != 0)
@@ -315,7 +315,7 @@ static void measure(size_t call)
 int main(void)
 {
     int status = 0;
-    stack = (unsigned char *)aligned_alloc(65536, STACK);
+    stack = (uint64_t *)aligned_alloc(65536, STACK);
     if (stack == NULL)
         fail("no memory");
     for (axes = 1; axes <= 3; axes++)

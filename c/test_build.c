@@ -180,6 +180,33 @@ static void refused_by_count(void)
     free(points);
 }
 
+/* Some 1,160,000 nodes, with limit 0 and empty cells kept: more than a build may have, though the columns are longer. */
+static void refused_by_most_nodes(void)
+{
+    enum { POINTS = 13000 };
+    const size_t room = 1300000, bytes = room * 8;
+    double *points = (double *)calloc(3 * POINTS, 8);
+    uint64_t *codes = (uint64_t *)calloc(2 * POINTS, 8), *keys = (uint64_t *)malloc(bytes), state = 88172645463325252u;
+    size_t *numbers = (size_t *)calloc(POINTS, 8), *owns = (size_t *)malloc(bytes), *begins = (size_t *)malloc(bytes);
+    if (points == NULL || codes == NULL || keys == NULL || numbers == NULL || owns == NULL || begins == NULL)
+        abort();
+    for (size_t i = 0; i < 3 * POINTS; i++) {
+        state = state * 6364136223846793005u + 1442695040888963407u;
+        points[i] = (double)(state >> 11) / 9007199254740992.0 * 7.99;
+    }
+    fill_with_junk(keys, bytes);
+    fill_with_junk(owns, bytes);
+    fill_with_junk(begins, bytes);
+    ENDED(lohandema_build_tree(centre, 4.0, 3, points, 3 * POINTS, NULL, 0, 0, 1, true, false, codes, 2 * POINTS, numbers,
+                               POINTS, keys, room, owns, room, begins, room, &nodes, &depth),
+          LOHANDEMA_ROOM, LOHANDEMA_ROOM_NODES);
+    EXPECT(nodes == 0 && depth == 0 && all_zero(keys, bytes) && all_zero(owns, bytes) && all_zero(begins, bytes));
+    EXPECT(all_zero(codes, 2 * POINTS * 8) && all_zero(numbers, POINTS * 8));
+    void *slices[6] = {points, codes, keys, numbers, owns, begins};
+    for (size_t i = 0; i < 6; i++)
+        free(slices[i]);
+}
+
 void test_build(void)
 {
     known_tree();
@@ -188,4 +215,5 @@ void test_build(void)
     refused_by_points();
     refused_by_room();
     refused_by_count();
+    refused_by_most_nodes();
 }

@@ -20,9 +20,14 @@
  * Numbers: double is IEEE 754 binary64, in the environment with which C starts: rounded to nearest, subnormal numbers kept.
  * (-ffast-math at the link may set subnormal numbers to 0 in the whole program; do not use it.) size_t has 64 bits.
  *
- * Stack: 288 KiB for lohandema_points_to_keys, 48 KiB for every other call (LOHANDEMA_STACK_POINTS_TO_KEYS and LOHANDEMA_STACK
- * below), beside what the caller needs itself. A thread with less dies at its guard page. These are figures of
- * the compiled code, with room to spare, and not promises; docs/BENCHMARKS.md has what each call was seen to use.
+ * Stack that a call uses, beside what the caller needs itself. A thread with less dies at its guard page. These are figures
+ * of the compiled code, measured (c/stack.c) and rounded up well; they are not promises.
+ *   points_to_keys                                                                          288 KiB
+ *   build_tree, get_interaction_lists, get_near_work                                         48 KiB
+ *   get_neighbours                                                                           32 KiB
+ *   get_sourced_cells, point_to_leaf, point_to_key, encode_morton_point, decode_key, touching,
+ *   get_center_length, are_adjacent                                                          24 KiB
+ *   every other call                                                                          8 KiB
  */
 #ifndef LOHANDEMA_H
 #define LOHANDEMA_H
@@ -63,7 +68,7 @@ extern "C" {
 #define LOHANDEMA_MOST_RADIUS 1048576.0
 #define LOHANDEMA_MOST_CENTRE 16777216.0    /* size of a centre coordinate */
 
-/* Bytes of stack that a call may use. */
+/* Bytes of stack for lohandema_points_to_keys, and for any other call. */
 #define LOHANDEMA_STACK_POINTS_TO_KEYS 294912
 #define LOHANDEMA_STACK 49152
 
