@@ -1,30 +1,88 @@
-/* The calls of Lohandema for C: keys, points and trees. Link target/native/liblohandema.a (rust/archive makes it).
+/* Lohandema for C and C++: Morton keys, boxes and points, trees, and the near (U) and far (V) lists.
+ * Link target/native/liblohandema.a (rust/archive makes it). docs/RULES.md says the rules, docs/REFUSALS.md the refusals
+ * with their cures; c/example.c is a whole use.
  *
- * A slice is a pointer and the number of its entries. A pointer is never null, points to as many entries as the call says,
- * and what is lent for writing overlaps nothing else that is passed. Beyond that every argument value is taken: a call that
- * cannot answer says so by a number and a value, and then everything lent for writing is 0 throughout.
+ * Every call
+ * - takes every argument value. Where it cannot answer it refuses: it returns a number and a value, each number that it would
+ *   have answered is 0 (false), and each slice and array that was lent to it for writing is 0 throughout.
+ * - leaves 0 in the unused rest of a lent slice after success, and in all of `work`.
+ * - checks in a fixed order, and the first check that fails refuses. A call's comment lists its refusals in that order.
  *
- * A box is its centre (three numbers, of which the first `axes` are read), its radius and its number of axes.
- * A tree is three columns of one length: key, own sources and begin. docs/CONTRACTS.md says what each call promises.
+ * Pointers
+ * - A slice is a pointer and the number of its entries. Where that number is 0 the pointer may be NULL: nothing is read or
+ *   written through it. Else it points to so many entries, aligned as C aligns them.
+ * - A pointer to one value or to an array of fixed length is never NULL.
+ * - What is lent for writing overlaps nothing else that the call is passed. Slices that are only read may overlap.
+ *
+ * Threads: no call keeps a state, allocates memory, or writes anything but what is lent to it. Any number of threads may call
+ * at the same time, as long as nothing that is lent to one call is passed to another one that runs beside it.
+ *
+ * Numbers: double is IEEE 754 binary64, in the environment with which C starts: rounded to nearest, subnormal numbers kept.
+ * (-ffast-math at the link may set subnormal numbers to 0 in the whole program; do not use it.) size_t has 64 bits.
+ *
+ * Stack that a call uses, beside what the caller needs itself. A thread with less dies at its guard page. These are figures
+ * of the compiled code, measured (c/stack.c) and rounded up well; they are not promises.
+ *   points_to_keys                                                                          288 KiB
+ *   build_tree, get_interaction_lists, get_near_work                                         48 KiB
+ *   get_neighbours                                                                           32 KiB
+ *   get_sourced_cells, point_to_leaf, point_to_key, encode_morton_point, decode_key, touching,
+ *   get_center_length, are_adjacent                                                          24 KiB
+ *   every other call                                                                          8 KiB
  */
 #ifndef LOHANDEMA_H
 #define LOHANDEMA_H
 
+#include <float.h>
 #include <stdbool.h>
 #include <stddef.h>
 #include <stdint.h>
+
+#if SIZE_MAX != UINT64_MAX
+#error "Lohandema needs a 64-bit processor: size_t has to have 64 bits. Compile for one."
+#endif
+#if FLT_RADIX != 2 || DBL_MANT_DIG != 53 || DBL_MAX_EXP != 1024
+#error "Lohandema needs IEEE 754 binary64 as double."
+#endif
 
 #ifdef __cplusplus
 extern "C" {
 #endif
 
-/* How a call ended: 0 and 0, or the number and value of a refusal. */
+/* The version of this header and of the archive that was made with it. */
+#define LOHANDEMA_VERSION "0.1.0"
+#define LOHANDEMA_VERSION_MAJOR 0
+#define LOHANDEMA_VERSION_MINOR 1
+#define LOHANDEMA_VERSION_PATCH 0
+
+/* Limits. */
+#define LOHANDEMA_MOST_AXES 3               /* 1 to 3 axes, else refused 1 */
+#define LOHANDEMA_LEVELS 16                 /* the deepest level; the root is at level 0 */
+#define LOHANDEMA_MOST_KEYS 26              /* places in the array of a call that answers keys */
+#define LOHANDEMA_MOST_POINTS 1048576       /* sources, targets, points to look up, keys to group; more is refused 4 */
+#define LOHANDEMA_MOST_NODES 1048576        /* nodes of a build: no more entries of a node column count */
+#define LOHANDEMA_MOST_LIST_KEYS 16777216   /* keys of a U or V list: no more entries of a key slice count */
+#define LOHANDEMA_MOST_V_ROW 189            /* keys of one V row: 3, 27, 189 for 1, 2, 3 axes */
+#define LOHANDEMA_MOST_ORDER 64             /* the order is 1 to 64 where targets are used */
+#define LOHANDEMA_MOST_STEPS 15             /* steps of the lookup of one point */
+#define LOHANDEMA_LEAST_RADIUS 0.25         /* of a box */
+#define LOHANDEMA_MOST_RADIUS 1048576.0
+#define LOHANDEMA_MOST_CENTRE 16777216.0    /* size of a centre coordinate */
+
+/* Bytes of stack for lohandema_points_to_keys, and for any other call. */
+#define LOHANDEMA_STACK_POINTS_TO_KEYS 294912
+#define LOHANDEMA_STACK 49152
+
+/* How a call ended: 0 and 0, or the number and value of a refusal.
+ * The value of 6, 7, 12 and 14 is the lowest index that fails (0 where the call takes a single point), counted in points and
+ * not in coordinates; that of 8 says which lent slice is short (enum below); that of every other number is 0. */
 typedef struct {
     uint64_t number;
     size_t value;
 } lohandema_ended;
 
+/* The numbers. 15 is for the listing program, which reads files; no call of this header refuses it. */
 enum {
+    LOHANDEMA_DONE = 0,
     LOHANDEMA_DIMS = 1,
     LOHANDEMA_BOX = 2,
     LOHANDEMA_SHAPE = 3,
@@ -42,73 +100,206 @@ enum {
     LOHANDEMA_FILE = 15
 };
 
-/* ---- keys */
+/* The values of 8 ROOM; the lowest that is short is told. */
+enum {
+    LOHANDEMA_ROOM_WORK = 1,
+    LOHANDEMA_ROOM_ORDER = 2,
+    LOHANDEMA_ROOM_NODES = 3,
+    LOHANDEMA_ROOM_U_STARTS = 4,
+    LOHANDEMA_ROOM_V_STARTS = 5,
+    LOHANDEMA_ROOM_U_KEYS = 6,
+    LOHANDEMA_ROOM_V_KEYS = 7,
+    LOHANDEMA_ROOM_POINTS = 8,
+    LOHANDEMA_ROOM_CELLS = 9
+};
+
+/* The name of a number: "DONE" for 0, "DIMS" and so on for 1 to 15, "UNKNOWN" for any other. Never NULL. */
+static inline const char *lohandema_refusal_name(uint64_t number)
+{
+    static const char *const names[16] = {"DONE",  "DIMS", "BOX",  "SHAPE", "COUNT",    "ORDER", "SOURCE",  "POINT",
+                                          "ROOM",  "KEY",  "ROOT", "DEEP",  "UNSTORED", "TREE",  "NOTLEAF", "FILE"};
+    return number < 16 ? names[number] : "UNKNOWN";
+}
+
+/* What a number says, and its cure, in a sentence for people. Never NULL. */
+static inline const char *lohandema_refusal_sentence(uint64_t number)
+{
+    static const char *const sentences[16] = {
+        "the call was not refused",
+        "the number of axes is not 1, 2 or 3 (or the extents are not 2, 4 or 6 numbers): pass 1 to 3 axes",
+        "the box is outside its domain: give a radius from 0.25 to 1048576 and centre coordinates of at most 16777216 in size",
+        "the coordinates are not whole points: pass as many for each point as there are axes",
+        "there are more than 1048576 points or keys: pass fewer",
+        "the order is not from 1 to 64: pass such an order, or no targets",
+        "a source is outside the box or not a number, and the value is its index: take it out or make the box larger",
+        "a point is outside the box or not a number, and the value is its index: take it out or make the box larger",
+        "a lent slice is short, and the value says which: lend a longer one",
+        "a key or level is not valid, or an anchor lies off its level: pass a level of at most 16 and what belongs to it",
+        "the root has no parent and no siblings: ask of a key of level 1 or more",
+        "a cell of level 16 has no children: ask of a key of a level below 16",
+        "no leaf holds a point that is inside, and the value is its index: build with keep_empty, or take the point out",
+        "the columns are not a well-formed tree: pass them as the build wrote them, cut to its number of nodes",
+        "a key to group is not the key of a leaf, and the value is its index: pass keys that the lookup in this tree answered",
+        "the survey file breaks its rules: write it anew as docs/RULES.md says"};
+    return number < 16 ? sentences[number] : "this version knows no refusal with this number";
+}
+
+/* Which slice the value of 8 ROOM names; "unknown" for other values. Never NULL. */
+static inline const char *lohandema_room_name(size_t value)
+{
+    static const char *const slices[10] = {"unknown",  "work",   "order column", "node columns", "U starts",
+                                           "V starts", "U keys", "V keys",       "points",       "sourced cells"};
+    return value < 10 ? slices[value] : "unknown";
+}
+
+/* ---- Keys
+ * A key is code * 32768 + level. It is valid where the level is at most 16 and the code below 2^(axes * level); the root is 0.
+ * Anchors past the axes are not read, and are 0 in an answer. */
+
+/* level: the level of a key. Refused 1, 9. */
 lohandema_ended lohandema_get_level(size_t axes, uint64_t key, uint64_t *level);
+
+/* parent: the key of the cell one level up that holds this one. Refused 1, 9, 10 (the root). */
 lohandema_ended lohandema_get_parent(size_t axes, uint64_t key, uint64_t *parent);
+
+/* index: which child of its parent the cell is, 0 to 2^axes - 1; 0 for the root. Refused 1, 9. */
 lohandema_ended lohandema_get_child_index(size_t axes, uint64_t key, uint64_t *index);
+
+/* key: the key of the cell with these anchors at a level. Refused 1, 9 (the level is over 16, or an anchor is not below
+ * 2^level). */
 lohandema_ended lohandema_encode_morton_point(size_t axes, const uint64_t anchor[3], uint64_t level, uint64_t *key);
+
+/* anchor and level: what lohandema_encode_morton_point made the key of. Refused 1, 9. */
 lohandema_ended lohandema_decode_key(size_t axes, uint64_t key, uint64_t anchor[3], uint64_t *level);
+
+/* touches: whether two cells of one level have anchors that differ by at most 1 on every axis. A cell touches itself; cells of
+ * two levels do not touch. Refused 1, 9 (either key). */
 lohandema_ended lohandema_touching(size_t axes, uint64_t a, uint64_t b, bool *touches);
 
-/* Up to 26 keys; unused places are 0. */
-lohandema_ended lohandema_get_children(size_t axes, uint64_t key, uint64_t keys[26], size_t *len);
-lohandema_ended lohandema_get_siblings(size_t axes, uint64_t key, uint64_t keys[26], size_t *len);
-lohandema_ended lohandema_get_ancestors(size_t axes, uint64_t key, uint64_t keys[26], size_t *len);
-lohandema_ended lohandema_get_neighbours(size_t axes, uint64_t key, uint64_t keys[26], size_t *len);
+/* The four below answer len keys in the first places of keys; the other places are 0. */
 
-/* ---- boxes and points */
+/* The 2, 4 or 8 children, in ascending code. Refused 1, 9, 11 (a cell of level 16). */
+lohandema_ended lohandema_get_children(size_t axes, uint64_t key, uint64_t keys[LOHANDEMA_MOST_KEYS], size_t *len);
+
+/* The children of the cell's parent, the cell among them. Refused 1, 9, 10 (the root). */
+lohandema_ended lohandema_get_siblings(size_t axes, uint64_t key, uint64_t keys[LOHANDEMA_MOST_KEYS], size_t *len);
+
+/* The cell itself, its parent, and so on up to the root: level + 1 keys. Refused 1, 9. */
+lohandema_ended lohandema_get_ancestors(size_t axes, uint64_t key, uint64_t keys[LOHANDEMA_MOST_KEYS], size_t *len);
+
+/* The cells of the same level that touch it, itself left out: at most 2, 8 or 26, in the order that docs/RULES.md gives.
+ * Refused 1, 9. */
+lohandema_ended lohandema_get_neighbours(size_t axes, uint64_t key, uint64_t keys[LOHANDEMA_MOST_KEYS], size_t *len);
+
+/* ---- Boxes and points
+ * A box is its centre (of which the first `axes` numbers are read), its radius and its number of axes. A point is so many
+ * coordinates; numbers of a point past the axes are not read. */
+
+/* Whether a box may be used. Refused 1, 2. */
 lohandema_ended lohandema_box_outcome(const double centre[3], double radius, size_t axes);
+
+/* anchor: the anchors at a level of the cell that holds a point. Refused 1, 2, 9 (the level is over 16), 7. */
 lohandema_ended lohandema_point_to_anchor(const double centre[3], double radius, size_t axes, const double point[3],
                                           uint64_t level, uint64_t anchor[3]);
+
+/* key: the key of that cell. Refused 1, 2, 9, 7. */
 lohandema_ended lohandema_point_to_key(const double centre[3], double radius, size_t axes, const double point[3],
                                        uint64_t level, uint64_t *key);
+
+/* side: the side of a cell at a level, 2 * radius / 2^level. Refused 1, 2, 9. */
 lohandema_ended lohandema_get_side_length(const double centre[3], double radius, size_t axes, uint64_t level, double *side);
+
+/* middle and length: a cell's centre (0 past the axes) and its side. Refused 1, 2, 9. */
 lohandema_ended lohandema_get_center_length(const double centre[3], double radius, size_t axes, uint64_t key,
                                             double middle[3], double *length);
+
+/* adjacent: whether the centres of two cells, of any two levels, are on every axis no further apart than half the sum of their
+ * sides and 1e-6. Refused 1, 2, 9 (either key). */
 lohandema_ended lohandema_are_adjacent(const double centre[3], double radius, size_t axes, uint64_t first, uint64_t second,
                                        bool *adjacent);
-/* Lows, then highs: 2, 4 or 6 numbers. */
+
+/* centre, radius and axes: the box around extents, which are the lows of all axes and then the highs: 2, 4 or 6 numbers.
+ * Refused 1 (another length), 2 (a number is not finite, or the box is outside its domain, as one without size is). */
 lohandema_ended lohandema_calculate_tree_center_and_radius(const double *extents, size_t extents_len, double centre[3],
                                                            double *radius, size_t *axes);
+
+/* depth: the least level from 1 to 16 with at least as many cells as there are sources; 16 where there is none. Refused 1. */
 lohandema_ended lohandema_reference_depth(size_t axes, size_t sources, uint64_t *depth);
 
-/* ---- trees */
-/* The tree of the sources. targets are looked at only with both flags. work: two entries for each source and one for each
- * target that is used. indices: the order column. nodes and depth: what was built. */
+/* ---- Trees
+ * A tree of N nodes is three columns of N entries: key; own, the sources in a leaf, 0 for other nodes; begin, the sum of own
+ * before the node. Nodes stand by level, then ascending code; node 0 is the root. Pass the columns cut to N entries: zeros
+ * behind the nodes are no tree. Source number order[begin[n] + i] is the i-th of leaf n. */
+
+/* Builds the tree of the sources into key, own and begin, and its order column into indices; answers nodes, N, and depth.
+ *   sources, targets  coordinates, point after point; the lengths count coordinates
+ *   limit             a cell with more sources than this splits (any value)
+ *   order             of the interpolation; it matters, and has to be 1 to 64, only where targets are used
+ *   keep_empty        whether all children of a cell that splits are stored, or only those with sources
+ *   refine            whether targets split cells too; targets are used with both flags, else not looked at
+ *   work              two entries a source and one a used target
+ *   indices           one entry a source
+ *   key, own, begin   one entry a node each. The shortest of the three counts, at most 1,048,576 of its entries. N is not known
+ *                     before: on 8 with value 3 lend longer ones and call again.
+ * Refused 1, 2, 3 (sources, then targets), 4 (likewise), 5, 6, 7, 8 (1 work, 2 indices, 3 key, own or begin). */
 lohandema_ended lohandema_build_tree(const double centre[3], double radius, size_t axes, const double *sources,
                                      size_t sources_len, const double *targets, size_t targets_len, size_t limit,
                                      size_t order, bool keep_empty, bool refine, uint64_t *work, size_t work_len,
                                      size_t *indices, size_t indices_len, uint64_t *key, size_t key_len, size_t *own,
                                      size_t own_len, size_t *begin, size_t begin_len, size_t *nodes, uint64_t *depth);
+
+/* Whether the columns are a well-formed tree (docs/RULES.md); false for axes other than 1 to 3. Never refused. */
 bool lohandema_is_well_formed(size_t axes, const uint64_t *key, size_t key_len, const size_t *own, size_t own_len,
                               const size_t *begin, size_t begin_len);
+
+/* The level of the last node, at least 1; 1 for an empty column. For any column, and never refused. */
 uint64_t lohandema_depth_of(const uint64_t *key, size_t key_len);
-/* A node's part of the order column: how many entries, and where they start. */
+
+/* A node's part of the order column: answers how many entries it has, and start, where they start. The part is empty where the
+ * node is past own or begin, or begin plus own passes the order column's end; an empty part has start 0. For any columns, and
+ * never refused. */
 size_t lohandema_leaf_sources(const size_t *own, size_t own_len, const size_t *begin, size_t begin_len, const size_t *order,
                               size_t order_len, size_t node, size_t *start);
+
+/* output: the key of the leaf that holds each point. steps: the sum over the points of the depth less the leaf's level.
+ * points_len counts coordinates; output needs one entry a point.
+ * Refused 1, 2, 3, 4, 13, 8 (value 8), and then for the first point that is outside (7) or in no leaf (12). */
 lohandema_ended lohandema_points_to_keys(const double centre[3], double radius, size_t axes, const uint64_t *key,
                                          size_t key_len, const size_t *own, size_t own_len, const size_t *begin,
                                          size_t begin_len, const double *points, size_t points_len, uint64_t *output,
                                          size_t output_len, size_t *steps);
-/* One point: its leaf and the steps to it. */
+
+/* leaf: the key of the leaf that holds one point. steps: the depth less its level. Refused 1, 2, 13, 7, 12, value 0. */
 lohandema_ended lohandema_point_to_leaf(const double centre[3], double radius, size_t axes, const uint64_t *key,
                                         size_t key_len, const size_t *own, size_t own_len, const size_t *begin,
                                         size_t begin_len, const double point[3], uint64_t *leaf, uint64_t *steps);
-/* points: the key of each point's leaf. starts: one more than there are nodes. indices: one for each point. */
+
+/* Groups points by leaf; points has the key of each point's leaf. The points of node n are indices[starts[n]] up to, and
+ * without, indices[starts[n + 1]], ascending. starts needs N + 1 entries, indices one a point.
+ * Refused 1, 4, 13, 8 (value 8 for either slice), 14. */
 lohandema_ended lohandema_get_points_to_leaves_map(size_t axes, const uint64_t *key, size_t key_len, const size_t *own,
                                                    size_t own_len, const size_t *begin, size_t begin_len,
                                                    const uint64_t *points, size_t points_len, size_t *starts,
                                                    size_t starts_len, size_t *indices, size_t indices_len);
+
+/* cells: the keys of the cells that own sources or have a descendant that does, ascending. count: how many. cells needs as
+ * many entries; N are always enough. Refused 1, 13, 8 (value 9). */
 lohandema_ended lohandema_get_sourced_cells(size_t axes, const uint64_t *key, size_t key_len, const size_t *own,
                                             size_t own_len, const size_t *begin, size_t begin_len, uint64_t *cells,
                                             size_t cells_len, size_t *count);
-/* The near (U) and far (V) rows of all nodes, flat: row n is keys[starts[n]] up to keys[starts[n + 1]]. u and v: how many keys. */
+
+/* The near (U) and far (V) rows of all nodes. Row n of U is u_keys[u_starts[n]] up to, and without, u_keys[u_starts[n + 1]],
+ * ascending; V likewise. u and v: how many keys each list has. The starts need N + 1 entries each; the keys their number,
+ * which is not known before: on 8 with value 6 or 7 lend more and call again. At most 16,777,216 entries count.
+ * Refused 1, 13, 8 (4 u_starts, 5 v_starts, 6 u_keys, 7 v_keys). */
 lohandema_ended lohandema_get_interaction_lists(size_t axes, const uint64_t *key, size_t key_len, const size_t *own,
                                                 size_t own_len, const size_t *begin, size_t begin_len, size_t *u_starts,
                                                 size_t u_starts_len, uint64_t *u_keys, size_t u_keys_len, size_t *v_starts,
                                                 size_t v_starts_len, uint64_t *v_keys, size_t v_keys_len, size_t *u,
                                                 size_t *v);
-/* Near work: the sum over leaves of own sources times sources in the U row. starts and keys: the U list. */
+
+/* work: near work, the sum over leaves of own sources times sources in the U row. starts and keys: the U list, as above, which
+ * it writes. Refused 1, 13, 8 (4 starts, 6 keys). */
 lohandema_ended lohandema_get_near_work(size_t axes, const uint64_t *key, size_t key_len, const size_t *own, size_t own_len,
                                         const size_t *begin, size_t begin_len, size_t *starts, size_t starts_len,
                                         uint64_t *keys, size_t keys_len, uint64_t *work);

@@ -1,0 +1,40 @@
+/* What the tests share: counted checks, and lent places that are full of junk before a call. */
+#ifndef LOHANDEMA_CHECKS_H
+#define LOHANDEMA_CHECKS_H
+
+#include "../include/lohandema.h"
+
+#include <string.h>
+
+/* Count a check, and say where it failed. */
+void expect(bool holds, const char *what, const char *file, int line);
+void expect_ended(lohandema_ended ended, uint64_t number, size_t value, const char *what, const char *file, int line);
+
+#define EXPECT(truth) expect((truth), #truth, __FILE__, __LINE__)
+#define ENDED(call, number, value) expect_ended((call), (number), (value), #call, __FILE__, __LINE__)
+
+/* Sets bytes to junk, which is neither 0 nor an answer. */
+void fill_with_junk(void *place, size_t bytes);
+bool all_zero(const void *place, size_t bytes);
+bool all_junk(const void *place, size_t bytes);
+
+/* An array of 8-byte entries, of which the first `lent` were lent to a call that refused: those are 0, the others as they
+ * were. */
+#define ZEROED(array, lent) (all_zero((array), (lent)*8) && all_junk((array) + (lent), sizeof(array) - (lent)*8))
+
+/* And one into which `used` entries were written: 0 from there up to `lent`, the others as they were. */
+#define REST_ZEROED(array, used, lent)                                                                                       \
+    (all_zero((array) + (used), ((lent) - (used)) * 8) && all_junk((array) + (lent), sizeof(array) - (lent)*8))
+
+/* Whether an array starts with these entries. */
+#define STARTS_WITH(array, entries) (memcmp((array), (entries), sizeof(entries)) == 0)
+
+/* The parts of the test. */
+void test_names(void);
+void test_keys(void);
+void test_points(void);
+void test_build(void);
+void test_trees(void);
+void test_null(void);
+
+#endif

@@ -1,0 +1,80 @@
+/* Tests the header and the archive as a C or C++ program sees them: known answers of every call, each refusal, zeros in what
+ * was lent after a refusal, and NULL for slices without entries. c/test compiles and runs it. */
+#include "checks.h"
+
+#include <stdio.h>
+
+static unsigned made, failed;
+
+void expect(bool holds, const char *what, const char *file, int line)
+{
+    made++;
+    if (!holds) {
+        failed++;
+        fprintf(stderr, "%s:%d: does not hold: %s\n", file, line, what);
+    }
+}
+
+void expect_ended(lohandema_ended ended, uint64_t number, size_t value, const char *what, const char *file, int line)
+{
+    made++;
+    if (ended.number != number || ended.value != value) {
+        failed++;
+        fprintf(stderr, "%s:%d: ended %s %zu, not %s %zu: %s\n", file, line, lohandema_refusal_name(ended.number),
+                ended.value, lohandema_refusal_name(number), value, what);
+    }
+}
+
+enum { JUNK = 0xA5 };
+
+static bool all_bytes(const void *place, size_t bytes, unsigned char byte)
+{
+    const unsigned char *at = (const unsigned char *)place;
+    for (size_t i = 0; i < bytes; i++)
+        if (at[i] != byte)
+            return false;
+    return true;
+}
+
+void fill_with_junk(void *place, size_t bytes)
+{
+    memset(place, JUNK, bytes);
+}
+
+bool all_zero(const void *place, size_t bytes)
+{
+    return all_bytes(place, bytes, 0);
+}
+
+bool all_junk(const void *place, size_t bytes)
+{
+    return all_bytes(place, bytes, JUNK);
+}
+
+void test_names(void)
+{
+    EXPECT(strcmp(lohandema_refusal_name(0), "DONE") == 0);
+    EXPECT(strcmp(lohandema_refusal_name(LOHANDEMA_DIMS), "DIMS") == 0);
+    EXPECT(strcmp(lohandema_refusal_name(LOHANDEMA_ROOM), "ROOM") == 0);
+    EXPECT(strcmp(lohandema_refusal_name(LOHANDEMA_FILE), "FILE") == 0);
+    EXPECT(strcmp(lohandema_refusal_name(16), "UNKNOWN") == 0);
+    EXPECT(strcmp(lohandema_refusal_name(UINT64_MAX), "UNKNOWN") == 0);
+    EXPECT(strcmp(lohandema_room_name(LOHANDEMA_ROOM_WORK), "work") == 0);
+    EXPECT(strcmp(lohandema_room_name(LOHANDEMA_ROOM_CELLS), "sourced cells") == 0);
+    EXPECT(strcmp(lohandema_room_name(10), "unknown") == 0 && strcmp(lohandema_room_name(0), "unknown") == 0);
+    for (uint64_t number = 0; number < 18; number++)
+        EXPECT(strlen(lohandema_refusal_sentence(number)) > 20);
+    EXPECT(strstr(lohandema_refusal_sentence(LOHANDEMA_TREE), "well-formed") != NULL);
+}
+
+int main(void)
+{
+    test_names();
+    test_keys();
+    test_points();
+    test_build();
+    test_trees();
+    test_null();
+    printf("%u checks, %u failed\n", made, failed);
+    return failed == 0 ? 0 : 1;
+}
