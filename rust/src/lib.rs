@@ -6,8 +6,8 @@
 //! sources are summed one by one, and for each cell the far list (V) names the cells that are summed as groups. A leaf
 //! meets each source exactly once so: through its own U row, or through the V row of itself or of one cell above it.
 //!
-//! The calls are proved functions, linked as a static archive. This crate adds types, slices and vectors, and works out
-//! nothing but how much room to lend. Modules:
+//! The calls are proved functions, linked as a static archive. This crate, which is tested and not proved, adds types,
+//! slices and vectors; it works out only how much room to lend and which nodes are nobody's parent. Modules:
 //!
 //! - [`keys`]: level, parent, children, neighbours, encode and decode.
 //! - [`points`]: the box, a point's cell, the float test of two cells.
