@@ -1,18 +1,18 @@
 //! Lohandema beside the customer's Rust and beside plain Rust with sorted vectors: one process, one thread, identical trees.
 //! `run` beside this folder starts it. For each measure the least of several times counts.
+mod clock;
 mod plain;
 mod shapes;
 
+use clock::least;
 use faer::MatRef;
 use ferreus_bbfmm::bbfmm::{Dimensions, TreeLists};
 use ferreus_bbfmm::linear_tree;
-use lohandema::lent;
+use lohandema::lent::{self, Asked};
 use lohandema::points::Bounds;
 use lohandema::trees::{Lists, Rows, Tree};
 use plain::Plain;
 use std::collections::HashMap;
-use std::hint::black_box;
-use std::time::Instant;
 
 const LIMIT: usize = 64;
 const ORDER: usize = 5;
@@ -24,34 +24,6 @@ fn wanted(call: &str) -> bool {
     let words: Vec<String> = std::env::args().collect();
     let only = words.iter().position(|word| word == "--only");
     only.is_none_or(|at| words.get(at + 1).is_some_and(|word| word == call))
-}
-
-unsafe extern "C" {
-    fn clock_gettime(clock: i32, time: *mut [i64; 2]) -> i32;
-}
-
-/// The time that this thread has had on a processor, in milliseconds: a loaded machine does not lengthen it much.
-fn thread_time() -> f64 {
-    const CLOCK_THREAD_CPUTIME_ID: i32 = 3;
-    let mut time = [0; 2];
-    let status = unsafe { clock_gettime(CLOCK_THREAD_CPUTIME_ID, &mut time) };
-    assert_eq!(status, 0);
-    time[0] as f64 * 1e3 + time[1] as f64 / 1e6
-}
-
-/// The least time of so many runs, in milliseconds; after 10 seconds, of those made so far.
-fn least<T>(runs: usize, mut run: impl FnMut() -> T) -> f64 {
-    let mut best = f64::INFINITY;
-    let start = Instant::now();
-    for _ in 0..runs {
-        let from = thread_time();
-        black_box(run());
-        best = best.min(thread_time() - from);
-        if start.elapsed().as_secs() >= 10 {
-            break;
-        }
-    }
-    best
 }
 
 fn matrix(points: &[f64]) -> MatRef<'_, f64> {
@@ -75,7 +47,7 @@ fn rust_build(b: &Bounds, points: &[f64], keep: bool) -> (TreeLists, u64) {
 }
 
 /// The Rust's tree as columns.
-fn columns(lists: &TreeLists) -> Tree {
+fn columns(b: Bounds, lists: &TreeLists) -> Tree {
     let mut key: Vec<u64> = lists.tree.iter().copied().collect();
     key.sort_by_key(|k| (k % 32768, k / 32768));
     let (mut own, mut begin, mut order) = (vec![], vec![], vec![]);
@@ -85,13 +57,7 @@ fn columns(lists: &TreeLists) -> Tree {
         own.push(sources.len());
         order.extend_from_slice(sources);
     }
-    Tree {
-        axes: 3,
-        key,
-        own,
-        begin,
-        order,
-    }
+    Tree::from_columns(b, key, own, begin, order)
 }
 
 fn rust_lists(b: &Bounds, l: &TreeLists) -> usize {
@@ -127,7 +93,6 @@ impl Lent {
 
     fn fill(&mut self, tree: &Tree) -> (usize, usize) {
         lent::get_interaction_lists(
-            3,
             tree.columns(),
             &mut self.u_starts,
             &mut self.u_keys,
@@ -140,18 +105,11 @@ impl Lent {
 
 /// The tree's rows by plain Rust, which works out anew each time what it needs beside the columns.
 fn plain_lists(tree: &Tree, kept: bool, lists: &mut Lists) {
-    let plain = Plain::new(tree.axes, &tree.key, &tree.own);
+    let plain = Plain::new(tree.axes(), &tree.key, &tree.own);
     if kept {
         plain.lists_kept(lists);
     } else {
         plain.lists_searched(lists);
-    }
-}
-
-fn no_rows() -> Rows {
-    Rows {
-        starts: vec![],
-        keys: vec![],
     }
 }
 
@@ -176,15 +134,8 @@ impl Room {
     }
 
     fn build(&mut self, b: &Bounds, points: &[f64], keep: bool) -> (usize, u64) {
-        let asked = lent::Asked {
-            bounds: b,
-            sources: points,
-            targets: &[],
-            limit: LIMIT,
-            order: ORDER,
-            keep_empty: keep,
-            refine: false,
-        };
+        let mut asked = Asked::new(b, points, LIMIT);
+        asked.keep_empty = keep;
         lent::build_tree(
             asked,
             &mut self.work,
@@ -217,7 +168,7 @@ impl Survey {
     fn new(shape: &'static str, keep: bool) -> Survey {
         let points = shapes::points(shape, POINTS);
         let (built, depth) = rust_build(&shapes::bounds(), &points, keep);
-        let tree = columns(&built);
+        let tree = columns(shapes::bounds(), &built);
         assert_eq!(tree.depth(), depth);
         println!(
             "{shape}, keep-empty {keep}: {} nodes, depth {depth}",
@@ -253,8 +204,7 @@ impl Survey {
     /// The rows of all sides are the same.
     fn same_rows(&self, rows: &Lists) {
         for kept in [false, true] {
-            let (u, v) = (no_rows(), no_rows());
-            let mut plain = Lists { u, v };
+            let mut plain = Lists::default();
             plain_lists(&self.tree, kept, &mut plain);
             assert!(plain == *rows);
         }
@@ -308,13 +258,13 @@ fn build_and_lists(count: usize, runs: usize) -> f64 {
     let points = shapes::points("uniform", count);
     let mut room = Room::new(count, 1 << 20);
     let (nodes, _) = room.build(&b, &points, false);
-    let tree = Tree {
-        axes: 3,
-        key: room.key[..nodes].to_vec(),
-        own: room.own[..nodes].to_vec(),
-        begin: room.begin[..nodes].to_vec(),
-        order: room.order.clone(),
-    };
+    let tree = Tree::from_columns(
+        b,
+        room.key[..nodes].to_vec(),
+        room.own[..nodes].to_vec(),
+        room.begin[..nodes].to_vec(),
+        room.order.clone(),
+    );
     let rows = tree.get_interaction_lists().expect("room");
     let mut slices = Lent::new(&tree, &rows.u, &rows.v);
     let mut room = Room::new(count, nodes);

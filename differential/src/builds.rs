@@ -13,15 +13,12 @@ use lohandema::points::Bounds;
 use lohandema::trees::Tree;
 
 pub fn asked_of(s: &Survey, refine: bool) -> Asked<'_> {
-    Asked {
-        bounds: &s.bounds,
-        sources: &s.sources,
-        targets: &s.targets,
-        limit: s.limit,
-        order: s.order,
-        keep_empty: s.keep_empty,
-        refine,
-    }
+    let mut asked = Asked::new(&s.bounds, &s.sources, s.limit);
+    asked.targets = &s.targets;
+    asked.order = s.order;
+    asked.keep_empty = s.keep_empty;
+    asked.refine = refine;
+    asked
 }
 
 /// The Rust's tree, with its targets or without.
@@ -31,7 +28,7 @@ fn built(s: &Survey, refine: bool) -> (Tree, u64) {
         given.targets.clear();
     }
     let (lists, depth) = oracle::build(&given);
-    (oracle::columns(s.bounds.axes, &lists), depth)
+    (oracle::columns(&s.bounds, &lists), depth)
 }
 
 pub fn compare(t: &mut Tally, s: &Survey, refine: bool) {
@@ -125,13 +122,7 @@ pub fn refusals(t: &mut Tally, r: &mut Random, _case: u64) {
         asked(tree.0.key.len() <= room, (8, 3))?;
         Ok(tree)
     });
-    let empty = Tree {
-        axes: 0,
-        key: vec![],
-        own: vec![],
-        begin: vec![],
-        order: vec![],
-    };
+    let empty = Tree::from_columns(s.bounds, vec![], vec![], vec![], vec![]);
     let answer = right.as_ref().map_or(&empty, |(tree, _)| tree);
     let after = (
         vec![0; work.len()],

@@ -12,14 +12,15 @@ use std::collections::HashSet;
 
 /// Document 01's example tree: one axis, centre 4, radius 4.
 pub fn example() -> (Bounds, Tree) {
-    let tree = Tree {
-        axes: 1,
-        key: vec![0, 1, 32769, 2, 98306, 3, 32771, 196611, 229379],
-        own: vec![0, 0, 0, 0, 0, 1, 1, 1, 1],
-        begin: vec![0, 0, 0, 0, 0, 0, 1, 2, 3],
-        order: vec![0, 1, 2, 3],
-    };
-    (Bounds::new(&[4.0], 4.0), tree)
+    let bounds = Bounds::new(&[4.0], 4.0);
+    let tree = Tree::from_columns(
+        bounds,
+        vec![0, 1, 32769, 2, 98306, 3, 32771, 196611, 229379],
+        vec![0, 0, 0, 0, 0, 1, 1, 1, 1],
+        vec![0, 0, 0, 0, 0, 0, 1, 2, 3],
+        vec![0, 1, 2, 3],
+    );
+    (bounds, tree)
 }
 
 pub fn intended(t: &mut Tally, _r: &mut Random, _case: u64) {
@@ -95,7 +96,7 @@ pub fn intended(t: &mut Tally, _r: &mut Random, _case: u64) {
         (f64::NAN, Ok(vec![3])),
         (8.0, Err(FmmError::PointOutsideTree { point_index: 0 })),
     ] {
-        let ours = tree.points_to_keys(&b, &[x]);
+        let ours = tree.points_to_keys(&[x]);
         t.same(
             "lookup outside",
             (ours, lookup(&[x])),
@@ -107,7 +108,7 @@ pub fn intended(t: &mut Tally, _r: &mut Random, _case: u64) {
     let theirs = Err(FmmError::PointOutsideTree { point_index: 1 });
     t.same(
         "lookup where nothing is stored",
-        (tree.points_to_keys(&b, &[0.5, 3.0]), lookup(&[0.5, 3.0])),
+        (tree.points_to_keys(&[0.5, 3.0]), lookup(&[0.5, 3.0])),
         (refused(12, 1), theirs),
         none,
     );
@@ -121,7 +122,7 @@ pub fn intended(t: &mut Tally, _r: &mut Random, _case: u64) {
             order: 1,
             keep_empty: false,
         };
-        let theirs = oracle::columns(1, &oracle::build(&s).0).key;
+        let theirs = oracle::columns(&s.bounds, &oracle::build(&s).0).key;
         let ours = Tree::build(builds::asked_of(&s, false)).map(|_| ());
         t.same(
             "build outside",
@@ -138,7 +139,7 @@ pub fn intended(t: &mut Tally, _r: &mut Random, _case: u64) {
         order: 0,
         keep_empty: true,
     };
-    let theirs = oracle::columns(1, &oracle::build(&s).0).key;
+    let theirs = oracle::columns(&s.bounds, &oracle::build(&s).0).key;
     let ours = Tree::build(builds::asked_of(&s, true)).map(|_| ());
     t.same(
         "build of order 0",

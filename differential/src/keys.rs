@@ -8,7 +8,7 @@ use lohandema::Refusal;
 use lohandema::keys;
 
 pub fn refused<T>(number: u64, value: usize) -> Result<T, Refusal> {
-    Err(Refusal { number, value })
+    Err(Refusal::new(number, value))
 }
 
 /// Every call on one valid key.

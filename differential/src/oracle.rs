@@ -94,8 +94,13 @@ pub fn build(s: &Survey) -> (TreeLists, u64) {
     (lists, depth)
 }
 
+/// A box for trees that no survey is looked up in.
+pub fn any_box(axes: usize) -> Bounds {
+    Bounds::new(&[0.0; 3][..axes], 1.0)
+}
+
 /// The Rust's tree as columns, in the order of nodes.
-pub fn columns(axes: usize, lists: &TreeLists) -> Tree {
+pub fn columns(bounds: &Bounds, lists: &TreeLists) -> Tree {
     let mut key: Vec<u64> = lists.tree.iter().copied().collect();
     key.sort_by_key(|&k| rank(k));
     let (mut own, mut begin, mut order) = (vec![], vec![], vec![]);
@@ -108,11 +113,5 @@ pub fn columns(axes: usize, lists: &TreeLists) -> Tree {
         own.push(sources.len());
         order.extend_from_slice(sources);
     }
-    Tree {
-        axes,
-        key,
-        own,
-        begin,
-        order,
-    }
+    Tree::from_columns(*bounds, key, own, begin, order)
 }

@@ -101,7 +101,7 @@ pub fn boxes(t: &mut Tally, r: &mut Random, _case: u64) {
         });
         t.same(
             "key",
-            b.point_to_key(&[f64::NAN; 3], 17),
+            b.point_to_key(&[f64::NAN; 3][..axes.min(3)], 17),
             right.map(|_| 0),
             || format!("{b:?}"),
         );
@@ -119,29 +119,29 @@ pub fn anchors(t: &mut Tally, r: &mut Random, _case: u64) {
     let axes = 1 + r.index(3);
     let b = inputs::bounds(r, axes);
     for _ in 0..8 {
-        let p = inputs::point(r, &b);
+        let p = &inputs::point(r, &b)[..axes];
         let input = || format!("{b:?} point {p:?}");
-        if !oracle::inside(&b, &p) {
+        if !oracle::inside(&b, p) {
             t.refusal();
             let level = r.below(17);
-            t.same("anchor", b.point_to_anchor(&p, level), refused(7, 0), input);
-            t.same("key", b.point_to_key(&p, level), refused(7, 0), input);
+            t.same("anchor", b.point_to_anchor(p, level), refused(7, 0), input);
+            t.same("key", b.point_to_key(p, level), refused(7, 0), input);
             t.same(
                 "key, bad level",
-                b.point_to_key(&p, 17),
+                b.point_to_key(p, 17),
                 refused(9, 0),
                 input,
             );
             continue;
         }
         for level in 0..=16 {
-            let mut anchor = oracle::anchors(&b, &p, level);
+            let mut anchor = oracle::anchors(&b, p, level);
             let mut three = [0; 3];
             three[..axes].copy_from_slice(&anchor);
-            t.same("anchor", b.point_to_anchor(&p, level), Ok(three), input);
+            t.same("anchor", b.point_to_anchor(p, level), Ok(three), input);
             anchor.push(level);
             let key = morton::encode_morton_point(anchor, &dimensions(axes));
-            t.same("key", b.point_to_key(&p, level), Ok(key), input);
+            t.same("key", b.point_to_key(p, level), Ok(key), input);
         }
     }
 }

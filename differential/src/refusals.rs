@@ -13,16 +13,16 @@ use lohandema::trees::Tree;
 /// Document 01's rule, written out plainly.
 fn well_formed(tree: &Tree) -> bool {
     let n = tree.key.len();
-    if !(1..=3).contains(&tree.axes) || n < 1 || tree.own.len() != n || tree.begin.len() != n {
+    if !(1..=3).contains(&tree.axes()) || n < 1 || tree.own.len() != n || tree.begin.len() != n {
         return false;
     }
-    if tree.key[0] != 0 || !tree.key.iter().all(|k| valid(tree.axes, *k)) {
+    if tree.key[0] != 0 || !tree.key.iter().all(|k| valid(tree.axes(), *k)) {
         return false;
     }
     if !tree.key.windows(2).all(|w| rank(w[0]) < rank(w[1])) {
         return false;
     }
-    let d = oracle::dimensions(tree.axes);
+    let d = oracle::dimensions(tree.axes());
     let mut run = 0u128;
     for i in 0..n {
         if tree.begin[i] as u128 != run {
@@ -50,7 +50,7 @@ fn damaged(r: &mut Random, tree: &Tree) -> Tree {
     let n = t.key.len();
     let at = r.index(n);
     match r.below(14) {
-        0 => t.axes = r.pick(&[0, 1, 2, 3, 4, usize::MAX]),
+        0 => t.bounds.axes = r.pick(&[0, 1, 2, 3, 4, usize::MAX]),
         1 => t.key[at] = r.next() >> r.below(64),
         2 => t.key[at] = t.key[at].wrapping_add(32768),
         3 => t.key.swap(at, n - 1),
@@ -88,10 +88,10 @@ fn damaged(r: &mut Random, tree: &Tree) -> Tree {
 fn some_tree(r: &mut Random) -> Tree {
     if r.once_in(2) {
         let given = trees::odd_tree(r, 60);
-        oracle::columns(trees::axes_of(&given), &given)
+        oracle::columns(&oracle::any_box(trees::axes_of(&given)), &given)
     } else {
         let s = inputs::survey(r, 60);
-        oracle::columns(s.bounds.axes, &oracle::build(&s).0)
+        oracle::columns(&s.bounds, &oracle::build(&s).0)
     }
 }
 
@@ -148,7 +148,7 @@ pub fn asked(good: bool, refusal: (u64, usize)) -> Result<(), Refusal> {
 pub fn tree_calls(t: &mut Tally, r: &mut Random, _case: u64) {
     let s = inputs::survey(r, 200);
     let (built, depth) = oracle::build(&s);
-    let mut tree = oracle::columns(s.bounds.axes, &built);
+    let mut tree = oracle::columns(&s.bounds, &built);
     let whole = r.below(3) > 0;
     if !whole {
         tree = damaged(r, &tree);
@@ -157,7 +157,7 @@ pub fn tree_calls(t: &mut Tally, r: &mut Random, _case: u64) {
     if !whole && well_formed(&tree) {
         return;
     }
-    let axes = tree.axes;
+    let axes = tree.axes();
     let dims = asked((1..=3).contains(&axes), (1, 0));
     let formed = dims.and(asked(good, (13, 0)));
     let input = || format!("{} tree {tree:?}", show(&s));
@@ -169,7 +169,7 @@ pub fn tree_calls(t: &mut Tally, r: &mut Random, _case: u64) {
     let right = formed.and(asked(cells.len() <= room.len(), (8, 9)));
     let answer = if right.is_ok() { &cells[..] } else { &[] };
     let after = left(room.len(), answer);
-    let ours = lent::get_sourced_cells(axes, tree.columns(), &mut room);
+    let ours = lent::get_sourced_cells(tree.columns(), &mut room);
     t.same("sourced cells", ours, right.map(|_| cells.len()), input);
     t.same("sourced cells' slice", room, after, input);
     if right.is_err() {
@@ -204,7 +204,6 @@ pub fn tree_calls(t: &mut Tally, r: &mut Random, _case: u64) {
         left(lent_vk.len(), &vk[..n(vk.len())]),
     );
     let ours = lent::get_interaction_lists(
-        axes,
         tree.columns(),
         &mut lent_us,
         &mut lent_uk,
@@ -238,7 +237,7 @@ fn lookup_call(
     good: bool,
 ) {
     let mut b = s.bounds;
-    b.axes = tree.axes;
+    b.axes = tree.axes();
     if r.once_in(8) {
         b.radius = r.pick(&[0.2, f64::NAN, -4.0]);
     }
@@ -313,8 +312,7 @@ fn grouping_call(
         left(starts.len(), &s[..n(s.len())]),
         left(indices.len(), &g[..n(g.len())]),
     );
-    let ours =
-        lent::get_points_to_leaves_map(tree.axes, tree.columns(), &keys, &mut starts, &mut indices);
+    let ours = lent::get_points_to_leaves_map(tree.columns(), &keys, &mut starts, &mut indices);
     let input = || format!("{tree:?} keys {keys:?}");
     if right.is_err() {
         t.refusal();
@@ -342,7 +340,7 @@ pub fn large(t: &mut Tally, r: &mut Random, _case: u64) {
         keep_empty: false,
     };
     let (built, depth) = oracle::build(&s);
-    let tree = oracle::columns(3, &built);
+    let tree = oracle::columns(&s.bounds, &built);
     let short = || format!("{most} points");
     crate::builds::compare(t, &s, false);
     let theirs = linear_tree::points_to_keys(
@@ -359,7 +357,7 @@ pub fn large(t: &mut Tally, r: &mut Random, _case: u64) {
     t.same("grouping", groups, Ok(tree.order.clone()), short);
     t.same(
         "lookup",
-        tree.points_to_keys(&s.bounds, &s.sources),
+        tree.points_to_keys(&s.sources),
         Ok((theirs, steps)),
         short,
     );
@@ -369,7 +367,7 @@ pub fn large(t: &mut Tally, r: &mut Random, _case: u64) {
         let mut one_more = s.sources.clone();
         one_more.extend_from_slice(&s.bounds.centre);
         t.refusal();
-        let ours = tree.points_to_keys(&s.bounds, &one_more).map(|_| ());
+        let ours = tree.points_to_keys(&one_more).map(|_| ());
         t.same("lookup", ours, refused(4, 0), short);
         let keys = vec![tree.key[tree.key.len() - 1]; 1_048_577];
         let ours = tree.get_points_to_leaves_map(&keys).map(|_| ());

@@ -60,7 +60,7 @@ pub fn looked_up(
 pub fn lookup(t: &mut Tally, r: &mut Random, _case: u64) {
     let s = inputs::survey(r, 600);
     let (lists, depth) = oracle::build(&s);
-    let tree = oracle::columns(s.bounds.axes, &lists);
+    let tree = oracle::columns(&s.bounds, &lists);
     t.same("depth", tree.depth(), depth, || show(&s));
     t.same("well formed", tree.is_well_formed(), true, || show(&s));
     let rows = r.index(80);
@@ -78,7 +78,7 @@ pub fn lookup(t: &mut Tally, r: &mut Random, _case: u64) {
     for point in odd.chunks(s.bounds.axes).rev().take(8) {
         // of a single point the refusal has the value 0, which is its row here
         let right = looked_up(&s, &lists.leaves, depth, point);
-        let ours = tree.point_to_leaf(&s.bounds, point);
+        let ours = tree.point_to_leaf(point);
         let right = right.map(|(keys, steps)| (keys[0], steps as u64));
         t.same("lookup of one point", ours, right, || {
             format!("{} point {point:?}", show(&s))
@@ -90,7 +90,7 @@ pub fn lookup(t: &mut Tally, r: &mut Random, _case: u64) {
         if right.is_err() {
             t.refusal();
         }
-        let ours = tree.points_to_keys(&s.bounds, &points);
+        let ours = tree.points_to_keys(&points);
         t.same("lookup", ours, right, || {
             format!("{} points {points:?}", show(&s))
         });
@@ -116,12 +116,12 @@ pub fn lookup_many(t: &mut Tally, r: &mut Random, _case: u64) {
         keep_empty: true,
     };
     let (lists, depth) = oracle::build(&s);
-    let tree = oracle::columns(1, &lists);
+    let tree = oracle::columns(&s.bounds, &lists);
     let owners = tree.own.iter().filter(|&&own| own > 0).count();
     assert!(owners > 32_768, "hints are not shared: {owners} leaves");
     for points in [&s.sources, &others] {
         let right = looked_up(&s, &lists.leaves, depth, points);
-        let ours = tree.points_to_keys(&s.bounds, points);
+        let ours = tree.points_to_keys(points);
         t.same("lookup", ours, right, || format!("{} points", points.len()));
     }
 }
@@ -139,7 +139,7 @@ fn groups(tree: &Tree, map: &HashMap<u64, Vec<usize>>) -> (Vec<usize>, Vec<usize
 pub fn grouping(t: &mut Tally, r: &mut Random, _case: u64) {
     let s = inputs::survey(r, 600);
     let (lists, depth) = oracle::build(&s);
-    let tree = oracle::columns(s.bounds.axes, &lists);
+    let tree = oracle::columns(&s.bounds, &lists);
     let points = inputs::points(r, &s.bounds, 300);
     let keys: Vec<u64> = points
         .chunks(s.bounds.axes)
@@ -180,7 +180,7 @@ pub fn grouping(t: &mut Tally, r: &mut Random, _case: u64) {
 pub fn sourced(t: &mut Tally, r: &mut Random, _case: u64) {
     let s = inputs::survey(r, 1500);
     let (lists, _) = oracle::build(&s);
-    let tree = oracle::columns(s.bounds.axes, &lists);
+    let tree = oracle::columns(&s.bounds, &lists);
     let mut theirs: Vec<(usize, u64)> = lists
         .source_key_to_index_map
         .iter()
@@ -254,7 +254,7 @@ pub fn compare_near_work(
 pub fn lists(t: &mut Tally, r: &mut Random, _case: u64) {
     let s = inputs::survey(r, 500);
     let (lists, _) = oracle::build(&s);
-    let tree = oracle::columns(s.bounds.axes, &lists);
+    let tree = oracle::columns(&s.bounds, &lists);
     compare_lists(t, &tree, &lists.u_lists, &lists.v_lists, || show(&s));
 }
 
@@ -346,7 +346,7 @@ fn rust_rows(given: &TreeLists, axes: usize) -> RustRows {
 pub fn odd_lists(t: &mut Tally, r: &mut Random, _case: u64) {
     let given = odd_tree(r, 400);
     let axes = axes_of(&given);
-    let tree = oracle::columns(axes, &given);
+    let tree = oracle::columns(&oracle::any_box(axes), &given);
     let right = rust_rows(&given, axes);
     let input = || format!("{tree:?}");
     compare_lists(t, &tree, &right.u, &right.v, input);
@@ -363,12 +363,12 @@ pub fn near_work(t: &mut Tally, r: &mut Random, case: u64) {
     if case % 2 == 0 {
         let s = inputs::survey(r, 500);
         let (lists, _) = oracle::build(&s);
-        let tree = oracle::columns(s.bounds.axes, &lists);
+        let tree = oracle::columns(&s.bounds, &lists);
         compare_near_work(t, &tree, &lists.u_lists, || show(&s));
     } else {
         let given = odd_tree(r, 400);
         let axes = axes_of(&given);
-        let tree = oracle::columns(axes, &given);
+        let tree = oracle::columns(&oracle::any_box(axes), &given);
         let right = rust_rows(&given, axes);
         compare_near_work(t, &tree, &right.u, || format!("{tree:?}"));
     }

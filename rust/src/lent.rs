@@ -1,22 +1,67 @@
 //! The calls that write, on slices that the caller lends. After a refusal each lent slice is 0 throughout; after success
-//! its unused rest is.
+//! its unused rest is. These calls follow the C face; where it gains a column, so do they.
 
 use crate::Refusal;
-use crate::points::{Bounds, three};
+use crate::points::Bounds;
 use crate::raw;
 use crate::refusal::answered;
 
-/// The columns of a tree: for each node its key, its own sources, and the sum of those of all lower numbers.
-#[derive(Clone, Copy, Debug)]
+/// The columns of a tree and its number of axes, lent. A [`Tree`](crate::Tree) lends its own.
+#[derive(Clone, Copy, Debug, PartialEq, Eq)]
+#[must_use]
+#[non_exhaustive]
 pub struct Columns<'a> {
+    /// The number of axes.
+    pub axes: usize,
+    /// Each node's key.
     pub key: &'a [u64],
+    /// How many sources each node owns; only leaves own any.
     pub own: &'a [usize],
+    /// The sum of the own sources of all nodes before.
     pub begin: &'a [usize],
 }
 
+impl<'a> Columns<'a> {
+    /// These columns. They may be of any lengths and hold anything: what is no tree is refused by each call.
+    pub const fn new(
+        axes: usize,
+        key: &'a [u64],
+        own: &'a [usize],
+        begin: &'a [usize],
+    ) -> Columns<'a> {
+        Columns {
+            axes,
+            key,
+            own,
+            begin,
+        }
+    }
+
+    /// Refuses a box that has other axes than the tree.
+    fn same_axes(&self, bounds: &Bounds) -> Result<(), Refusal> {
+        if self.axes == bounds.axes {
+            Ok(())
+        } else {
+            Err(Refusal::new(Refusal::DIMS, 0))
+        }
+    }
+}
+
 /// The key of the leaf that holds one point, and the steps climbed to it, at most 15.
-pub fn point_to_leaf(bounds: &Bounds, tree: Columns, point: &[f64]) -> Result<(u64, u64), Refusal> {
+///
+/// # Errors
+/// [`DIMS`](Refusal::DIMS), also if box and tree differ in their axes; [`BOX`](Refusal::BOX); [`SHAPE`](Refusal::SHAPE)
+/// unless the point has one coordinate for each axis; [`TREE`](Refusal::TREE); [`POINT`](Refusal::POINT) if it is outside
+/// the box; [`UNSTORED`](Refusal::UNSTORED) if no leaf holds it.
+pub fn point_to_leaf(
+    bounds: &Bounds,
+    tree: Columns<'_>,
+    point: &[f64],
+) -> Result<(u64, u64), Refusal> {
+    tree.same_axes(bounds)?;
+    let point = bounds.coordinates(point)?;
     let (mut leaf, mut steps) = (0, 0);
+    // SAFETY: columns are read with their own lengths, centre and point as three numbers; `leaf` and `steps` are ours.
     let ended = unsafe {
         raw::lohandema_point_to_leaf(
             &bounds.centre,
@@ -28,7 +73,7 @@ pub fn point_to_leaf(bounds: &Bounds, tree: Columns, point: &[f64]) -> Result<(u
             tree.own.len(),
             tree.begin.as_ptr(),
             tree.begin.len(),
-            &three(point),
+            &point,
             &mut leaf,
             &mut steps,
         )
@@ -36,14 +81,23 @@ pub fn point_to_leaf(bounds: &Bounds, tree: Columns, point: &[f64]) -> Result<(u
     answered(ended, (leaf, steps))
 }
 
-/// The key of the leaf that holds each point, into `output`; answers the sum of the steps climbed.
+/// The key of the leaf that holds each point, into `output`; answers the sum of the steps climbed. The points are rows of
+/// one coordinate for each axis, flat; `output` has at least one entry for each.
+///
+/// # Errors
+/// [`DIMS`](Refusal::DIMS), also if box and tree differ in their axes; [`BOX`](Refusal::BOX); [`SHAPE`](Refusal::SHAPE) if
+/// the rows are not whole; [`COUNT`](Refusal::COUNT); [`TREE`](Refusal::TREE); [`ROOM`](Refusal::ROOM) 8; then for the
+/// lowest failing point [`POINT`](Refusal::POINT) if it is outside the box or [`UNSTORED`](Refusal::UNSTORED) if no leaf
+/// holds it.
 pub fn points_to_keys(
     bounds: &Bounds,
-    tree: Columns,
+    tree: Columns<'_>,
     points: &[f64],
     output: &mut [u64],
 ) -> Result<usize, Refusal> {
+    tree.same_axes(bounds).inspect_err(|_| output.fill(0))?;
     let mut steps = 0;
+    // SAFETY: columns and points are read with their own lengths; `output`, lent to us alone, is written within its own.
     let ended = unsafe {
         raw::lohandema_points_to_keys(
             &bounds.centre,
@@ -65,17 +119,22 @@ pub fn points_to_keys(
     answered(ended, steps)
 }
 
-/// The indices of the points of each node, with starts by node number; `points` has the key of each point's leaf.
+/// The indices of the points of each node, with starts by node number; `points` has the key of each point's leaf. `starts`
+/// has at least one entry more than there are nodes, `indices` one for each point.
+///
+/// # Errors
+/// [`DIMS`](Refusal::DIMS); [`COUNT`](Refusal::COUNT); [`TREE`](Refusal::TREE); [`ROOM`](Refusal::ROOM) 8;
+/// [`NOTLEAF`](Refusal::NOTLEAF) with the lowest index of a key that is no leaf.
 pub fn get_points_to_leaves_map(
-    axes: usize,
-    tree: Columns,
+    tree: Columns<'_>,
     points: &[u64],
     starts: &mut [usize],
     indices: &mut [usize],
 ) -> Result<(), Refusal> {
+    // SAFETY: columns and keys are read with their own lengths; both slices, lent to us alone, are written within theirs.
     let ended = unsafe {
         raw::lohandema_get_points_to_leaves_map(
-            axes,
+            tree.axes,
             tree.key.as_ptr(),
             tree.key.len(),
             tree.own.as_ptr(),
@@ -93,12 +152,16 @@ pub fn get_points_to_leaves_map(
     answered(ended, ())
 }
 
-/// The sourced cells by ascending key, into `cells`; answers how many.
-pub fn get_sourced_cells(axes: usize, tree: Columns, cells: &mut [u64]) -> Result<usize, Refusal> {
+/// The cells that own sources or have a descendant that does, by ascending key, into `cells`; answers how many.
+///
+/// # Errors
+/// [`DIMS`](Refusal::DIMS); [`TREE`](Refusal::TREE); [`ROOM`](Refusal::ROOM) 9.
+pub fn get_sourced_cells(tree: Columns<'_>, cells: &mut [u64]) -> Result<usize, Refusal> {
     let mut count = 0;
+    // SAFETY: columns are read with their own lengths; `cells`, lent to us alone, is written within its own.
     let ended = unsafe {
         raw::lohandema_get_sourced_cells(
-            axes,
+            tree.axes,
             tree.key.as_ptr(),
             tree.key.len(),
             tree.own.as_ptr(),
@@ -113,19 +176,23 @@ pub fn get_sourced_cells(axes: usize, tree: Columns, cells: &mut [u64]) -> Resul
     answered(ended, count)
 }
 
-/// The near (U) and far (V) rows of all nodes; answers how many keys each list has.
+/// The near (U) and far (V) rows of all nodes, flat; answers how many keys each list has. The starts have at least one
+/// entry more than there are nodes; row n is from `keys[starts[n]]` up to `keys[starts[n + 1]]`.
+///
+/// # Errors
+/// [`DIMS`](Refusal::DIMS); [`TREE`](Refusal::TREE); [`ROOM`](Refusal::ROOM) 4 to 7.
 pub fn get_interaction_lists(
-    axes: usize,
-    tree: Columns,
+    tree: Columns<'_>,
     u_starts: &mut [usize],
     u_keys: &mut [u64],
     v_starts: &mut [usize],
     v_keys: &mut [u64],
 ) -> Result<(usize, usize), Refusal> {
     let (mut u, mut v) = (0, 0);
+    // SAFETY: columns are read with their own lengths; the four slices, lent to us alone, are written within theirs.
     let ended = unsafe {
         raw::lohandema_get_interaction_lists(
-            axes,
+            tree.axes,
             tree.key.as_ptr(),
             tree.key.len(),
             tree.own.as_ptr(),
@@ -147,17 +214,21 @@ pub fn get_interaction_lists(
     answered(ended, (u, v))
 }
 
-/// Near work: the sum over leaves of own sources times sources in the U row. The U list goes into the two slices.
+/// Near work: the sum over leaves of own sources times sources in the U row. The U list goes into the two slices, as
+/// [`get_interaction_lists`] writes it.
+///
+/// # Errors
+/// [`DIMS`](Refusal::DIMS); [`TREE`](Refusal::TREE); [`ROOM`](Refusal::ROOM) 4 or 6.
 pub fn get_near_work(
-    axes: usize,
-    tree: Columns,
+    tree: Columns<'_>,
     u_starts: &mut [usize],
     u_keys: &mut [u64],
 ) -> Result<u64, Refusal> {
     let mut work = 0;
+    // SAFETY: columns are read with their own lengths; both slices, lent to us alone, are written within theirs.
     let ended = unsafe {
         raw::lohandema_get_near_work(
-            axes,
+            tree.axes,
             tree.key.as_ptr(),
             tree.key.len(),
             tree.own.as_ptr(),
@@ -175,16 +246,29 @@ pub fn get_near_work(
 }
 
 /// What a build is asked.
-#[derive(Clone, Copy, Debug)]
+///
+/// ```
+/// use lohandema::{Asked, Bounds, Tree};
+/// let bounds = Bounds::new(&[4.0], 4.0);
+/// let sources = [0.5, 1.5, 6.5, 7.5];
+/// let plain = Tree::build(Asked::new(&bounds, &sources, 1))?;
+/// let kept = Tree::build(Asked::new(&bounds, &sources, 1).keeping_empty())?;
+/// assert_eq!((plain.key.len(), kept.key.len()), (9, 11));
+/// # Ok::<(), lohandema::Refusal>(())
+/// ```
+#[derive(Clone, Copy, Debug, PartialEq)]
+#[must_use]
+#[non_exhaustive]
 pub struct Asked<'a> {
+    /// The box.
     pub bounds: &'a Bounds,
-    /// Rows of coordinates, flat.
+    /// The sources: rows of one coordinate for each axis, flat.
     pub sources: &'a [f64],
-    /// Looked at only with both flags.
+    /// The targets, likewise. They are looked at only with `keep_empty` and `refine`.
     pub targets: &'a [f64],
     /// A cell with more sources than this splits.
     pub limit: usize,
-    /// The interpolation order, 1 to 64 where targets are used.
+    /// The interpolation order, 1 to 64; looked at only where targets are.
     pub order: usize,
     /// Whether all children of a cell that splits are stored, or those with sources.
     pub keep_empty: bool,
@@ -192,10 +276,50 @@ pub struct Asked<'a> {
     pub refine: bool,
 }
 
+impl<'a> Asked<'a> {
+    /// A tree of these sources: without targets, without empty cells.
+    pub const fn new(bounds: &'a Bounds, sources: &'a [f64], limit: usize) -> Asked<'a> {
+        Asked {
+            bounds,
+            sources,
+            targets: &[],
+            limit,
+            order: 1,
+            keep_empty: false,
+            refine: false,
+        }
+    }
+
+    /// The same, with empty cells stored.
+    pub const fn keeping_empty(self) -> Asked<'a> {
+        Asked {
+            keep_empty: true,
+            ..self
+        }
+    }
+
+    /// The same, refined for targets and an interpolation order. Empty cells are stored, as refinement acts only so.
+    pub const fn refined(self, targets: &'a [f64], order: usize) -> Asked<'a> {
+        Asked {
+            targets,
+            order,
+            keep_empty: true,
+            refine: true,
+            ..self
+        }
+    }
+}
+
 /// The tree of the sources, into its columns and the order column `indices`; answers the number of nodes and the depth.
-/// `work` has two entries for each source and one for each target that is used.
+/// `work` has two entries for each source and one for each target that is used, `indices` one for each source, and each
+/// column one for each node.
+///
+/// # Errors
+/// [`DIMS`](Refusal::DIMS); [`BOX`](Refusal::BOX); [`SHAPE`](Refusal::SHAPE) and [`COUNT`](Refusal::COUNT), sources before
+/// targets; [`ORDER`](Refusal::ORDER); [`SOURCE`](Refusal::SOURCE); [`POINT`](Refusal::POINT) for a target;
+/// [`ROOM`](Refusal::ROOM) 1 to 3.
 pub fn build_tree(
-    asked: Asked,
+    asked: Asked<'_>,
     work: &mut [u64],
     indices: &mut [usize],
     key: &mut [u64],
@@ -203,6 +327,7 @@ pub fn build_tree(
     begin: &mut [usize],
 ) -> Result<(usize, u64), Refusal> {
     let (mut nodes, mut depth) = (0, 0);
+    // SAFETY: the points are read with their own lengths; the five slices, lent to us alone, are written within theirs.
     let ended = unsafe {
         raw::lohandema_build_tree(
             &asked.bounds.centre,

@@ -1,4 +1,4 @@
-//! The C face as it is declared in `include/lohandema.h`. The rest of the crate is safe; use that.
+//! The C face as it is declared in `include/lohandema.h`. The rest of the crate covers it.
 
 /// How a call ended: 0 and 0, or the number and value of a refusal.
 #[repr(C)]

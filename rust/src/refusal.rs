@@ -2,18 +2,24 @@ use crate::raw::Ended;
 use std::error::Error;
 use std::fmt;
 
-/// Why a call was refused: a number of document 01's table, and its value.
+/// Why a call was refused: a number, and for some numbers a value. Its text is a sentence with the cure.
 ///
 /// ```
-/// let refusal = lohandema::keys::get_parent(1, 0).unwrap_err();
-/// assert_eq!((refusal.number, refusal.value), (10, 0));
-/// assert_eq!(refusal.to_string(), "refused 10 ROOT");
+/// use lohandema::{Bounds, Refusal, Tree, Asked};
+/// let bounds = Bounds::new(&[4.0], 4.0);
+/// let refusal = Tree::build(Asked::new(&bounds, &[0.5, 9.0], 1)).unwrap_err();
+/// assert_eq!((refusal.number, refusal.value), (Refusal::SOURCE, 1));
+/// assert_eq!(
+///     refusal.to_string(),
+///     "source 1 lies outside the box: enlarge the box or remove the source (refused 6 SOURCE)"
+/// );
 /// ```
 #[derive(Clone, Copy, Debug, PartialEq, Eq, Hash)]
+#[non_exhaustive]
 pub struct Refusal {
-    /// 1 to 15.
+    /// One of the numbers below.
     pub number: u64,
-    /// The lowest failing index, which slice is short, or 0.
+    /// The index of the lowest point or key that fails, or which slice is short; for other numbers 0.
     pub value: usize,
 }
 
@@ -23,24 +29,138 @@ const NAMES: [&str; 16] = [
 ];
 
 impl Refusal {
-    /// The table's name of the number.
-    pub fn name(&self) -> &'static str {
-        NAMES.get(self.number as usize).copied().unwrap_or("")
+    /// The axes are not 1, 2 or 3 (extents: not 2, 4 or 6 numbers), or those of the box are not those of the tree.
+    pub const DIMS: u64 = 1;
+    /// The box is outside its domain.
+    pub const BOX: u64 = 2;
+    /// The coordinates are not whole points, or those of a single point are not one for each axis.
+    pub const SHAPE: u64 = 3;
+    /// There are more than 1,048,576 points or keys to group.
+    pub const COUNT: u64 = 4;
+    /// The order is not 1 to 64, and targets are used.
+    pub const ORDER: u64 = 5;
+    /// A source is outside the box; the value is the lowest index of such.
+    pub const SOURCE: u64 = 6;
+    /// A target or a point is outside the box; the value is the lowest index of such, 0 for a single point.
+    pub const POINT: u64 = 7;
+    /// A lent slice is short. The value says which: 1 work, 2 order, 3 a node column, 4 U starts, 5 V starts, 6 U keys,
+    /// 7 V keys, 8 the output of a lookup or the starts or indices of a grouping, 9 sourced cells.
+    pub const ROOM: u64 = 8;
+    /// A key or level is not valid, or an anchor is off its level.
+    pub const KEY: u64 = 9;
+    /// The root has no parent and no siblings.
+    pub const ROOT: u64 = 10;
+    /// A cell of level 16 has no children.
+    pub const DEEP: u64 = 11;
+    /// A point is in the box, but no leaf of the tree holds it; the value is its index.
+    pub const UNSTORED: u64 = 12;
+    /// The columns are not a well-formed tree.
+    pub const TREE: u64 = 13;
+    /// A key to group is no leaf of the tree; the value is the lowest index of such.
+    pub const NOTLEAF: u64 = 14;
+    /// A survey file breaks its rules. No call of this crate reads one.
+    pub const FILE: u64 = 15;
+
+    /// The refusal with this number and value.
+    #[must_use]
+    pub const fn new(number: u64, value: usize) -> Refusal {
+        Refusal { number, value }
     }
 
-    /// Whether the value says something: an index, or which slice is short.
-    fn has_value(&self) -> bool {
-        matches!(self.number, 6 | 7 | 8 | 12 | 14)
+    /// The name of the number, as the constants have it; empty for a number that has none.
+    #[must_use]
+    pub fn name(&self) -> &'static str {
+        let place = usize::try_from(self.number).ok();
+        place.and_then(|place| NAMES.get(place)).map_or("", |n| n)
+    }
+
+    /// Which lent slice is short, and how long it has to be.
+    fn short_slice(&self) -> &'static str {
+        match self.value {
+            1 => {
+                "work is short: lend two entries for each source and one for each target that is used"
+            }
+            2 => "the order column is short: lend one entry for each source",
+            3 => {
+                "a node column is short: lend one entry for each node, of which 1048576 count, or raise the limit of a cell"
+            }
+            4 => "the U starts are short: lend one entry more than there are nodes",
+            5 => "the V starts are short: lend one entry more than there are nodes",
+            6 => {
+                "the U keys are short: lend more, of which 16777216 count, or raise the limit of a cell"
+            }
+            7 => {
+                "the V keys are short: lend more, of which 16777216 count, or raise the limit of a cell"
+            }
+            8 => {
+                "the lookup output or the grouping's starts or indices are short: lend one entry for each point, and one start more than there are nodes"
+            }
+            9 => "the sourced cells are short: lend one entry for each node",
+            _ => "a lent slice is short: lend a longer one",
+        }
+    }
+
+    /// The sentence with its cure, but for what needs the value.
+    fn sentence(&self) -> &'static str {
+        match self.number {
+            Refusal::DIMS => {
+                "the axes are not 1, 2 or 3, or the box and the tree differ in them: give a centre of 1 to 3 coordinates, extents of 2, 4 or 6 numbers, and the tree's own box"
+            }
+            Refusal::BOX => {
+                "the box is outside its domain: give a radius from 0.25 to 1048576 and a centre that is finite and at most 16777216 in size on each axis"
+            }
+            Refusal::SHAPE => {
+                "the coordinates are not whole points: give each point as many as the box has axes"
+            }
+            Refusal::COUNT => "there are more than 1048576 points or keys: hand in fewer at a time",
+            Refusal::ORDER => {
+                "the order is not 1 to 64: choose one of these, or hand in no targets"
+            }
+            Refusal::ROOM => self.short_slice(),
+            Refusal::KEY => {
+                "a key, level or anchor is not valid: a level is at most 16, each anchor below 2 to the level, and a key is code times 32768 plus level"
+            }
+            Refusal::ROOT => {
+                "the root has no parent and no siblings: ask for those of a cell of level 1 or more"
+            }
+            Refusal::DEEP => {
+                "a cell of level 16 has no children: ask for those of a cell of level 15 or less"
+            }
+            Refusal::TREE => {
+                "the columns are not a well-formed tree: hand in the columns of a build as they are"
+            }
+            Refusal::FILE => "the survey file breaks its rules: write the file anew",
+            _ => "the call was refused: docs/REFUSALS.md says why",
+        }
     }
 }
 
 impl fmt::Display for Refusal {
     fn fmt(&self, f: &mut fmt::Formatter<'_>) -> fmt::Result {
-        write!(f, "refused {} {}", self.number, self.name())?;
-        if self.has_value() {
-            write!(f, " {}", self.value)?;
+        let value = self.value;
+        match self.number {
+            Refusal::SOURCE => write!(
+                f,
+                "source {value} lies outside the box: enlarge the box or remove the source"
+            ),
+            Refusal::POINT => write!(
+                f,
+                "point {value} lies outside the box: enlarge the box or remove the point"
+            ),
+            Refusal::UNSTORED => write!(
+                f,
+                "no leaf holds point {value}: build the tree with empty cells kept or remove the point"
+            ),
+            Refusal::NOTLEAF => write!(
+                f,
+                "key {value} of those to group is no leaf of the tree: hand in keys that a lookup in this tree answers"
+            ),
+            _ => f.write_str(self.sentence()),
+        }?;
+        match self.name() {
+            "" => write!(f, " (refused {} {value})", self.number),
+            name => write!(f, " (refused {} {name})", self.number),
         }
-        Ok(())
     }
 }
 

@@ -1,22 +1,26 @@
 //! Trees: nodes by level and then ascending code, in columns.
 
-use crate::Refusal;
+use crate::keys;
 use crate::lent::{self, Asked, Columns};
+use crate::limits::MOST_KEYS;
 use crate::points::Bounds;
-use crate::raw;
+use crate::refusal::Refusal;
+use crate::{raw, room};
 
-/// The most nodes of a build.
-const MOST_NODES: usize = 1_048_576;
+pub use crate::rows::{Groups, Lists, Rows};
 
-/// The most keys that a list may have.
-const MOST_KEYS: usize = 16_777_216;
-
-/// A tree's columns and the order of its sources, over 1 to 3 axes.
+/// A tree: its box, its columns with an entry for each node, and the order of its sources.
+///
+/// A build makes a tree; [`Tree::from_columns`] takes one as it is. The fields may be changed: every call judges the columns
+/// anew, and what is no tree is refused, [`TREE`](Refusal::TREE). Well formed are columns of one length, at least 1, whose
+/// keys are valid and ascend by level, then code, the first being the root; in which each other node's parent is present,
+/// only leaves own sources, and `begin` has the running sums of `own`, which come to at most 1,048,576.
 ///
 /// ```
-/// use lohandema::trees::Tree;
-/// // one axis, centre 4, radius 4: a root and its two children, with one and two sources
-/// let tree = Tree { axes: 1, key: vec![0, 1, 32769], own: vec![0, 1, 2], begin: vec![0, 0, 1], order: vec![0, 1, 2] };
+/// use lohandema::{Bounds, Tree};
+/// // one axis: a root and its two children, with one and two sources
+/// let bounds = Bounds::new(&[4.0], 4.0);
+/// let tree = Tree::from_columns(bounds, vec![0, 1, 32769], vec![0, 1, 2], vec![0, 0, 1], vec![0, 1, 2]);
 /// assert!(tree.is_well_formed());
 /// assert_eq!(tree.leaf_sources(2), [1, 2]);
 /// let lists = tree.get_interaction_lists()?;
@@ -24,104 +28,97 @@ const MOST_KEYS: usize = 16_777_216;
 /// assert_eq!(lists.v.row(1), []);
 /// # Ok::<(), lohandema::Refusal>(())
 /// ```
-#[derive(Clone, Debug, PartialEq, Eq)]
+#[derive(Clone, Debug, PartialEq)]
+#[must_use]
+#[non_exhaustive]
 pub struct Tree {
-    pub axes: usize,
+    /// The box, whose axes are the tree's.
+    pub bounds: Bounds,
+    /// Each node's key.
     pub key: Vec<u64>,
+    /// How many sources each node owns; only leaves own any.
     pub own: Vec<usize>,
+    /// The sum of the own sources of all nodes before.
     pub begin: Vec<usize>,
+    /// The indices of the sources, leaf by leaf, ascending within a leaf.
     pub order: Vec<usize>,
 }
 
-/// Rows of keys, one for each node, flat.
-#[derive(Clone, Debug, PartialEq, Eq)]
-pub struct Rows {
-    pub starts: Vec<usize>,
-    pub keys: Vec<u64>,
-}
-
-impl Rows {
-    /// The row of a node.
-    pub fn row(&self, node: usize) -> &[u64] {
-        &self.keys[self.starts[node]..self.starts[node + 1]]
-    }
-}
-
-/// The near (U) and far (V) rows of a tree.
-#[derive(Clone, Debug, PartialEq, Eq)]
-pub struct Lists {
-    pub u: Rows,
-    pub v: Rows,
-}
-
-/// The points of each node: those of node n are `indices[starts[n]..starts[n + 1]]`.
-#[derive(Clone, Debug, PartialEq, Eq)]
-pub struct Groups {
-    pub starts: Vec<usize>,
-    pub indices: Vec<usize>,
+/// A leaf of a tree: a node other than the root with no child.
+#[derive(Clone, Copy, Debug, PartialEq, Eq)]
+#[non_exhaustive]
+pub struct Leaf<'a> {
+    /// Its number among the nodes.
+    pub node: usize,
+    /// Its key.
+    pub key: u64,
+    /// The indices of its sources.
+    pub sources: &'a [usize],
 }
 
 impl Tree {
-    /// The tree of a survey. Room is made until the nodes fit, or the call refuses for want of any.
+    /// The tree of a survey. Room is made for the most nodes that it can have, so that one pass is enough.
     ///
     /// ```
-    /// use lohandema::{lent::Asked, points::Bounds, trees::Tree};
+    /// use lohandema::{Asked, Bounds, Tree};
     /// let bounds = Bounds::new(&[4.0], 4.0);
-    /// let sources = [0.5, 1.5, 6.5, 7.5];
-    /// let asked = Asked { bounds: &bounds, sources: &sources, targets: &[], limit: 1, order: 1, keep_empty: false, refine: true };
-    /// let tree = Tree::build(asked)?;
+    /// let tree = Tree::build(Asked::new(&bounds, &[0.5, 1.5, 6.5, 7.5], 1))?;
     /// assert_eq!(tree.key, [0, 1, 32769, 2, 98306, 3, 32771, 196611, 229379]);
     /// let lists = tree.get_interaction_lists()?;
     /// assert_eq!(lists.u.row(5), [3, 32771]);
     /// assert_eq!(lists.v.row(3), [98306]);
     /// # Ok::<(), lohandema::Refusal>(())
     /// ```
-    pub fn build(asked: Asked) -> Result<Tree, Refusal> {
-        let axes = asked.bounds.axes;
-        let rows = asked.sources.len() / axes.max(1);
-        let mut work = vec![0; 2 * rows + asked.targets.len() / axes.max(1)];
-        let mut order = vec![0; rows];
-        let mut room = 1024;
-        loop {
-            let (mut key, mut own, mut begin) = (vec![0; room], vec![0; room], vec![0; room]);
-            let built =
-                lent::build_tree(asked, &mut work, &mut order, &mut key, &mut own, &mut begin);
-            match built {
-                Ok((nodes, _)) => {
-                    key.truncate(nodes);
-                    own.truncate(nodes);
-                    begin.truncate(nodes);
-                    return Ok(Tree {
-                        axes,
-                        key,
-                        own,
-                        begin,
-                        order,
-                    });
-                }
-                Err(Refusal {
-                    number: 8,
-                    value: 3,
-                }) if room < MOST_NODES => room *= 4,
-                Err(refusal) => return Err(refusal),
-            }
+    ///
+    /// # Errors
+    /// As [`lent::build_tree`]; [`ROOM`](Refusal::ROOM) only, with 3, if the tree has more than 1,048,576 nodes.
+    pub fn build(asked: Asked<'_>) -> Result<Tree, Refusal> {
+        let room = room::most_nodes(&asked);
+        let mut work = vec![0; room::work(&asked)];
+        let mut order = vec![0; room::rows(asked.bounds.axes, asked.sources.len())];
+        let (mut key, mut own, mut begin) = (vec![0; room], vec![0; room], vec![0; room]);
+        let (nodes, _) =
+            lent::build_tree(asked, &mut work, &mut order, &mut key, &mut own, &mut begin)?;
+        let (key, own) = (room::cut(key, nodes), room::cut(own, nodes));
+        let begin = room::cut(begin, nodes);
+        Ok(Tree::from_columns(*asked.bounds, key, own, begin, order))
+    }
+
+    /// The tree of these columns, as they are.
+    pub fn from_columns(
+        bounds: Bounds,
+        key: Vec<u64>,
+        own: Vec<usize>,
+        begin: Vec<usize>,
+        order: Vec<usize>,
+    ) -> Tree {
+        Tree {
+            bounds,
+            key,
+            own,
+            begin,
+            order,
         }
+    }
+
+    /// The number of axes, those of the box.
+    #[must_use]
+    pub fn axes(&self) -> usize {
+        self.bounds.axes
     }
 
     /// The columns, lent.
     pub fn columns(&self) -> Columns<'_> {
-        Columns {
-            key: &self.key,
-            own: &self.own,
-            begin: &self.begin,
-        }
+        Columns::new(self.bounds.axes, &self.key, &self.own, &self.begin)
     }
 
-    /// Whether the columns are a well-formed tree.
+    /// Whether the columns are a well-formed tree. The order column and the rest of the box are not looked at.
+    #[must_use]
     pub fn is_well_formed(&self) -> bool {
+        // SAFETY: columns are read with their own lengths.
         unsafe {
             raw::lohandema_is_well_formed(
-                self.axes,
+                self.bounds.axes,
                 self.key.as_ptr(),
                 self.key.len(),
                 self.own.as_ptr(),
@@ -133,13 +130,17 @@ impl Tree {
     }
 
     /// The last node's level, at least 1.
+    #[must_use]
     pub fn depth(&self) -> u64 {
+        // SAFETY: the column is read with its own length.
         unsafe { raw::lohandema_depth_of(self.key.as_ptr(), self.key.len()) }
     }
 
-    /// A node's part of the order column; empty where the columns do not have it.
+    /// A node's part of the order column; empty where a column does not have it.
+    #[must_use]
     pub fn leaf_sources(&self, node: usize) -> &[usize] {
         let mut start = 0;
+        // SAFETY: columns are read with their own lengths; `start` is ours.
         let count = unsafe {
             raw::lohandema_leaf_sources(
                 self.own.as_ptr(),
@@ -152,95 +153,137 @@ impl Tree {
                 &mut start,
             )
         };
-        &self.order[start..start + count]
+        let part = self.order.get(start..).and_then(|rest| rest.get(..count));
+        part.unwrap_or(&[])
+    }
+
+    /// The leaves by node number, with their keys and sources.
+    ///
+    /// ```
+    /// use lohandema::{Asked, Bounds, Tree};
+    /// let bounds = Bounds::new(&[4.0], 4.0);
+    /// let tree = Tree::build(Asked::new(&bounds, &[6.5, 0.5, 6.6], 2))?;
+    /// let mut leaves = tree.leaves()?;
+    /// let leaf = leaves.next().unwrap();
+    /// assert_eq!((leaf.node, leaf.key, leaf.sources), (1, 1, &[1][..]));
+    /// let leaf = leaves.next().unwrap();
+    /// assert_eq!((leaf.node, leaf.key, leaf.sources), (2, 32769, &[0, 2][..]));
+    /// assert!(leaves.next().is_none());
+    /// # Ok::<(), lohandema::Refusal>(())
+    /// ```
+    ///
+    /// # Errors
+    /// [`DIMS`](Refusal::DIMS) unless there are 1 to 3 axes; [`TREE`](Refusal::TREE) if the columns are not well formed.
+    pub fn leaves(
+        &self,
+    ) -> Result<impl ExactSizeIterator<Item = Leaf<'_>> + DoubleEndedIterator, Refusal> {
+        let leaf = |node: usize| Leaf {
+            node,
+            key: self.key[node],
+            sources: self.leaf_sources(node),
+        };
+        Ok(self.leaf_numbers()?.into_iter().map(leaf))
+    }
+
+    /// The nodes that are nobody's parent, without the root.
+    fn leaf_numbers(&self) -> Result<Vec<usize>, Refusal> {
+        if !self.is_well_formed() {
+            keys::get_level(self.axes(), 0)?;
+            return Err(Refusal::new(Refusal::TREE, 0));
+        }
+        let parent = |key: &u64| keys::get_parent(self.axes(), *key);
+        let mut parents: Vec<u64> = self.key.iter().flat_map(parent).collect();
+        parents.sort_unstable();
+        parents.dedup();
+        let is_leaf = |node: &usize| parents.binary_search(&self.key[*node]).is_err();
+        Ok((1..self.key.len()).filter(is_leaf).collect())
     }
 
     /// The key of the leaf that holds one point, and the steps climbed to it.
-    pub fn point_to_leaf(&self, bounds: &Bounds, point: &[f64]) -> Result<(u64, u64), Refusal> {
-        lent::point_to_leaf(bounds, self.columns(), point)
+    ///
+    /// # Errors
+    /// As [`lent::point_to_leaf`] with the tree's own box.
+    pub fn point_to_leaf(&self, point: &[f64]) -> Result<(u64, u64), Refusal> {
+        lent::point_to_leaf(&self.bounds, self.columns(), point)
     }
 
-    /// The key of the leaf that holds each point, and the sum of the steps climbed.
-    pub fn points_to_keys(
-        &self,
-        bounds: &Bounds,
-        points: &[f64],
-    ) -> Result<(Vec<u64>, usize), Refusal> {
-        let mut output = vec![0; points.len() / bounds.axes.max(1)];
-        let steps = lent::points_to_keys(bounds, self.columns(), points, &mut output)?;
+    /// The key of the leaf that holds each point, and the sum of the steps climbed. The points are rows of one coordinate
+    /// for each axis, flat.
+    ///
+    /// # Errors
+    /// As [`lent::points_to_keys`] with the tree's own box; never [`ROOM`](Refusal::ROOM).
+    pub fn points_to_keys(&self, points: &[f64]) -> Result<(Vec<u64>, usize), Refusal> {
+        let mut output = vec![0; room::rows(self.axes(), points.len())];
+        let steps = lent::points_to_keys(&self.bounds, self.columns(), points, &mut output)?;
         Ok((output, steps))
     }
 
     /// The indices of the points of each node, from the key of each point's leaf.
+    ///
+    /// # Errors
+    /// As [`lent::get_points_to_leaves_map`]; never [`ROOM`](Refusal::ROOM).
     pub fn get_points_to_leaves_map(&self, points: &[u64]) -> Result<Groups, Refusal> {
         let mut starts = vec![0; self.key.len() + 1];
-        let mut indices = vec![0; points.len()];
-        lent::get_points_to_leaves_map(
-            self.axes,
-            self.columns(),
-            points,
-            &mut starts,
-            &mut indices,
-        )?;
+        let mut indices = vec![0; room::rows(1, points.len())];
+        lent::get_points_to_leaves_map(self.columns(), points, &mut starts, &mut indices)?;
         Ok(Groups { starts, indices })
     }
 
     /// The cells that own sources or have a descendant that does, by ascending key.
+    ///
+    /// # Errors
+    /// [`DIMS`](Refusal::DIMS); [`TREE`](Refusal::TREE).
     pub fn get_sourced_cells(&self) -> Result<Vec<u64>, Refusal> {
         let mut cells = vec![0; self.key.len()];
-        let count = lent::get_sourced_cells(self.axes, self.columns(), &mut cells)?;
-        cells.truncate(count);
-        Ok(cells)
+        let count = lent::get_sourced_cells(self.columns(), &mut cells)?;
+        Ok(room::cut(cells, count))
     }
 
     /// Near work: the sum over leaves of own sources times sources in the U row.
+    ///
+    /// # Errors
+    /// [`DIMS`](Refusal::DIMS); [`TREE`](Refusal::TREE); [`ROOM`](Refusal::ROOM) 6 if the U list has more than 16,777,216
+    /// keys.
     pub fn get_near_work(&self) -> Result<u64, Refusal> {
-        let places = self.key.len() + 1;
-        let mut room = (places * 64).min(MOST_KEYS);
+        let mut starts = vec![0; self.key.len() + 1];
+        let (mut room, _) = room::lists(self);
         loop {
-            let (mut starts, mut keys) = (vec![0; places], vec![0; room]);
-            match lent::get_near_work(self.axes, self.columns(), &mut starts, &mut keys) {
-                Err(Refusal { number: 8, .. }) if room < MOST_KEYS => {
-                    room = (room * 2).min(MOST_KEYS)
-                }
+            let mut keys = vec![0; room];
+            match lent::get_near_work(self.columns(), &mut starts, &mut keys) {
+                Err(room::U_SHORT) if room < MOST_KEYS => room = room::more(room),
                 answer => return answer,
             }
         }
     }
 
-    /// The near and far rows. Room is made until the rows fit, or the call refuses for want of any.
+    /// The near and far rows.
+    ///
+    /// # Errors
+    /// [`DIMS`](Refusal::DIMS); [`TREE`](Refusal::TREE); [`ROOM`](Refusal::ROOM) 6 or 7 if the U or V list has more than
+    /// 16,777,216 keys.
     pub fn get_interaction_lists(&self) -> Result<Lists, Refusal> {
         let places = self.key.len() + 1;
-        let mut room = (places * 64).min(MOST_KEYS);
+        let (mut u_room, mut v_room) = room::lists(self);
         loop {
-            let (mut u_starts, mut v_starts) = (vec![0; places], vec![0; places]);
-            let (mut u_keys, mut v_keys) = (vec![0; room], vec![0; room]);
+            let (mut u, mut v) = (
+                Rows::with_room(places, u_room),
+                Rows::with_room(places, v_room),
+            );
             let written = lent::get_interaction_lists(
-                self.axes,
                 self.columns(),
-                &mut u_starts,
-                &mut u_keys,
-                &mut v_starts,
-                &mut v_keys,
+                &mut u.starts,
+                &mut u.keys,
+                &mut v.starts,
+                &mut v.keys,
             );
             match written {
-                Ok((u, v)) => {
-                    u_keys.truncate(u);
-                    v_keys.truncate(v);
-                    return Ok(Lists {
-                        u: Rows {
-                            starts: u_starts,
-                            keys: u_keys,
-                        },
-                        v: Rows {
-                            starts: v_starts,
-                            keys: v_keys,
-                        },
-                    });
+                Ok((u_keys, v_keys)) => {
+                    u.keys = room::cut(u.keys, u_keys);
+                    v.keys = room::cut(v.keys, v_keys);
+                    return Ok(Lists { u, v });
                 }
-                Err(Refusal { number: 8, .. }) if room < MOST_KEYS => {
-                    room = (room * 2).min(MOST_KEYS)
-                }
+                Err(room::U_SHORT) if u_room < MOST_KEYS => u_room = room::more(u_room),
+                Err(room::V_SHORT) if v_room < MOST_KEYS => v_room = room::more(v_room),
                 Err(refusal) => return Err(refusal),
             }
         }

@@ -1,28 +1,12 @@
-//! The crate as a caller sees it: document 01's example from points to lists, refusals with number and value, what a refusal
-//! leaves in a lent slice, and, on scattered points in 1 to 3 axes, that each leaf meets each source exactly once.
+//! The crate as a caller sees it: the example from points to lists, refusals with number and value, what a refusal leaves in
+//! a lent slice, and, on scattered points in 1 to 3 axes, that each leaf meets each source exactly once.
 
-use lohandema::lent::{self, Asked, Columns};
-use lohandema::points::Bounds;
-use lohandema::trees::{Lists, Tree};
-use lohandema::{Refusal, keys};
-use std::collections::{HashMap, HashSet};
+use lohandema::{Asked, Bounds, Columns, Lists, Refusal, Tree, keys, lent};
+use std::collections::HashMap;
 
-fn asked<'a>(bounds: &'a Bounds, sources: &'a [f64], limit: usize) -> Asked<'a> {
-    Asked {
-        bounds,
-        sources,
-        targets: &[],
-        limit,
-        order: 1,
-        keep_empty: false,
-        refine: false,
-    }
-}
-
-fn example() -> (Bounds, Tree) {
+fn example() -> Tree {
     let bounds = Bounds::new(&[4.0], 4.0);
-    let tree = Tree::build(asked(&bounds, &[0.5, 1.5, 6.5, 7.5], 1)).unwrap();
-    (bounds, tree)
+    Tree::build(Asked::new(&bounds, &[0.5, 1.5, 6.5, 7.5], 1)).unwrap()
 }
 
 /// Points that are scattered by a fixed rule, more of them near one place.
@@ -45,8 +29,9 @@ fn scattered(axes: usize, count: usize) -> Vec<f64> {
 }
 
 #[test]
-fn the_example_of_document_01() {
-    let (bounds, tree) = example();
+fn the_example() {
+    let tree = example();
+    assert_eq!(tree.bounds, Bounds::new(&[4.0], 4.0));
     assert_eq!(tree.key, [0, 1, 32769, 2, 98306, 3, 32771, 196611, 229379]);
     assert_eq!(tree.own, [0, 0, 0, 0, 0, 1, 1, 1, 1]);
     assert_eq!(tree.begin, [0, 0, 0, 0, 0, 0, 1, 2, 3]);
@@ -54,8 +39,8 @@ fn the_example_of_document_01() {
     assert_eq!(tree.depth(), 3);
     assert!(tree.is_well_formed());
     assert_eq!(tree.leaf_sources(6), [1]);
-    assert_eq!(tree.point_to_leaf(&bounds, &[6.9]), Ok((196611, 0)));
-    let (leaves, steps) = tree.points_to_keys(&bounds, &[7.9, 0.0]).unwrap();
+    assert_eq!(tree.point_to_leaf(&[6.9]), Ok((196611, 0)));
+    let (leaves, steps) = tree.points_to_keys(&[7.9, 0.0]).unwrap();
     assert_eq!((leaves, steps), (vec![229379, 3], 0));
     let groups = tree.get_points_to_leaves_map(&[229379, 3, 229379]).unwrap();
     assert_eq!(groups.starts, [0, 0, 0, 0, 0, 0, 1, 1, 1, 3]);
@@ -71,74 +56,52 @@ fn the_example_of_document_01() {
 #[test]
 fn a_refusal_is_an_error_with_number_and_value() {
     let refusal = Bounds::new(&[0.0], -1.0).check().unwrap_err();
-    assert_eq!((refusal.number, refusal.value), (2, 0));
+    assert_eq!((refusal.number, refusal.value), (Refusal::BOX, 0));
     let error: Box<dyn std::error::Error + Send + Sync> = Box::new(refusal);
-    assert_eq!(error.to_string(), "refused 2 BOX");
+    assert!(error.to_string().ends_with(" (refused 2 BOX)"));
 
-    let (bounds, tree) = example();
-    let outside = asked(&bounds, &[0.5, f64::NAN, 9.0], 1);
-    assert_eq!(
-        Tree::build(outside).unwrap_err(),
-        Refusal {
-            number: 6,
-            value: 1
-        }
-    );
-    let lookup = tree.points_to_keys(&bounds, &[0.5, 3.0, 8.5]).unwrap_err();
-    assert_eq!(lookup.to_string(), "refused 12 UNSTORED 1");
-    let group = tree.get_points_to_leaves_map(&[3, 1]).unwrap_err();
-    assert_eq!(
-        group,
-        Refusal {
-            number: 14,
-            value: 1
-        }
-    );
-    assert_eq!(keys::get_level(4, 0).unwrap_err().number, 1);
-    assert_eq!(keys::get_parent(3, 17).unwrap_err().number, 9);
+    let tree = example();
+    let sources = [0.5, f64::NAN, 9.0];
+    let outside = Tree::build(Asked::new(&tree.bounds, &sources, 1));
+    assert_eq!(outside, Err(Refusal::new(Refusal::SOURCE, 1)));
+    let lookup = tree.points_to_keys(&[0.5, 3.0, 8.5]);
+    assert_eq!(lookup, Err(Refusal::new(Refusal::UNSTORED, 1)));
+    let group = tree.get_points_to_leaves_map(&[3, 1]);
+    assert_eq!(group, Err(Refusal::new(Refusal::NOTLEAF, 1)));
+    assert_eq!(keys::get_level(4, 0).unwrap_err().number, Refusal::DIMS);
+    assert_eq!(keys::get_parent(3, 17).unwrap_err().number, Refusal::KEY);
 }
 
 #[test]
 fn a_refusal_leaves_zeros() {
-    let (bounds, tree) = example();
+    let tree = example();
     let mut output = [7; 4];
-    let looked = lent::points_to_keys(&bounds, tree.columns(), &[0.5, -1.0], &mut output);
+    let looked = lent::points_to_keys(&tree.bounds, tree.columns(), &[0.5, -1.0], &mut output);
     assert_eq!((looked.unwrap_err().number, output), (7, [0; 4]));
 
     let nodes = tree.key.len();
     let (mut u_starts, mut v_starts) = (vec![7; nodes + 1], vec![7; nodes + 1]);
     let (mut u_keys, mut v_keys) = (vec![7; 1], vec![7; 99]);
     let lists = lent::get_interaction_lists(
-        1,
         tree.columns(),
         &mut u_starts,
         &mut u_keys,
         &mut v_starts,
         &mut v_keys,
     );
-    assert_eq!(
-        lists.unwrap_err(),
-        Refusal {
-            number: 8,
-            value: 6
-        }
-    );
+    assert_eq!(lists, Err(Refusal::new(Refusal::ROOM, 6)));
     assert!(u_starts.iter().chain(&v_starts).all(|start| *start == 0));
     assert!(u_keys.iter().chain(&v_keys).all(|key| *key == 0));
 }
 
 #[test]
 fn columns_that_lie_are_refused() {
-    let (_, tree) = example();
+    let tree = example();
     let mut own = tree.own.clone();
     own[1] = 1;
-    let lying = Columns {
-        key: &tree.key,
-        own: &own,
-        begin: &tree.begin,
-    };
+    let lying = Columns::new(1, &tree.key, &own, &tree.begin);
     let mut cells = [7; 9];
-    let answer = lent::get_sourced_cells(1, lying, &mut cells);
+    let answer = lent::get_sourced_cells(lying, &mut cells);
     assert_eq!((answer.unwrap_err().number, cells), (13, [0; 9]));
 }
 
@@ -149,7 +112,7 @@ fn sources_below(tree: &Tree) -> HashMap<u64, Vec<usize>> {
         let mut key = tree.key[node];
         let sources = tree.leaf_sources(node);
         below.entry(key).or_default().extend(sources);
-        while let Ok(parent) = keys::get_parent(tree.axes, key) {
+        while let Ok(parent) = keys::get_parent(tree.axes(), key) {
             below.entry(parent).or_default().extend(sources);
             key = parent;
         }
@@ -164,7 +127,7 @@ fn met(tree: &Tree, lists: &Lists, below: &HashMap<u64, Vec<usize>>, leaf: usize
     let mut node = leaf;
     loop {
         cells.extend(lists.v.row(node));
-        match keys::get_parent(tree.axes, tree.key[node]) {
+        match keys::get_parent(tree.axes(), tree.key[node]) {
             Ok(parent) => node = number[&parent],
             Err(_) => break,
         }
@@ -177,22 +140,13 @@ fn each_leaf_meets_each_source_once() {
     for axes in 1..=3 {
         let bounds = Bounds::new(&[32.0; 3][..axes], 32.0);
         let points = scattered(axes, 400);
-        let tree = Tree::build(asked(&bounds, &points, 3)).unwrap();
+        let tree = Tree::build(Asked::new(&bounds, &points, 3)).unwrap();
         let lists = tree.get_interaction_lists().unwrap();
         let below = sources_below(&tree);
-        let inner: HashSet<u64> = tree
-            .key
-            .iter()
-            .filter_map(|key| keys::get_parent(axes, *key).ok())
-            .collect();
-        for leaf in (0..tree.key.len()).filter(|i| !inner.contains(&tree.key[*i])) {
-            let mut sources = met(&tree, &lists, &below, leaf);
+        for leaf in tree.leaves().unwrap() {
+            let mut sources = met(&tree, &lists, &below, leaf.node);
             sources.sort_unstable();
-            assert_eq!(
-                sources,
-                (0..400).collect::<Vec<_>>(),
-                "axes {axes}, leaf {leaf}"
-            );
+            assert!(sources.iter().copied().eq(0..400), "axes {axes}, {leaf:?}");
         }
     }
 }

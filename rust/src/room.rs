@@ -1,0 +1,103 @@
+//! How much room is lent. A call that is lent too little is refused after nearly all of its work, so a build gets room for
+//! the most nodes that it can have, and the lists a first guess that is seldom short.
+
+use crate::Refusal;
+use crate::lent::Asked;
+use crate::limits::{DEEPEST, MOST_KEYS, MOST_NODES, MOST_POINTS, V_ROW};
+use crate::points::reference_depth;
+use crate::trees::Tree;
+
+/// The rows in so many coordinates, as far as a call counts them: more rows are refused before room is looked at.
+pub(crate) fn rows(axes: usize, coordinates: usize) -> usize {
+    (coordinates / axes.max(1)).min(MOST_POINTS)
+}
+
+/// How many targets a build may use.
+fn targets(asked: &Asked) -> usize {
+    if asked.refine {
+        rows(asked.bounds.axes, asked.targets.len())
+    } else {
+        0
+    }
+}
+
+/// The entries of `work`: two for each source and one for each target that may be used.
+pub(crate) fn work(asked: &Asked) -> usize {
+    2 * rows(asked.bounds.axes, asked.sources.len()) + targets(asked)
+}
+
+/// The most nodes that a build can have. A cell that splits, the root apart, has more sources than the limit or more targets
+/// than the near limit, so that a level has only so many of them. Each has at most 2^axes children, and without empty cells
+/// each child has a source.
+pub(crate) fn most_nodes(asked: &Asked) -> usize {
+    let axes = asked.bounds.axes.clamp(1, 3);
+    let sources = rows(axes, asked.sources.len());
+    let near_limit = asked.limit.max(asked.order.saturating_pow(axes as u32));
+    let by_sources = sources / asked.limit.saturating_add(1);
+    let by_targets = targets(asked) / near_limit.saturating_add(1);
+    let splitting = |level| (by_sources + by_targets).min(1_usize << (axes as u64 * level));
+    let split: usize = (1..DEEPEST).map(splitting).sum();
+    let children = (1 + split) << axes;
+    let stored = if asked.keep_empty {
+        children
+    } else {
+        children.min(DEEPEST as usize * sources)
+    };
+    (1 + stored).min(MOST_NODES)
+}
+
+/// How many keys the U rows and the V rows of a tree may have: a first guess.
+///
+/// Where all leaves are of one level, a U row has three cells along each axis along which cells divide, which is the mean
+/// number of children to the power log2 3; near leaves of other levels come on top where the tree is deeper than so many
+/// leaves need. V rows come from pairs of neighbours, so that 3^axes - 1 times the squares of the numbers of children is
+/// enough. Of the leaves only those with sources are listed.
+pub(crate) fn lists(tree: &Tree) -> (usize, usize) {
+    let axes = tree.axes().clamp(1, 3);
+    let below = tree.key.get(1..).unwrap_or(&[]);
+    let (parents, squares) = families(axes, below);
+    let leaves = below.len() + 1 - parents;
+    let owners = tree.own.iter().filter(|own| **own > 0).count();
+    let sourced = owners as f64 / leaves as f64;
+    let needed = reference_depth(axes, leaves).unwrap_or(0);
+    let spread = tree.depth().saturating_sub(needed) as f64;
+    let nodes = below.len() as f64;
+    let row = (nodes / parents as f64).powf(3_f64.log2()) * (1.0 + spread / 2.0);
+    let u = 1.25 * nodes * row * (2.0 * sourced).min(1.0);
+    let pairs = (3_f64.powi(axes as i32) - 1.0) * squares;
+    let full = nodes * V_ROW[axes - 1] as f64;
+    let v = pairs.min(full * (2.0 * sourced * sourced).min(1.0));
+    (capped(u), capped(v))
+}
+
+/// How many parents these keys have, and the squares of the numbers of their children, summed. Siblings stand together.
+fn families(axes: usize, keys: &[u64]) -> (usize, f64) {
+    let parent = |key: u64| (key % 32768, (key / 32768) >> axes);
+    let families = keys.chunk_by(|a, b| parent(*a) == parent(*b));
+    families.fold((0, 0.0), |(count, squares), children| {
+        (count + 1, squares + (children.len() as f64).powi(2))
+    })
+}
+
+/// So many keys, as far as they count.
+fn capped(keys: f64) -> usize {
+    (keys.ceil() as usize).min(MOST_KEYS)
+}
+
+/// What says that the U keys were short, and the V keys.
+pub(crate) const U_SHORT: Refusal = Refusal::new(Refusal::ROOM, 6);
+pub(crate) const V_SHORT: Refusal = Refusal::new(Refusal::ROOM, 7);
+
+/// Four times the room, for a guess that was short.
+pub(crate) fn more(room: usize) -> usize {
+    room.max(16).saturating_mul(4).min(MOST_KEYS)
+}
+
+/// The entries that were written. Unused room is given back where it is the greater part.
+pub(crate) fn cut<T>(mut lent: Vec<T>, written: usize) -> Vec<T> {
+    lent.truncate(written);
+    if lent.capacity() / 2 > written {
+        lent.shrink_to_fit();
+    }
+    lent
+}
