@@ -9,7 +9,7 @@ use Rattle.slices.specs.Lists.{range, filter}
 use Rattle.morton.specs.Anchors.{keyAt, onLevel}
 use Rattle.neighbours.specs.Directions.{stays, moved, onBox, toward}
 use Rattle.morton.proofs.Runs.{Held, held-listed}
-use Rattle.neighbours.proofs.Along.{from-small, stays-is, moved-on, key-is, along-start, along-room, along-in, along-out}
+use Rattle.neighbours.proofs.Along.{row-is-unit, from-small, stays-is, moved-on, key-is, along-start, along-room, along-in, along-out}
 use borrow.Author.Needs.{needs}
 use Rattle.neighbours.proofs.list_along.Statement.{statement}
 use Rattle.neighbours.proofs.list_along.Tie as tie
@@ -45,10 +45,10 @@ shared-slice-copy-out-row : tie.Need-shared-slice-copy-out-row Inv-loop μ-loop
 shared-slice-copy-out-row c = search needs
 
 stays-requires : tie.Need-stays-requires Inv-loop μ-loop
-stays-requires c κs = let s = c .before .before .before .before .before .before .before .before in (s .pre .0 .most, omega (arith, c .before .before .before .before .level-of .ensures, s .pre .0 .level), from-small (s .args .axes) (s .args .key) (c .before .before .before .before .level-of .result) (s .pre .0) (c .before .before .before .before .level-of .ensures) _ (c .before .before .before .anchors-of .ensures) (c .before .before .loop .i) _ (ap (λ (rs : List (List ℤ)). getD rs (c .before .before .loop .i) []) (s .pre .1)))
+stays-requires c κs = let s = c .before .before .before .before .before .before .before .before in (s .pre .0 .most, omega (arith, c .before .before .before .before .level-of .ensures, s .pre .0 .level), from-small (s .args .axes) (s .args .key) (c .before .before .before .before .level-of .result) (s .pre .0) (c .before .before .before .before .level-of .ensures) _ (c .before .before .before .anchors-of .ensures) (c .before .before .loop .i) _ (ap (λ (rs : List (List ℤ)). getD rs (c .before .before .loop .i) []) (s .pre .1)), row-is-unit (s .args .axes) (s .args .key) (c .before .before .before .before .level-of .result) (s .pre .0) (c .before .before .before .before .level-of .ensures) _ (c .before .before .before .anchors-of .ensures) (c .before .before .loop .i) _ (ap (λ (rs : List (List ℤ)). getD rs (c .before .before .loop .i) []) (s .pre .1)) (omega (arith, ap length (s .pre .1))))
 
 moved-requires : tie.Need-moved-requires Inv-loop μ-loop
-moved-requires c κs = let s = c .before .before .before .before .before .before .before .before .before .before in (s .pre .0 .most, from-small (s .args .axes) (s .args .key) (c .before .before .before .before .before .before .level-of .result) (s .pre .0) (c .before .before .before .before .before .before .level-of .ensures) _ (c .before .before .before .before .before .anchors-of .ensures) (c .before .before .before .before .loop .i) _ (ap (λ (rs : List (List ℤ)). getD rs (c .before .before .before .before .loop .i) []) (s .pre .1)), sym (c .before .stays .ensures) ∙ c .if1 .taken)
+moved-requires c κs = let s = c .before .before .before .before .before .before .before .before .before .before in (s .pre .0 .most, from-small (s .args .axes) (s .args .key) (c .before .before .before .before .before .before .level-of .result) (s .pre .0) (c .before .before .before .before .before .before .level-of .ensures) _ (c .before .before .before .before .before .anchors-of .ensures) (c .before .before .before .before .loop .i) _ (ap (λ (rs : List (List ℤ)). getD rs (c .before .before .before .before .loop .i) []) (s .pre .1)), row-is-unit (s .args .axes) (s .args .key) (c .before .before .before .before .before .before .level-of .result) (s .pre .0) (c .before .before .before .before .before .before .level-of .ensures) _ (c .before .before .before .before .before .anchors-of .ensures) (c .before .before .before .before .loop .i) _ (ap (λ (rs : List (List ℤ)). getD rs (c .before .before .before .before .loop .i) []) (s .pre .1)) (omega (arith, ap length (s .pre .1))), sym (c .before .stays .ensures) ∙ c .if1 .taken)
 
 key-with-requires : tie.Need-key-with-requires Inv-loop μ-loop
 key-with-requires c κs = let s = c .before .before .before .before .before .before .before .before .before .before .before .before .before .before in (
