@@ -32,6 +32,10 @@ use Rattle.morton.proofs.Runs.{Held, held-none, held-more}
 pub rows-few : (d : ℕ) → length (directions d) ≤ neighboursRoom 3
 rows-few d = omega (arith, rows-number d, neighbours-most d)
 
+-- a row's number is below the count that the code has
+pub in-rows : (d : ℕ) (rows : List (List ℤ)) (count i : ℕ) → rows ≡ directions d → count ≡ neighboursRoom d → i < count → (i < length rows) × (i < length (directions d))
+in-rows d rows count i e n h = (omega (arith, ap length e, rows-number d), omega (arith, rows-number d))
+
 module _ (d k level : ℕ) (v : ValidKey d k) (el : level ≡ levelOf k) (from : List ℕ) (ef : from ≡ filled 3 (anchors d k)) (i : ℕ) (row : List ℤ) (er : row ≡ directionRow d i) where
   from-at : (a : ℕ) → a < d → getD from a 0 ≡ getD (anchors d k) a 0
   from-at a h = ap (λ (xs : List ℕ). getD xs a 0) ef ∙ getD-filled 3 (anchors d k) a (omega (arith, anchors-length d k))

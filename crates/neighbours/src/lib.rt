@@ -111,6 +111,7 @@ fn list_along(rows: &[[i64; 3]], axes: usize, key: u64) -> KeyList
     requires { ⌜ ValidKey axes key × (now rows ≡ directions axes) ⌝ }
     ensures { λ r. ⌜ r ≡ listed Done (neighboursOf axes key) ⌝ }
 {
+    let count = axes::neighbours_of(axes);
     let x = codes::tables::encode_table(axes, 0);
     let y = codes::tables::encode_table(axes, 1);
     let z = codes::tables::encode_table(axes, 2);
@@ -119,7 +120,7 @@ fn list_along(rows: &[[i64; 3]], axes: usize, key: u64) -> KeyList
     let mut found = [0u64; Three::NEIGHBOURS];
     let mut len: usize = 0;
     let mut i: usize = 0;
-    while i < rows.len() {
+    while i < count {
         let row = rows[i];
         if stays(axes, level, from, row) {
             let to = moved(axes, level, from, row);
