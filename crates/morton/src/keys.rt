@@ -1,7 +1,7 @@
 // A cell's level, parent, children, siblings and ancestors, by its key.
-use axes::Three;
 use crate::KeyList;
 use crate::NumberAnswer;
+use axes::Three;
 use refusal::Outcome;
 use refusal::Refusal;
 ghost use mathlib.Core.Path.{_≡_};
