@@ -1,19 +1,16 @@
 -- One step along a direction row, axis by axis.
-use mathlib.Core.Path.{_≡_, refl, sym, ap, ap₂, _∙_}
-use mathlib.Core.Bool.{Bool, true, false, _&&_}
-use mathlib.Core.List.{List, [], _∷_, _++_, map}
-use Prim.Native.Nat.{ℕ, zero, suc, _+_, _*_, _-_, _/_, _%_, _^_, _≤_, _<_}
+use mathlib.Core.Path.{_≡_, refl, sym, ap, _∙_}
+use mathlib.Core.Bool.{Bool, true, false}
+use mathlib.Core.List.{List}
+use Prim.Native.Nat.{ℕ, zero, suc, _+_, _-_, _^_, _≤_, _<_}
 use native.Mathlib.Omega.{arith}
 use native.Mathlib.Nat.{add-zero}
-use lib.Dec.{leb, ltb}
 use lib.IntN.{ℤ, pos, negsuc, _+ℤ_, subℕ, natAbs}
-use lib.ListN.{length, getD, set, replicate}
+use lib.ListN.{getD}
 use mir.Facts.{toZ-ofZ}
 use mir.Syntax.{w64}
 use mir.Val.{SFits, toZ, ofZ}
-use borrow.Author.Tests.{ltb-true, leb-true, lt-ltb, le-ltb, le-leb, lt-leb, ne-eqb}
-use Rattle.slices.specs.Lists.{range, filled}
-use Rattle.slices.specs.Every.{every}
+use borrow.Author.Tests.{ltb-true, lt-ltb, le-ltb, lt-leb, ne-eqb}
 use Rattle.slices.proofs.Every.{every-at, every-all, every-fails, every-next, every-none}
 use Rattle.slices.proofs.Tests.{clash}
 use Rattle.codes.specs.Tables.{Bytes2}

@@ -16,7 +16,7 @@ oneStep (pos n) = leb n 1
 abbrev pub unitRow : List ℤ → Bool
 unitRow steps = every 3 (λ a. oneStep (getD steps a none))
 
--- one more than such a step
+-- one more than such a step; any other counts as 1
 abbrev pub raised : ℤ → ℕ
 raised (negsuc zero) = 0
 raised (negsuc (suc n)) = 2

@@ -61,7 +61,7 @@ const DIRECTION_VECTORS_3D: [[i64; 3]; Three::NEIGHBOURS] = [
     [1, 1, 1],
 ];
 
-// One more than a step of a row, -1, 0 or 1, so that no number is negative.
+// One more than a step of a row, -1, 0 or 1, so that no number is negative. Any other step counts as 1.
 fn raised(step: i64) -> u64
     ensures { λ r. ⌜ (r ≡ raisedStep step) × (r ≤ 2) ⌝ }
 {
