@@ -13,7 +13,7 @@ use Rattle.slices.specs.Lists.{sum, range, count, Mem, Distinct}
 use Rattle.slices.proofs.Tests.{and-l, and-r}
 use Rattle.slices.proofs.Counts.{count-few}
 use Rattle.slices.proofs.Rows.{count-split}
-use Rattle.morton.specs.Keys.{key, levelOf, codeOf}
+use Rattle.morton.specs.Keys.{neighboursRoom, farRoom, key, levelOf, codeOf}
 use Rattle.morton.specs.Anchors.{anchor, near, within1}
 use Rattle.morton.proofs.Cells.{key-parts}
 use Rattle.morton.proofs.Nearness.{within-lo, within-hi, anchors-tell}
@@ -73,14 +73,15 @@ module _ (d : ℕ) (keys : List ℕ) (dist : Distinct keys) (level p : ℕ) wher
       let at : (v : ℕ) → count (λ x. q x && eqb (off n x) v) keys ≤ 6 ^ n = λ v. most n _ (fit-at n q fit v) in
       omega (arith, by-offset n q fit, at 0, at 1, at 2, at 3, at 4, at 5)
 
-six : (d : ℕ) → d ≤ 3 → 6 ^ d ≤ 216
+-- the V row of a cell, its neighbours and the cell itself
+six : (d : ℕ) → d ≤ 3 → 6 ^ d ≤ farRoom 3 + (neighboursRoom 3 + 1)
 six zero h = omega arith
 six (suc zero) h = omega arith
 six (suc (suc zero)) h = omega arith
 six (suc (suc (suc zero))) h = omega arith
 six (suc (suc (suc (suc d)))) h = absurd (omega arith)
 
-pub around-few : (d : ℕ) (keys own : List ℕ) → SoundTree d keys own → (p : ℕ) → count (around d keys own p) keys ≤ 216
+pub around-few : (d : ℕ) (keys own : List ℕ) → SoundTree d keys own → (p : ℕ) → count (around d keys own p) keys ≤ farRoom 3 + (neighboursRoom 3 + 1)
 around-few d keys own t p = omega (arith, most d keys dist (levelOf p) (codeOf p) d (around d keys own p) fit, six d (t .most))
   where
     dist : Distinct keys

@@ -6,7 +6,7 @@ use native.Mathlib.Omega.{arith}
 use lib.Dec.{leb}
 use borrow.Author.Tests.{leb-true, le-leb, lt-leb}
 use Rattle.slices.proofs.Tests.{and-l, and-r, both}
-use Rattle.axes.specs.Axes.{axesKnown}
+use Rattle.axes.specs.Axes.{axesKnown, neighboursRoom}
 
 pub axes-known : (d : ℕ) → 1 ≤ d → d ≤ 3 → axesKnown d ≡ true
 axes-known d l h = both (le-leb 1 d l) (le-leb d 3 h)
@@ -26,3 +26,11 @@ axes-other (suc (suc (suc (suc d)))) a b c = axes-many (suc (suc (suc (suc d))))
 
 pub axes-facts : (d : ℕ) → axesKnown d ≡ true → (1 ≤ d) × (d ≤ 3)
 axes-facts d h = (leb-true 1 d (and-l _ _ h), leb-true d 3 (and-r (leb 1 d) _ h))
+
+-- three axes have the most
+pub neighbours-most : (d : ℕ) → neighboursRoom d ≤ neighboursRoom 3
+neighbours-most zero = omega arith
+neighbours-most (suc zero) = omega arith
+neighbours-most (suc (suc zero)) = omega arith
+neighbours-most (suc (suc (suc zero))) = omega arith
+neighbours-most (suc (suc (suc (suc d)))) = rw (axes-many (suc (suc (suc (suc d)))) (omega arith)) (omega arith)

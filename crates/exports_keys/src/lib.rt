@@ -1,5 +1,6 @@
 // The key calls for C: numbers, and references to numbers and arrays of fixed length.
 use anchors::TouchAnswer;
+use axes::Three;
 use morton::KeyList;
 use morton::NumberAnswer;
 use refusal::Outcome;
@@ -41,7 +42,7 @@ fn tell_number(answer: NumberAnswer, number: &mut u64) -> Ended
     }
 }
 
-fn tell_keys(list: KeyList, keys: &mut [u64; 26], len: &mut usize) -> Ended
+fn tell_keys(list: KeyList, keys: &mut [u64; Three::NEIGHBOURS], len: &mut usize) -> Ended
     ensures ended { λ r. ⌜ r ≡ told (list .outcome) ⌝ }
     ensures keys { λ _. ⌜ now (keys .exit) ≡ list .keys ⌝ }
     ensures len { λ _. ⌜ now (len .exit) ≡ list .len ⌝ }
@@ -95,7 +96,7 @@ pub extern "C" fn lohandema_encode_morton_point(
 pub extern "C" fn lohandema_get_children(
     axes: usize,
     key: u64,
-    keys: &mut [u64; 26],
+    keys: &mut [u64; Three::NEIGHBOURS],
     len: &mut usize,
 ) -> Ended
     ensures ended { λ r. ⌜ r ≡ told (childrenAnswer axes key .outcome) ⌝ }
@@ -109,7 +110,7 @@ pub extern "C" fn lohandema_get_children(
 pub extern "C" fn lohandema_get_siblings(
     axes: usize,
     key: u64,
-    keys: &mut [u64; 26],
+    keys: &mut [u64; Three::NEIGHBOURS],
     len: &mut usize,
 ) -> Ended
     ensures ended { λ r. ⌜ r ≡ told (siblingsAnswer axes key .outcome) ⌝ }
@@ -123,7 +124,7 @@ pub extern "C" fn lohandema_get_siblings(
 pub extern "C" fn lohandema_get_ancestors(
     axes: usize,
     key: u64,
-    keys: &mut [u64; 26],
+    keys: &mut [u64; Three::NEIGHBOURS],
     len: &mut usize,
 ) -> Ended
     ensures ended { λ r. ⌜ r ≡ told (ancestorsAnswer axes key .outcome) ⌝ }
@@ -137,7 +138,7 @@ pub extern "C" fn lohandema_get_ancestors(
 pub extern "C" fn lohandema_get_neighbours(
     axes: usize,
     key: u64,
-    keys: &mut [u64; 26],
+    keys: &mut [u64; Three::NEIGHBOURS],
     len: &mut usize,
 ) -> Ended
     ensures ended { λ r. ⌜ r ≡ told (neighboursAnswer axes key .outcome) ⌝ }

@@ -47,5 +47,6 @@ module _ (d : ℕ) (keys own begin us uk vs vk : List ℕ) (m n p q : ℕ) where
       → vs ≡ filled p (rowStarts (vRow d keys own) keys) → vk ≡ filled q (rowKeys (vRow d keys own) keys)
       → Once d keys own begin (rowOf keys us uk) (rowOf keys vs vk) × Near d keys own begin (rowOf keys us uk) × Far d keys (rowOf keys vs vk) × Few d keys (rowOf keys vs vk)
   demand-3 h a b e f =
-      let formed = asked (wellFormed d keys own begin) Tree (both-done (ask (axesKnown d) Dims) (ask (wellFormed d keys own begin) Tree) h .1) in
-      demand.written d keys own begin formed us uk vs vk (filled-written _ keys us uk m n a b) (filled-written _ keys vs vk p q e f)
+      let checks = both-done (ask (axesKnown d) Dims) (ask (wellFormed d keys own begin) Tree) h in
+      let formed = asked (wellFormed d keys own begin) Tree (checks .1) in
+      demand.written d keys own begin formed (asked (axesKnown d) Dims (checks .0)) us uk vs vk (filled-written _ keys us uk m n a b) (filled-written _ keys vs vk p q e f)

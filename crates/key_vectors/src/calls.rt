@@ -1,11 +1,13 @@
 // The answer of each key call in one form, and whether two answers are one.
 use anchors::AnchorAnswer;
 use anchors::TouchAnswer;
+use axes::Three;
 use morton::KeyList;
 use morton::NumberAnswer;
 use refusal::Outcome;
 use refusal::Refusal;
 ghost use mathlib.Core.Path.{_≡_};
+ghost use Rattle.axes.specs.Axes.{neighboursRoom};
 ghost use Rattle.key_vectors.specs.Sameness.{sameNumbers, sameAnswer};
 
 // The key calls, by the words that name them in a line.
@@ -30,7 +32,7 @@ pub struct Answer {
     pub number: u64,
     pub value: u64,
     pub len: usize,
-    pub numbers: [u64; 26],
+    pub numbers: [u64; Three::NEIGHBOURS],
 }
 
 pub fn no_answer() -> Answer {
@@ -39,7 +41,7 @@ pub fn no_answer() -> Answer {
         number: 0,
         value: 0,
         len: 0,
-        numbers: [0u64; 26],
+        numbers: [0u64; Three::NEIGHBOURS],
     }
 }
 
@@ -49,7 +51,7 @@ pub fn refused(number: u64, value: u64) -> Answer {
         number,
         value,
         len: 0,
-        numbers: [0u64; 26],
+        numbers: [0u64; Three::NEIGHBOURS],
     }
 }
 
@@ -58,7 +60,7 @@ fn of_refusal(refusal: Refusal) -> Answer {
 }
 
 fn of_one(number: u64) -> Answer {
-    let mut numbers = [0u64; 26];
+    let mut numbers = [0u64; Three::NEIGHBOURS];
     numbers[0] = number;
     Answer {
         good: true,
@@ -99,7 +101,7 @@ fn of_keys(list: KeyList) -> Answer {
 fn of_anchors(answer: AnchorAnswer) -> Answer {
     let outcome = answer.outcome;
     let anchor = answer.anchor;
-    let mut numbers = [0u64; 26];
+    let mut numbers = [0u64; Three::NEIGHBOURS];
     numbers[0] = anchor[0];
     numbers[1] = anchor[1];
     numbers[2] = anchor[2];
@@ -135,7 +137,7 @@ fn answer_of_key(call: Call, axes: usize, key: u64) -> Answer {
 }
 
 // A call with its arguments: axes and a key; or axes, three anchors and a level; or axes and two keys.
-pub fn answer_of(call: Call, given: [u64; 26], len: usize) -> Answer {
+pub fn answer_of(call: Call, given: [u64; Three::NEIGHBOURS], len: usize) -> Answer {
     let axes = given[0] as usize;
     match call {
         Call::Encode => {
@@ -160,10 +162,10 @@ pub fn answer_of(call: Call, given: [u64; 26], len: usize) -> Answer {
     }
 }
 
-fn same_numbers(a: [u64; 26], b: [u64; 26]) -> bool
-    ensures { λ r. ⌜ r ≡ sameNumbers 26 a b ⌝ }
+fn same_numbers(a: [u64; Three::NEIGHBOURS], b: [u64; Three::NEIGHBOURS]) -> bool
+    ensures { λ r. ⌜ r ≡ sameNumbers (neighboursRoom 3) a b ⌝ }
 {
-    let mut n: usize = 26;
+    let mut n = Three::NEIGHBOURS;
     while 0 < n {
         n -= 1;
         if a[n] != b[n] {

@@ -1,7 +1,9 @@
 // Places, numbers and lists of numbers in a text.
+use axes::Three;
 ghost use mathlib.Core.Path.{_≡_};
 ghost use Prim.Native.Nat.{ℕ, _≤_, _<_};
 ghost use lib.ListN.{length, getD};
+ghost use Rattle.axes.specs.Axes.{neighboursRoom};
 
 // The first place of a byte, from a place on, or the text's length.
 pub fn find(s: &[u8], from: usize, byte: u8) -> usize
@@ -81,28 +83,28 @@ fn number_at(s: &[u8], from: usize) -> Number
     }
 }
 
-// Up to 26 numbers; unused places are 0.
+// Up to as many numbers as a key list has keys; unused places are 0.
 pub struct Numbers {
     pub good: bool,
     pub len: usize,
-    pub values: [u64; 26],
+    pub values: [u64; Three::NEIGHBOURS],
 }
 
 fn unread() -> Numbers
-    ensures { λ r. ⌜ r .len ≤ 26 ⌝ }
+    ensures { λ r. ⌜ r .len ≤ neighboursRoom 3 ⌝ }
 {
     Numbers {
         good: false,
         len: 0,
-        values: [0u64; 26],
+        values: [0u64; Three::NEIGHBOURS],
     }
 }
 
 // The numbers of a text in which each has one blank before it, and nothing else stands.
 pub fn read_numbers(s: &[u8]) -> Numbers
-    ensures { λ r. ⌜ r .len ≤ 26 ⌝ }
+    ensures { λ r. ⌜ r .len ≤ neighboursRoom 3 ⌝ }
 {
-    let mut values = [0u64; 26];
+    let mut values = [0u64; Three::NEIGHBOURS];
     let mut len: usize = 0;
     let mut at: usize = 0;
     while at < s.len() {
@@ -113,7 +115,7 @@ pub fn read_numbers(s: &[u8]) -> Numbers
         if !number.good {
             return unread();
         }
-        if 26 <= len {
+        if Three::NEIGHBOURS <= len {
             return unread();
         }
         values[len] = number.value;

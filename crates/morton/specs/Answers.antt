@@ -13,7 +13,7 @@ use Rattle.slices.specs.Lists.{filled}
 use Rattle.morton.specs.declared.NumberAnswer.{NumberAnswer}
 use Rattle.morton.specs.declared.NumberAnswer.the-variants as number
 use Rattle.morton.specs.declared.KeyList.{KeyList}
-use Rattle.morton.specs.Keys.{deepest, axesKnown, valid, levelOf, codeOf, parent, childIndex, children, siblings, ancestors}
+use Rattle.morton.specs.Keys.{deepest, axesKnown, neighboursRoom, valid, levelOf, codeOf, parent, childIndex, children, siblings, ancestors}
 use Rattle.morton.specs.Anchors.{anchors, keyAt, onLevel, touching}
 
 -- ---- the forms of an answer
@@ -22,10 +22,10 @@ abbrev pub numbered : Outcome → ℕ → NumberAnswer
 numbered Done n = number.Number n
 numbered (Refused r) n = number.Refused r
 
--- a key list by value with its length, unused places 0
+-- a key list by value with its length, room for the most neighbours, unused places 0
 abbrev pub listed : Outcome → List ℕ → KeyList
-listed Done xs = record { outcome = Done; keys = filled 26 xs; len = length xs }
-listed (Refused r) xs = record { outcome = Refused r; keys = filled 26 []; len = 0 }
+listed Done xs = record { outcome = Done; keys = filled (neighboursRoom 3) xs; len = length xs }
+listed (Refused r) xs = record { outcome = Refused r; keys = filled (neighboursRoom 3) []; len = 0 }
 
 -- ---- the order of the refusals: 1, 9, then 10 or 11
 

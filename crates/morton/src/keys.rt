@@ -1,6 +1,7 @@
 // A cell's level, parent, children, siblings and ancestors, by its key.
 use crate::KeyList;
 use crate::NumberAnswer;
+use axes::Three;
 use refusal::Outcome;
 use refusal::Refusal;
 ghost use mathlib.Core.Path.{_≡_};
@@ -131,7 +132,7 @@ fn list_children(axes: usize, key: u64) -> KeyList
     ensures { λ r. ⌜ r ≡ listed Done (children axes key) ⌝ }
 {
     let count = axes::children_of(axes);
-    let mut keys = [0u64; 26];
+    let mut keys = [0u64; Three::NEIGHBOURS];
     let mut len: usize = 0;
     while len < count {
         keys[len] = child_of(axes, key, len as u64);
@@ -150,7 +151,7 @@ pub fn refused_list(refusal: Refusal) -> KeyList
 {
     KeyList {
         outcome: Outcome::Refused(refusal),
-        keys: [0u64; 26],
+        keys: [0u64; Three::NEIGHBOURS],
         len: 0,
     }
 }
@@ -181,7 +182,7 @@ fn list_ancestors(axes: usize, key: u64) -> KeyList
     requires { ⌜ ValidKey axes key ⌝ }
     ensures { λ r. ⌜ r ≡ listed Done (ancestors axes key) ⌝ }
 {
-    let mut keys = [0u64; 26];
+    let mut keys = [0u64; Three::NEIGHBOURS];
     keys[0] = key;
     let mut at = key;
     let mut len: usize = 1;

@@ -1,4 +1,5 @@
 // Keys of cells: document 01's key algebra, from `morton_constants.rs` and the whole-number half of `morton.rs`.
+use axes::Three;
 use refusal::Outcome;
 use refusal::Refusal;
 
@@ -17,9 +18,9 @@ pub enum NumberAnswer {
     Refused(Refusal),
 }
 
-// Up to 26 keys by value; unused places are 0.
+// Keys by value, with room for the most neighbours; unused places are 0.
 pub struct KeyList {
     pub outcome: Outcome,
-    pub keys: [u64; 26],
+    pub keys: [u64; Three::NEIGHBOURS],
     pub len: usize,
 }

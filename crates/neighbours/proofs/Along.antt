@@ -1,13 +1,13 @@
 -- The neighbours along the direction rows, row by row, as the loop finds them.
 use mathlib.Core.Path.{_≡_, refl, sym, ap, ap₂, _∙_, subst}
-use mathlib.Core.Bool.{Bool, true, false, _&&_, cond}
+use mathlib.Core.Bool.{Bool, true, false, cond}
 use mathlib.Core.List.{List, [], _∷_, _++_, map, append-nil}
 use Prim.Native.Nat.{ℕ, zero, suc, _+_, _*_, _-_, _/_, _%_, _^_, _≤_, _<_}
 use native.Mathlib.Omega.{arith}
 use native.Mathlib.Nat.{zero-add, not-suc-le-zero}
 use native.Mathlib.Decide.{decLt}
-use lib.Dec.{leb, ltb}
-use lib.IntN.{ℤ}
+use lib.Dec.{ltb}
+use lib.IntN.{ℤ, pos, _+ℤ_, natAbs}
 use lib.ListN.{length, getD, set, replicate}
 use borrow.Author.Tests.{lt-ltb}
 use Rattle.slices.specs.Lists.{range, filter, filled}
@@ -17,27 +17,34 @@ use Rattle.slices.proofs.Every.{every-all, every-same}
 use Rattle.codes.specs.Tables.{Bytes2}
 use Rattle.codes.proofs.Codes.{encode-same}
 use Rattle.codes.proofs.Entries.{tabled, length-tabled}
-use Rattle.morton.specs.Keys.{levelOf, codeOf, key, ValidKey}
+use Rattle.morton.specs.Keys.{neighboursRoom, levelOf, codeOf, key, ValidKey}
 use Rattle.morton.specs.Anchors.{encode, anchors, keyAt, onLevel}
-use Rattle.neighbours.specs.Directions.{directions, directionRow, raised, none, ahead, stays, moved, onBox, toward, neighbours}
+use Rattle.neighbours.specs.Directions.{directions, directionRow, none, ahead, inside, stays, moved, onBox, toward, neighbours}
+use Rattle.neighbours.specs.Steps.{unitRow}
 use Rattle.anchors.proofs.Placing.{past-filled, anchors-at, anchors-length, anchor-small}
-use Rattle.neighbours.proofs.Steps.{stays-at}
+use Rattle.neighbours.proofs.Steps.{stays-lt}
+use Rattle.neighbours.proofs.Tied.{rows-number, row-unit}
+use Rattle.axes.proofs.Known.{neighbours-most}
+use Rattle.morton.proofs.Checks.{facts-valid}
 use Rattle.morton.proofs.Runs.{Held, held-none, held-more}
 
 -- there are 2, 8 or 26 rows
-pub rows-few : (d : ℕ) → length (directions d) ≤ 26
-rows-few zero = omega arith
-rows-few (suc zero) = omega arith
-rows-few (suc (suc zero)) = omega arith
-rows-few (suc (suc (suc zero))) = omega arith
-rows-few (suc (suc (suc (suc d)))) = omega arith
+pub rows-few : (d : ℕ) → length (directions d) ≤ neighboursRoom 3
+rows-few d = omega (arith, rows-number d, neighbours-most d)
+
+-- a row's number is below the count that the code has
+pub in-rows : (d : ℕ) (rows : List (List ℤ)) (count i : ℕ) → rows ≡ directions d → count ≡ neighboursRoom d → i < count → (i < length rows) × (i < length (directions d))
+in-rows d rows count i e n h = (omega (arith, ap length e, rows-number d), omega (arith, rows-number d))
 
 module _ (d k level : ℕ) (v : ValidKey d k) (el : level ≡ levelOf k) (from : List ℕ) (ef : from ≡ filled 3 (anchors d k)) (i : ℕ) (row : List ℤ) (er : row ≡ directionRow d i) where
   from-at : (a : ℕ) → a < d → getD from a 0 ≡ getD (anchors d k) a 0
   from-at a h = ap (λ (xs : List ℕ). getD xs a 0) ef ∙ getD-filled 3 (anchors d k) a (omega (arith, anchors-length d k))
 
   ahead-at : (a : ℕ) → a < d → ahead from row a ≡ ahead (anchors d k) (directionRow d i) a
-  ahead-at a h = ap₂ (λ (x : ℕ) (r : List ℤ). x + raised (getD r a none)) (from-at a h) er
+  ahead-at a h = ap₂ (λ (x : ℕ) (r : List ℤ). pos x +ℤ getD r a none) (from-at a h) er
+
+  pub row-is-unit : i < length (directions d) → unitRow row ≡ true
+  row-is-unit l = subst (λ (r : List ℤ). unitRow r ≡ true) (sym er) (row-unit d (facts-valid d k v .0) i l)
 
   pub from-small : Bytes2 from
   from-small = record { first = at 0; second = at 1; third = at 2 }
@@ -51,25 +58,22 @@ module _ (d k level : ℕ) (v : ValidKey d k) (el : level ≡ levelOf k) (from :
 
   pub stays-is : stays d level from row ≡ onBox d k i
   stays-is =
-      every-same
-      (λ a. ltb 0 (ahead from row a) && leb (ahead from row a) (2 ^ level))
-      (λ a. ltb 0 (ahead (anchors d k) (directionRow d i) a) && leb (ahead (anchors d k) (directionRow d i) a) (2 ^ levelOf k))
-      d
-      (λ a h. ap₂ (λ (x l : ℕ). ltb 0 x && leb x (2 ^ l)) (ahead-at a h) el)
+      every-same (λ a. inside level (ahead from row a)) (λ a. inside (levelOf k) (ahead (anchors d k) (directionRow d i) a)) d
+      (λ a h. ap₂ (λ (z : ℤ) (l : ℕ). inside l z) (ahead-at a h) el)
 
-  moved-at : (a : ℕ) → a < d → getD (filled 3 (moved d from row)) a 0 ≡ ahead from row a - 1
+  moved-at : (a : ℕ) → a < d → getD (filled 3 (moved d from row)) a 0 ≡ natAbs (ahead from row a)
   moved-at a h =
-      getD-filled 3 (moved d from row) a (omega (arith, length-tabled (λ a. ahead from row a - 1) 0 d)) ∙ tabled (λ a. ahead from row a - 1) d a h
+      getD-filled 3 (moved d from row) a (omega (arith, length-tabled (λ a. natAbs (ahead from row a)) 0 d)) ∙ tabled (λ a. natAbs (ahead from row a)) d a h
 
   pub moved-on : stays d level from row ≡ true → onLevel d level (filled 3 (moved d from row)) ≡ true
   moved-on s = every-all (λ a. ltb (getD (filled 3 (moved d from row)) a 0) (2 ^ level)) d
-      (λ a h. lt-ltb (getD (filled 3 (moved d from row)) a 0) (2 ^ level) (omega (arith, moved-at a h, stays-at level from row d s a h)))
+      (λ a h. lt-ltb (getD (filled 3 (moved d from row)) a 0) (2 ^ level) (omega (arith, moved-at a h, stays-lt level from row d s a h)))
 
   pub key-is : keyAt d level (filled 3 (moved d from row)) ≡ toward d k i
   key-is =
       ap₂ key el
       (encode-same d d level (moved d (anchors d k) (directionRow d i)) (filled 3 (moved d from row))
-      (λ a h. moved-at a h ∙ ap (λ (n : ℕ). n - 1) (ahead-at a h) ∙ sym (tabled (λ a. ahead (anchors d k) (directionRow d i) a - 1) d a h))
+      (λ a h. moved-at a h ∙ ap natAbs (ahead-at a h) ∙ sym (tabled (λ a. natAbs (ahead (anchors d k) (directionRow d i) a)) d a h))
       ∙ ap (λ (l : ℕ). encode d d l (moved d (anchors d k) (directionRow d i))) el)
 
 -- the rows passed, and one more

@@ -1,4 +1,4 @@
--- The direction rows, tied once over d to the touching rule: each way of stepping -1, 0 or 1 on every axis, but for standing still, is one row, and no row is another.
+-- The direction rows, tied once over d to the touching rule: each step is -1, 0 or 1; each way of stepping so on every axis, but for standing still, is one row, and no row is another.
 use mathlib.Core.Path.{_≡_, refl, sym, ap, ap₂, _∙_}
 use mathlib.Core.Bool.{Bool, true, false, _&&_, _||_, not}
 use mathlib.Core.List.{List, [], _∷_}
@@ -17,9 +17,10 @@ use Rattle.slices.proofs.Tests.{and-l, and-r, clash, or-not}
 use Rattle.slices.proofs.Counts.{any-elim}
 use Rattle.slices.proofs.Every.{every-at}
 use Rattle.slices.proofs.Members.{mem-range}
-use Rattle.morton.specs.Keys.{axesKnown}
-use Rattle.neighbours.specs.Directions.{directions, directionRow, raised, none}
-use Rattle.morton.proofs.Checks.{axes-facts}
+use Rattle.morton.specs.Keys.{axesKnown, neighboursRoom}
+use Rattle.neighbours.specs.Directions.{directions, directionRow, none}
+use Rattle.neighbours.specs.Steps.{unitRow, raised}
+use Rattle.morton.proofs.Checks.{axes-facts, axes-many}
 
 -- ---- steps on n axes as one number, a digit of base 3 an axis
 
@@ -78,18 +79,27 @@ step-le (pos (suc n)) = omega arith
 step-le (negsuc zero) = omega arith
 step-le (negsuc (suc n)) = omega arith
 
+-- document 01's figure: 2, 8, 26
+pub rows-number : (d : ℕ) → length (directions d) ≡ neighboursRoom d
+rows-number zero = refl
+rows-number (suc zero) = refl
+rows-number (suc (suc zero)) = refl
+rows-number (suc (suc (suc zero))) = refl
+rows-number (suc (suc (suc (suc d)))) = rw (axes-many (suc (suc (suc (suc d)))) (omega arith))
+
 wayOf : ℕ → ℕ → ℕ
 wayOf d i = ways d (step d i)
 
 still : ℕ → ℕ
 still d = ways d (λ _. 1)
 
--- no two rows are one way, none stands still, and every other way is a row
+-- each step is -1, 0 or 1, no two rows are one way, none stands still, and every other way is a row
 tied : ℕ → Bool
 tied d =
-    every (length (directions d)) (λ i. every (length (directions d)) (λ j. eqb i j || not (eqb (wayOf d i) (wayOf d j))))
+    every (length (directions d)) (λ i. unitRow (directionRow d i))
+    && (every (length (directions d)) (λ i. every (length (directions d)) (λ j. eqb i j || not (eqb (wayOf d i) (wayOf d j))))
     && (every (length (directions d)) (λ i. not (eqb (wayOf d i) (still d)))
-    && every (3 ^ d) (λ v. eqb v (still d) || any (λ i. eqb (wayOf d i) v) (range 0 (length (directions d)))))
+    && every (3 ^ d) (λ v. eqb v (still d) || any (λ i. eqb (wayOf d i) v) (range 0 (length (directions d))))))
 
 tied-known : (d : ℕ) → axesKnown d ≡ true → tied d ≡ true
 unfolding tied wayOf still ways every any range
@@ -103,17 +113,26 @@ module _ (d : ℕ) (known : axesKnown d ≡ true) where
   abbrev rows : ℕ
   rows = length (directions d)
 
-  apart : every rows (λ i. every rows (λ j. eqb i j || not (eqb (wayOf d i) (wayOf d j)))) ≡ true
-  unfolding tied
-  apart = and-l _ _ (tied-known d known)
+  abbrev alone : ℕ → Bool
+  alone i = every rows (λ j. eqb i j || not (eqb (wayOf d i) (wayOf d j)))
 
-  moves : every rows (λ i. not (eqb (wayOf d i) (still d))) ≡ true
-  unfolding tied
-  moves = and-l _ _ (and-r (every rows (λ i. every rows (λ j. eqb i j || not (eqb (wayOf d i) (wayOf d j))))) _ (tied-known d known))
+  abbrev goes : ℕ → Bool
+  goes i = not (eqb (wayOf d i) (still d))
 
-  covers : every (3 ^ d) (λ v. eqb v (still d) || any (λ i. eqb (wayOf d i) v) (range 0 rows)) ≡ true
+  abbrev found : ℕ → Bool
+  found v = eqb v (still d) || any (λ i. eqb (wayOf d i) v) (range 0 rows)
+
+  parts : (every rows (λ i. unitRow (directionRow d i)) ≡ true) × (every rows alone ≡ true) × (every rows goes ≡ true) × (every (3 ^ d) found ≡ true)
   unfolding tied
-  covers = and-r (every rows (λ i. not (eqb (wayOf d i) (still d)))) _ (and-r (every rows (λ i. every rows (λ j. eqb i j || not (eqb (wayOf d i) (wayOf d j))))) _ (tied-known d known))
+  parts =
+      let all = tied-known d known in
+      let ways = and-r (every rows (λ i. unitRow (directionRow d i))) _ all in
+      let rest = and-r (every rows alone) _ ways in
+      (and-l _ _ all, and-l _ _ ways, and-l _ _ rest, and-r (every rows goes) _ rest)
+
+  -- every step of a row is -1, 0 or 1
+  pub row-unit : (i : ℕ) → i < rows → unitRow (directionRow d i) ≡ true
+  row-unit i h = every-at (λ i. unitRow (directionRow d i)) rows (parts .0) i h
 
   -- rows that step alike on every axis are one
   pub rows-tell : (i j : ℕ) → i < rows → j < rows → ((a : ℕ) → a < d → step d i a ≡ step d j a) → i ≡ j
@@ -123,7 +142,7 @@ module _ (d : ℕ) (known : axesKnown d ≡ true) where
       go : (b : Bool) → eqb i j ≡ b → i ≡ j
       go true e = eqb-true i j e
       go false e =
-          let t = every-at (λ j. eqb i j || not (eqb (wayOf d i) (wayOf d j))) rows (every-at (λ i. every rows (λ j. eqb i j || not (eqb (wayOf d i) (wayOf d j)))) rows apart i hi) j hj in
+          let t = every-at (λ j. eqb i j || not (eqb (wayOf d i) (wayOf d j))) rows (every-at alone rows (parts .1) i hi) j hj in
           let f = not-true _ (or-not (eqb i j) _ t e) in
           absurd (clash (eq-eqb (wayOf d i) (wayOf d j) (ways-same d (step d i) (step d j) same)) f)
 
@@ -131,15 +150,15 @@ module _ (d : ℕ) (known : axesKnown d ≡ true) where
   pub row-moves : (i : ℕ) → i < rows → ((a : ℕ) → a < d → step d i a ≡ 1) → ⊥
   unfolding wayOf still
   row-moves i hi same =
-      let f = not-true _ (every-at (λ i. not (eqb (wayOf d i) (still d))) rows moves i hi) in
+      let f = not-true _ (every-at goes rows (parts .2) i hi) in
       clash (eq-eqb (wayOf d i) (still d) (ways-same d (step d i) (λ _. 1) same)) f
 
   -- every way of stepping but standing still is a row
   pub row-for : (f : ℕ → ℕ) → ((a : ℕ) → a < d → f a ≤ 2) → (((a : ℕ) → a < d → f a ≡ 1) → ⊥) → (i : ℕ) × (i < rows) × ((a : ℕ) → a < d → step d i a ≡ f a)
   unfolding wayOf still
-  row-for f small goes =
+  row-for f small steps =
       let v = ways d f in
-      let t = every-at (λ v. eqb v (still d) || any (λ i. eqb (wayOf d i) v) (range 0 rows)) (3 ^ d) covers v (ways-lt d f small) in
-      let n : eqb v (still d) ≡ false = ne-eqb v (still d) (λ e. goes (ways-tell d f (λ _. 1) small (λ a h. omega arith) e)) in
+      let t = every-at found (3 ^ d) (parts .3) v (ways-lt d f small) in
+      let n : eqb v (still d) ≡ false = ne-eqb v (still d) (λ e. steps (ways-tell d f (λ _. 1) small (λ a h. omega arith) e)) in
       let r = any-elim (λ i. eqb (wayOf d i) v) (range 0 rows) (or-not (eqb v (still d)) _ t n) in
       (r .0, mem-range rows (r .0) (r .1), ways-tell d (step d (r .0)) f (λ a h. step-le (getD (directionRow d (r .0)) a none)) small (eqb-true (wayOf d (r .0)) v (r .2)))

@@ -1,9 +1,9 @@
 -- The direction rows of `morton_constants.rs`, in its order, and the neighbours of a cell along them.
-use mathlib.Core.Bool.{Bool, true, false, _&&_}
+use mathlib.Core.Bool.{Bool, false}
 use mathlib.Core.List.{List, [], _∷_, map}
-use Prim.Native.Nat.{ℕ, zero, suc, _+_, _*_, _-_, _/_, _%_, _^_}
-use lib.Dec.{leb, ltb, eqb}
-use lib.IntN.{ℤ, pos, negsuc}
+use Prim.Native.Nat.{ℕ, zero, suc, _^_}
+use lib.Dec.{ltb}
+use lib.IntN.{ℤ, pos, negsuc, _+ℤ_, natAbs}
 use lib.ListN.{length, getD}
 use Rattle.slices.specs.Lists.{filter, range}
 use Rattle.slices.specs.Every.{every}
@@ -37,23 +37,22 @@ directions (suc (suc (suc zero))) =
     ∷ row none none plus ∷ row none plus none ∷ row none plus plus ∷ row plus none none ∷ row plus none plus ∷ row plus plus none ∷ row plus plus plus ∷ []
 directions (suc (suc (suc (suc d)))) = []
 
--- one more than a step of a row, -1, 0 or 1, so that no number is negative
-abbrev pub raised : ℤ → ℕ
-raised (negsuc zero) = 0
-raised (negsuc (suc n)) = 2
-raised (pos zero) = 1
-raised (pos (suc n)) = 2
+-- the anchor on axis a, one step along a row from the anchors xs: an integer sum
+abbrev pub ahead : List ℕ → List ℤ → ℕ → ℤ
+ahead xs steps a = pos (getD xs a 0) +ℤ getD steps a none
 
--- one more than the anchor on axis a, one step along a row from the anchors xs
-abbrev pub ahead : List ℕ → List ℤ → ℕ → ℕ
-ahead xs steps a = getD xs a 0 + raised (getD steps a none)
+-- an integer is an anchor of the level, 0 to 2 ^ level - 1
+abbrev pub inside : ℕ → ℤ → Bool
+inside level (pos n) = ltb n (2 ^ level)
+inside level (negsuc n) = false
 
--- on each axis that anchor is one of the level, 0 to 2 ^ level - 1
+-- on each axis the sum is an anchor of the level
 abbrev pub stays : ℕ → ℕ → List ℕ → List ℤ → Bool
-stays d level xs steps = every d (λ a. ltb 0 (ahead xs steps a) && leb (ahead xs steps a) (2 ^ level))
+stays d level xs steps = every d (λ a. inside level (ahead xs steps a))
 
+-- the sums, as anchors of a row that stays
 abbrev pub moved : ℕ → List ℕ → List ℤ → List ℕ
-moved d xs steps = map (λ a. ahead xs steps a - 1) (range 0 d)
+moved d xs steps = map (λ a. natAbs (ahead xs steps a)) (range 0 d)
 
 abbrev pub directionRow : ℕ → ℕ → List ℤ
 directionRow d i = getD (directions d) i []

@@ -1,2 +1,3 @@
 pub mod Directions
+pub mod Steps
 pub mod Answer

@@ -1,4 +1,7 @@
 // The direction rows of `morton_constants.rs`, in its order, and the neighbours of a cell along them.
+use axes::One;
+use axes::Three;
+use axes::Two;
 use morton::KeyList;
 use morton::keys;
 use refusal::Outcome;
@@ -10,14 +13,15 @@ ghost use Rattle.slices.specs.Lists.{filled};
 ghost use Rattle.refusal.specs.declared.Outcome.the-variants.{Done};
 ghost use Rattle.codes.specs.Tables.{Bytes2};
 ghost use Rattle.morton.specs.Keys.{ValidKey};
-ghost use Rattle.neighbours.specs.Directions.{directions, raised as raisedStep, ahead, stays as staysOn, moved as movedAlong, neighbours as neighboursOf};
+ghost use Rattle.neighbours.specs.Directions.{directions, stays as staysOn, moved as movedAlong, neighbours as neighboursOf};
+ghost use Rattle.neighbours.specs.Steps.{unitRow, raised as raisedStep};
 ghost use Rattle.morton.specs.Answers.{listed};
 ghost use Rattle.neighbours.specs.Answer.{neighboursAnswer};
 
 // A row has a step for each of three axes, 0 past the number of axes.
-const DIRECTION_VECTORS_1D: [[i64; 3]; 2] = [[-1, 0, 0], [1, 0, 0]];
+const DIRECTION_VECTORS_1D: [[i64; 3]; One::NEIGHBOURS] = [[-1, 0, 0], [1, 0, 0]];
 
-const DIRECTION_VECTORS_2D: [[i64; 3]; 8] = [
+const DIRECTION_VECTORS_2D: [[i64; 3]; Two::NEIGHBOURS] = [
     [-1, -1, 0],
     [-1, 0, 0],
     [-1, 1, 0],
@@ -28,7 +32,7 @@ const DIRECTION_VECTORS_2D: [[i64; 3]; 8] = [
     [1, 1, 0],
 ];
 
-const DIRECTION_VECTORS_3D: [[i64; 3]; 26] = [
+const DIRECTION_VECTORS_3D: [[i64; 3]; Three::NEIGHBOURS] = [
     [-1, -1, -1],
     [-1, -1, 0],
     [-1, -1, 1],
@@ -57,7 +61,7 @@ const DIRECTION_VECTORS_3D: [[i64; 3]; 26] = [
     [1, 1, 1],
 ];
 
-// One more than a step of a row, -1, 0 or 1, so that no number is negative.
+// One more than a step of a row, -1, 0 or 1, so that no number is negative. Any other step counts as 1.
 fn raised(step: i64) -> u64
     ensures { λ r. ⌜ (r ≡ raisedStep step) × (r ≤ 2) ⌝ }
 {
@@ -70,7 +74,7 @@ fn raised(step: i64) -> u64
 
 // Whether one step along a row from these anchors stays in the box.
 fn stays(axes: usize, level: u64, from: [u64; 3], row: [i64; 3]) -> bool
-    requires { ⌜ (axes ≤ 3) × (level ≤ 16) × Bytes2 from ⌝ }
+    requires { ⌜ (axes ≤ 3) × (level ≤ 16) × Bytes2 from × (unitRow row ≡ true) ⌝ }
     ensures { λ r. ⌜ r ≡ staysOn axes level from row ⌝ }
 {
     let end: u64 = 1 << level;
@@ -90,7 +94,7 @@ fn stays(axes: usize, level: u64, from: [u64; 3], row: [i64; 3]) -> bool
 
 // The anchors one step along a row that stays in the box.
 fn moved(axes: usize, level: u64, from: [u64; 3], row: [i64; 3]) -> [u64; 3]
-    requires { ⌜ (axes ≤ 3) × Bytes2 from × (staysOn axes level from row ≡ true) ⌝ }
+    requires { ⌜ (axes ≤ 3) × Bytes2 from × (unitRow row ≡ true) × (staysOn axes level from row ≡ true) ⌝ }
     ensures { λ r. ⌜ r ≡ filled 3 (movedAlong axes from row) ⌝ }
 {
     let mut to = [0u64; 3];
@@ -107,15 +111,16 @@ fn list_along(rows: &[[i64; 3]], axes: usize, key: u64) -> KeyList
     requires { ⌜ ValidKey axes key × (now rows ≡ directions axes) ⌝ }
     ensures { λ r. ⌜ r ≡ listed Done (neighboursOf axes key) ⌝ }
 {
+    let count = axes::neighbours_of(axes);
     let x = codes::tables::encode_table(axes, 0);
     let y = codes::tables::encode_table(axes, 1);
     let z = codes::tables::encode_table(axes, 2);
     let level = keys::level_of(key);
     let from = anchors::anchors_of(axes, key);
-    let mut found = [0u64; 26];
+    let mut found = [0u64; Three::NEIGHBOURS];
     let mut len: usize = 0;
     let mut i: usize = 0;
-    while i < rows.len() {
+    while i < count {
         let row = rows[i];
         if stays(axes, level, from, row) {
             let to = moved(axes, level, from, row);

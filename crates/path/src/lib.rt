@@ -1,4 +1,5 @@
 // The near nodes of a cell and of all its ancestors, carried from one cell to the next, and what the rows of a cell's children are taken from.
+use around::NEAR_ROOM;
 ghost use mathlib.Core.Path.{_≡_};
 ghost use Prim.Native.Nat.{ℕ, _≤_, _<_};
 ghost use lib.ListN.{length, getD, take};
@@ -80,11 +81,11 @@ fn extend(
     ensures { λ _. ⌜ Carried axes (now (key .entry)) (now (own .entry)) (now (first .entry)) q (now (near .exit)) (now (spots .exit)) (now (counts .exit)) ⌝ }
 {
     let level = (q % 32768) as usize;
-    let at = 27 * level;
-    let end = at + 27;
-    let up = at - 27;
-    let mut numbers = [0usize; 27];
-    let mut places = [0u64; 27];
+    let at = NEAR_ROOM * level;
+    let end = at + NEAR_ROOM;
+    let up = at - NEAR_ROOM;
+    let mut numbers = [0usize; NEAR_ROOM];
+    let mut places = [0u64; NEAR_ROOM];
     copy(&near[up..at], &spots[up..at], &mut numbers, &mut places);
     let c = counts[level - 1];
     let spot = places::place_of(axes, q);
@@ -172,8 +173,8 @@ fn hold(
     let mut n: usize = 0;
     let mut level: usize = 1;
     while level <= most {
-        let at = 27 * level;
-        let end = at + 27;
+        let at = NEAR_ROOM * level;
+        let end = at + NEAR_ROOM;
         n = put_owners(key, own, &near[at..end], counts[level], held, n);
         level += 1;
     }
@@ -197,8 +198,8 @@ fn gather(
     ensures { λ r. ⌜ Found axes (now (key .entry)) (around axes (now (key .entry)) (now (own .entry)) p) (now (nodes .exit)) (now (places .exit)) r ⌝ }
 {
     let level = (p % 32768) as usize;
-    let at = 27 * level;
-    let end = at + 27;
+    let at = NEAR_ROOM * level;
+    let end = at + NEAR_ROOM;
     let c = counts[level];
     spread::around_of(
         axes,

@@ -1,4 +1,5 @@
 // The U and V rows of a tree's nodes, as `lists` writes them, in less time: what lies around a parent was gathered once for its children, with a mask of those that each node touches.
+use around::NEAR_ROOM;
 ghost use mathlib.Core.Path.{_≡_};
 ghost use mathlib.Core.Bool.{false, _&&_};
 ghost use Prim.Native.Nat.{ℕ, _+_, _≤_, _<_};
@@ -242,8 +243,8 @@ fn put_near(
     requires { ⌜ SoundTree axes (now key) (now own) × FirstChildren axes (now key) (now own) (now first) × Numbered (now key) (now nodes) (now masks) c × (s < 64) × Distinct (take c (now nodes)) × ((i : ℕ) → i < c → levelOf (getD (now key) (getD (now nodes) i 0) 0) + left ≡ 17) × FewMarked (now nodes) (now masks) c s ⌝ }
     ensures { λ r. ⌜ PutsOwners axes (now (key .entry)) (now (own .entry)) (now (nodes .entry)) (now (masks .entry)) c s (now (out .entry)) n (now (out .exit)) r ⌝ }
 {
-    let mut from = [0usize; 27];
-    let mut to = [0usize; 27];
+    let mut from = [0usize; NEAR_ROOM];
+    let mut to = [0usize; NEAR_ROOM];
     let k = collect(nodes, masks, c, s, &mut from, &mut to);
     cells_step(axes, key, own, first, left, &mut from, &mut to, k, out, n)
 }

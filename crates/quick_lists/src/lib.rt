@@ -1,4 +1,6 @@
 // The U and V rows of all nodes, written whole in one pass: the promises of `lists`, by the rows of `node_rows`.
+use around::AROUND_ROOM;
+use around::NEAR_ROOM;
 ghost use mathlib.Core.Path.{_≡_};
 ghost use mathlib.Core.Bool.{true, false};
 ghost use mathlib.Core.List.{map, _++_};
@@ -132,12 +134,12 @@ pub fn write_lists(
     ensures { λ r. ⌜ WritesBoth (listRow axes (now (key .entry)) (now (own .entry)) false) (listRow axes (now (key .entry)) (now (own .entry)) true) (now (key .entry)) (length (now («u_starts» .entry))) (length (now («u_keys» .entry))) (length (now («v_starts» .entry))) (length (now («v_keys» .entry))) (now («u_starts» .exit)) (now («u_keys» .exit)) (now («v_starts» .exit)) (now («v_keys» .exit)) r ⌝ }
 {
     firsts::first_children(axes, key, own, v_starts);
-    let mut near = [0usize; 459];
-    let mut spots = [0u64; 459];
+    let mut near = [0usize; 17 * NEAR_ROOM];
+    let mut spots = [0u64; 17 * NEAR_ROOM];
     let mut levels = [0usize; 17];
-    let mut nodes = [0usize; 216];
-    let mut places = [0u64; 216];
-    let mut held = [0u64; 432];
+    let mut nodes = [0usize; AROUND_ROOM];
+    let mut places = [0u64; AROUND_ROOM];
+    let mut held = [0u64; 16 * NEAR_ROOM];
     let u_room = room_of(u_keys.len());
     let v_room = room_of(v_keys.len());
     let sizes = write_rows(

@@ -18,7 +18,7 @@ use Rattle.rows.proofs.Demand3.{demand-3}
 
 -- the theorem at leaf 5 and source 3 of document 01's example, which lies in the run of leaf 8, and the same computed
 pub by-theorem : meetings 1 (uRow 1 keys₁ own₁) (vRow 1 keys₁ own₁) 3 229379 ≡ 1
-by-theorem = demand-3 1 keys₁ own₁ begin₁ (well-formed .0) .1 .once 5 8 3 (lit< tt) leaf-5 in-8
+by-theorem = demand-3 1 keys₁ own₁ begin₁ (well-formed .0) refl .1 .once 5 8 3 (lit< tt) leaf-5 in-8
   where
     leaf-5 : leaf 1 keys₁ 3 ≡ true
     leaf-5 = unfold leaf any in refl

@@ -14,7 +14,7 @@ use Rattle.slices.specs.Lists.{sum, range, count, Mem, Distinct}
 use Rattle.slices.proofs.Tests.{and-l, and-r, clash}
 use Rattle.slices.proofs.Counts.{count-zero, count-few}
 use Rattle.slices.proofs.Rows.{count-split}
-use Rattle.morton.specs.Keys.{key, levelOf, codeOf}
+use Rattle.morton.specs.Keys.{axesKnown, farRoom, key, levelOf, codeOf}
 use Rattle.morton.specs.Anchors.{anchor, near, within1}
 use Rattle.morton.proofs.Cells.{key-parts}
 use Rattle.morton.proofs.Nearness.{within-lo, within-hi, within, anchors-tell}
@@ -95,7 +95,7 @@ module _ (d : ℕ) (keys : List ℕ) (dist : Distinct keys) (level b : ℕ) wher
       go (no l) at by = omega (arith, by-offset n q fit, at 0, at 1, by 2 (omega arith) (omega arith), by 3 (omega arith) (omega arith), by 4 (omega arith) (omega arith), at 5)
 
 module _ (d : ℕ) (keys own : List ℕ) (asc : Ascending d keys) where
-  pub v-bound : (b : ℕ) → length (vRow d keys own b) ≤ 6 ^ d - 3 ^ d
+  v-bound : (b : ℕ) → length (vRow d keys own b) ≤ 6 ^ d - 3 ^ d
   v-bound b = rw (length-v d keys own b) (go (levelOf b) refl)
     where
       go : (l : ℕ) → levelOf b ≡ l → count (inV d keys own b) keys ≤ 6 ^ d - 3 ^ d
@@ -111,3 +111,6 @@ module _ (d : ℕ) (keys own : List ℕ) (asc : Ascending d keys) where
                 ∙ ap₂ key (v-facts d keys own b x hx .level ∙ sym (v-facts d keys own b y hy .level)) (anchors-tell d (suc l) (codeOf x) (codeOf y) (lt x mx hx) (lt y my hy) same) ∙ key-parts y;
             window = λ x m h. let one : suc l - 1 ≡ l = omega arith in rw (e, one) at (v-facts d keys own b x h .window);
           }
+
+  pub v-room : axesKnown d ≡ true → (b : ℕ) → length (vRow d keys own b) ≤ farRoom d
+  v-room known b = rw known (v-bound b)

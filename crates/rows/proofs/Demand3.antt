@@ -1,12 +1,13 @@
--- Demand 3 of the tender: what is proved of every well-formed tree, over any number of axes d.
+-- Demand 3 of the tender: what is proved of every well-formed tree, once over the number of axes d.
 -- The statements are in specs/Demand3.antt; u and v are any rows that give each node document 01's U and V row.
 use mathlib.Core.Path.{_≡_, refl, sym, ap, _∙_, subst}
 use mathlib.Core.Bool.{Bool, true, false, _||_}
 use mathlib.Core.List.{List}
-use Prim.Native.Nat.{ℕ, _-_, _^_, _≤_, _<_}
+use Prim.Native.Nat.{ℕ, _≤_, _<_}
 use native.Mathlib.Omega.{arith}
 use lib.ListN.{length, getD, take}
 use Rattle.slices.specs.Lists.{sum, Mem}
+use Rattle.morton.specs.Keys.{axesKnown, farRoom}
 use Rattle.morton.specs.Anchors.{close}
 use Rattle.tree.specs.WellFormed.{wellFormed}
 use Rattle.tree.proofs.Rules.{WellFormed, facts}
@@ -18,7 +19,7 @@ use Rattle.rows.specs.Demand3.{brings, Runs, Once, Near, Far, Few}
 use Rattle.rows.proofs.Closeness.{near-is-close}
 use Rattle.rows.proofs.Meetings.{in-u, meet-once}
 use Rattle.rows.proofs.RowTests.{v-far}
-use Rattle.rows.proofs.Bound.{v-bound}
+use Rattle.rows.proofs.Bound.{v-room}
 use Rattle.rows.proofs.Agree.{gives-written, same-meetings}
 
 -- document 01's words for U say the tender's: the two cells at the coarser one's level coincide or touch
@@ -26,7 +27,7 @@ pub u-is-close : (d b s : ℕ) → (atOrUnder d b s || besideAncestor d b s) ≡
 u-is-close = near-is-close
 
 -- 3, 27 and 189
-pub room : (6 ^ 1 - 3 ^ 1 ≡ 3) × (6 ^ 2 - 3 ^ 2 ≡ 27) × (6 ^ 3 - 3 ^ 3 ≡ 189)
+pub room : (farRoom 1 ≡ 3) × (farRoom 2 ≡ 27) × (farRoom 3 ≡ 189)
 room = (refl, refl, refl)
 
 module _ (d : ℕ) (keys own begin : List ℕ) (tree : wellFormed d keys own begin ≡ true) where
@@ -60,22 +61,22 @@ module _ (d : ℕ) (keys own begin : List ℕ) (tree : wellFormed d keys own beg
     pub far : Far d keys v
     far = record { far = λ i c l m. v-far d keys own (getD keys i 0) c (subst (Mem c) (gv (getD keys i 0) (i, l, refl)) m) }
 
-    -- no V row has more than 6 ^ d - 3 ^ d entries
-    pub few : Few d keys v
-    few = record { few = λ i l. rw (gv (getD keys i 0) (i, l, refl)) (v-bound d keys own (w .ascending) (getD keys i 0)) }
+    -- over 1 to 3 axes no V row has more entries than that number's room
+    pub few : axesKnown d ≡ true → Few d keys v
+    few known = record { few = λ i l. rw (gv (getD keys i 0) (i, l, refl)) (v-room d keys own (w .ascending) known (getD keys i 0)) }
 
   -- of the rows by their definitions
-  pub demand-3 : Runs d keys own begin × Once d keys own begin (uRow d keys own) (vRow d keys own)
+  pub demand-3 : axesKnown d ≡ true → Runs d keys own begin × Once d keys own begin (uRow d keys own) (vRow d keys own)
       × Near d keys own begin (uRow d keys own) × Far d keys (vRow d keys own) × Few d keys (vRow d keys own)
-  demand-3 =
+  demand-3 known =
       let gu : Gives keys (uRow d keys own) (uRow d keys own) = λ k m. refl in
       let gv : Gives keys (vRow d keys own) (vRow d keys own) = λ k m. refl in
-      (runs, once _ _ gu gv, near _ _ gu gv, far _ _ gu gv, few _ _ gu gv)
+      (runs, once _ _ gu gv, near _ _ gu gv, far _ _ gu gv, few _ _ gu gv known)
 
   -- rows as written, flat, with their starts
-  pub written : (us uk vs vk : List ℕ) → Written keys (uRow d keys own) us uk → Written keys (vRow d keys own) vs vk
+  pub written : axesKnown d ≡ true → (us uk vs vk : List ℕ) → Written keys (uRow d keys own) us uk → Written keys (vRow d keys own) vs vk
       → Once d keys own begin (rowOf keys us uk) (rowOf keys vs vk) × Near d keys own begin (rowOf keys us uk) × Far d keys (rowOf keys vs vk) × Few d keys (rowOf keys vs vk)
-  written us uk vs vk wu wv =
+  written known us uk vs vk wu wv =
       let gu = gives-written (uRow d keys own) keys us uk wu in
       let gv = gives-written (vRow d keys own) keys vs vk wv in
-      (once _ _ gu gv, near _ _ gu gv, far _ _ gu gv, few _ _ gu gv)
+      (once _ _ gu gv, near _ _ gu gv, far _ _ gu gv, few _ _ gu gv known)

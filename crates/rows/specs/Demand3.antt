@@ -2,10 +2,10 @@
 use mathlib.Core.Path.{_≡_}
 use mathlib.Core.Bool.{Bool, true, false}
 use mathlib.Core.List.{List, map}
-use Prim.Native.Nat.{ℕ, _+_, _-_, _^_, _≤_, _<_}
+use Prim.Native.Nat.{ℕ, _+_, _≤_, _<_}
 use lib.ListN.{length, getD}
 use Rattle.slices.specs.Lists.{count, bit, sum, Mem}
-use Rattle.morton.specs.Keys.{under, ancestors}
+use Rattle.morton.specs.Keys.{farRoom, under, ancestors}
 use Rattle.morton.specs.Anchors.{close}
 use Rattle.tree.specs.Nodes.{leaf}
 use Rattle.tree.specs.WellFormed.{Run}
@@ -40,4 +40,4 @@ pub record Far (d : ℕ) (keys : List ℕ) (v : ℕ → List ℕ) : Type 0 where
 
 -- and none has more than 3, 27 or 189 entries in one, two or three dimensions
 pub record Few (d : ℕ) (keys : List ℕ) (v : ℕ → List ℕ) : Type 0 where
-  pub few : (i : ℕ) → i < length keys → length (v (getD keys i 0)) ≤ 6 ^ d - 3 ^ d
+  pub few : (i : ℕ) → i < length keys → length (v (getD keys i 0)) ≤ farRoom d

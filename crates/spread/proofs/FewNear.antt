@@ -13,7 +13,7 @@ use Rattle.slices.specs.Lists.{sum, range, count, Mem, Distinct}
 use Rattle.slices.proofs.Tests.{and-l, and-r}
 use Rattle.slices.proofs.Counts.{count-few}
 use Rattle.slices.proofs.Rows.{count-split}
-use Rattle.morton.specs.Keys.{key, levelOf, codeOf}
+use Rattle.morton.specs.Keys.{neighboursRoom, key, levelOf, codeOf}
 use Rattle.morton.specs.Anchors.{anchor, near, within1}
 use Rattle.morton.proofs.Cells.{key-parts}
 use Rattle.morton.proofs.Nearness.{within-lo, within-hi, anchors-tell}
@@ -71,14 +71,14 @@ module _ (d : ℕ) (keys : List ℕ) (dist : Distinct keys) (level p : ℕ) wher
       let split : count q keys ≡ sum (map (λ v. count (λ x. q x && eqb (off n x) v) keys) (range 0 3)) = count-split q (off n) keys 3 (λ x m h. off-span n q fit x m h .1) in
       omega (arith, split, at 0, at 1, at 2)
 
-three : (d : ℕ) → d ≤ 3 → 3 ^ d ≤ 27
+three : (d : ℕ) → d ≤ 3 → 3 ^ d ≤ neighboursRoom 3 + 1
 three zero h = omega arith
 three (suc zero) h = omega arith
 three (suc (suc zero)) h = omega arith
 three (suc (suc (suc zero))) h = omega arith
 three (suc (suc (suc (suc d)))) h = absurd (omega arith)
 
-pub near-few : (d : ℕ) (keys own : List ℕ) → SoundTree d keys own → (q : ℕ) → count (nearTo d keys own q) keys ≤ 27
+pub near-few : (d : ℕ) (keys own : List ℕ) → SoundTree d keys own → (q : ℕ) → count (nearTo d keys own q) keys ≤ neighboursRoom 3 + 1
 near-few d keys own t q = omega (arith, most d keys dist (levelOf q) (codeOf q) d (nearTo d keys own q) fit, three d (t .most))
   where
     dist : Distinct keys

@@ -1,9 +1,9 @@
 -- After n turns the array holds the first n axes' anchors.
-use mathlib.Core.Path.{ap, _∙_}
+use mathlib.Core.Path.{sym, ap, _∙_}
 use mathlib.Core.List.{map}
 use Prim.Native.Nat.{ℕ, _+_, _-_, _≤_}
 use native.Mathlib.Omega.{arith}
-use lib.IntN.{pos}
+use lib.IntN.{pos, natAbs}
 use lib.ListN.{getD}
 use mir.Syntax.{w64}
 use mir.Val.{SFits}
@@ -16,7 +16,7 @@ use Rattle.neighbours.proofs.moved.Statement.{statement}
 use Rattle.neighbours.proofs.moved.Tie as tie
 
 abbrev Inv-loop : tie.InvT-loop
-Inv-loop axes level from row to₀ a₀ to a = (a ≤ axes) × Held 3 to a (map (λ a. ahead from row a - 1) (range 0 a))
+Inv-loop axes level from row to₀ a₀ to a = (a ≤ axes) × Held 3 to a (map (λ a. natAbs (ahead from row a)) (range 0 a))
 
 abbrev μ-loop : tie.MeasureT-loop
 μ-loop axes level from row to₀ a₀ to a = axes - a
@@ -43,7 +43,7 @@ add-to : tie.Need-add-to Inv-loop μ-loop
 add-to c = let s = c .before .before .before .before in omega (arith, small-at (s .args .t3) (s .pre .1) (c .before .before .before .loop .a) (omega arith), c .raised .ensures .1)
 
 sub-to : tie.Need-sub-to Inv-loop μ-loop
-sub-to c = let s = c .before .before .before .before in let f : SFits w64 (getD (s .args .t4) (c .before .before .before .loop .a) (pos 0)) = search needs in let e = step-known (getD (s .args .t4) (c .before .before .before .loop .a) (pos 0)) (c .raised .result) f (c .raised .ensures .0) in omega (arith, stays-at (s .args .level) (s .args .t3) (s .args .t4) (s .args .axes) (s .pre .2) (c .before .before .before .loop .a) (omega arith) .0)
+sub-to c = let s = c .before .before .before .before in let f : SFits w64 (getD (s .args .t4) (c .before .before .before .loop .a) (pos 0)) = search needs in let e = step-known (getD (s .args .t4) (c .before .before .before .loop .a) (pos 0)) (c .raised .result) f (c .raised .ensures .0) in omega (arith, stays-at (s .args .level) (s .args .t3) (s .args .t4) (s .pre .2) (s .args .axes) (s .pre .0) (s .pre .3) (c .before .before .before .loop .a) (omega arith) .0)
 
 mul-to-2 : tie.Need-mul-to-2 Inv-loop μ-loop
 mul-to-2 c = search needs
@@ -58,10 +58,10 @@ loop-less : tie.Need-loop-less Inv-loop μ-loop
 loop-less c = search needs
 
 loop-again : tie.Need-loop-again Inv-loop μ-loop
-loop-again c = let s = c .before .before .before .before in let f : SFits w64 (getD (s .args .t4) (c .before .before .before .loop .a) (pos 0)) = search needs in let e = step-known (getD (s .args .t4) (c .before .before .before .loop .a) (pos 0)) (c .raised .result) f (c .raised .ensures .0) in (omega arith, values-next 3 _ _ _ _ (c .before .before .before .loop .inv .1) (omega arith) (ap (λ (r : ℕ). getD (s .args .t3) (c .before .before .before .loop .a) 0 + r - 1) e))
+loop-again c = let s = c .before .before .before .before in let f : SFits w64 (getD (s .args .t4) (c .before .before .before .loop .a) (pos 0)) = search needs in let e = step-known (getD (s .args .t4) (c .before .before .before .loop .a) (pos 0)) (c .raised .result) f (c .raised .ensures .0) in (omega arith, values-next 3 _ _ _ _ (c .before .before .before .loop .inv .1) (omega arith) (ap (λ (r : ℕ). getD (s .args .t3) (c .before .before .before .loop .a) 0 + r - 1) e ∙ sym (stays-at (s .args .level) (s .args .t3) (s .args .t4) (s .pre .2) (s .args .axes) (s .pre .0) (s .pre .3) (c .before .before .before .loop .a) (omega arith) .2)))
 
 returns : tie.Need-returns Inv-loop μ-loop
-returns c = let s = c .before .before in c .before .loop .inv .1 .filled-by ∙ ap (λ (n : ℕ). filled 3 (map (λ a. ahead (s .args .t3) (s .args .t4) a - 1) (range 0 n))) (omega arith)
+returns c = let s = c .before .before in c .before .loop .inv .1 .filled-by ∙ ap (λ (n : ℕ). filled 3 (map (λ a. natAbs (ahead (s .args .t3) (s .args .t4) a)) (range 0 n))) (omega arith)
 
 pub moved-spec : {M : Type 1} → statement M
 moved-spec =

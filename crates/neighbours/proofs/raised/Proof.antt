@@ -6,7 +6,7 @@ use lib.IntN.{ℤ, pos, negsuc}
 use mir.Facts.{toZ-ofZ}
 use mir.Syntax.{w64}
 use mir.Val.{SFits, toZ, ofZ}
-use Rattle.neighbours.specs.Directions.{raised}
+use Rattle.neighbours.specs.Steps.{raised}
 use Rattle.neighbours.proofs.raised.Statement.{statement}
 use Rattle.neighbours.proofs.raised.Tie as tie
 

@@ -47,19 +47,19 @@ add-up : tie.Need-add-up Inv-loop μ-loop
 add-up c = let s = c .before .before .before .before in omega (arith, small-at (s .args .t3) (s .pre .2) (c .before .before .before .loop .n - 1) (omega arith), c .raised .ensures .1)
 
 returns : tie.Need-returns Inv-loop μ-loop
-returns c = let s = c .before .before .before .before .before in let f : SFits w64 (getD (s .args .t4) (c .before .before .before .before .loop .n - 1) (pos 0)) = search needs in let e = step-known (getD (s .args .t4) (c .before .before .before .before .loop .n - 1) (pos 0)) (c .before .raised .result) f (c .before .raised .ensures .0) in sym (stays-low (s .args .level) (s .args .t3) (s .args .t4) (c .before .before .before .before .loop .n) (c .before .before .before .before .loop .n - 1) (omega arith) (omega arith)) ∙ c .before .before .before .before .loop .inv .1
+returns c = let s = c .before .before .before .before .before in let f : SFits w64 (getD (s .args .t4) (c .before .before .before .before .loop .n - 1) (pos 0)) = search needs in let e = step-known (getD (s .args .t4) (c .before .before .before .before .loop .n - 1) (pos 0)) (c .before .raised .result) f (c .before .raised .ensures .0) in sym (stays-low (s .args .level) (s .args .t3) (s .args .t4) (s .pre .3) (c .before .before .before .before .loop .n) (c .before .before .before .before .loop .n - 1) (omega arith) (omega arith) (omega arith)) ∙ c .before .before .before .before .loop .inv .1
 
 returns-2 : tie.Need-returns-2 Inv-loop μ-loop
-returns-2 c = let s = c .before .before .before .before .before .before in let f : SFits w64 (getD (s .args .t4) (c .before .before .before .before .before .loop .n - 1) (pos 0)) = search needs in let e = step-known (getD (s .args .t4) (c .before .before .before .before .before .loop .n - 1) (pos 0)) (c .before .before .raised .result) f (c .before .before .raised .ensures .0) in sym (stays-high (s .args .level) (s .args .t3) (s .args .t4) (c .before .before .before .before .before .loop .n) (c .before .before .before .before .before .loop .n - 1) (omega arith) (omega arith) (omega (arith, one-shifted (s .args .level) (s .pre .1)))) ∙ c .before .before .before .before .before .loop .inv .1
+returns-2 c = let s = c .before .before .before .before .before .before in let f : SFits w64 (getD (s .args .t4) (c .before .before .before .before .before .loop .n - 1) (pos 0)) = search needs in let e = step-known (getD (s .args .t4) (c .before .before .before .before .before .loop .n - 1) (pos 0)) (c .before .before .raised .result) f (c .before .before .raised .ensures .0) in sym (stays-high (s .args .level) (s .args .t3) (s .args .t4) (s .pre .3) (c .before .before .before .before .before .loop .n) (c .before .before .before .before .before .loop .n - 1) (omega arith) (omega arith) (omega (arith, one-shifted (s .args .level) (s .pre .1)))) ∙ c .before .before .before .before .before .loop .inv .1
 
 loop-less : tie.Need-loop-less Inv-loop μ-loop
 loop-less c = search needs
 
 loop-again : tie.Need-loop-again Inv-loop μ-loop
-loop-again c = let s = c .before .before .before .before .before .before in let f : SFits w64 (getD (s .args .t4) (c .before .before .before .before .before .loop .n - 1) (pos 0)) = search needs in let e = step-known (getD (s .args .t4) (c .before .before .before .before .before .loop .n - 1) (pos 0)) (c .before .before .raised .result) f (c .before .before .raised .ensures .0) in (omega arith, sym (stays-next (s .args .level) (s .args .t3) (s .args .t4) (c .before .before .before .before .before .loop .n) (c .before .before .before .before .before .loop .n - 1) (omega arith) (omega arith) (omega (arith, one-shifted (s .args .level) (s .pre .1)))) ∙ c .before .before .before .before .before .loop .inv .1)
+loop-again c = let s = c .before .before .before .before .before .before in let f : SFits w64 (getD (s .args .t4) (c .before .before .before .before .before .loop .n - 1) (pos 0)) = search needs in let e = step-known (getD (s .args .t4) (c .before .before .before .before .before .loop .n - 1) (pos 0)) (c .before .before .raised .result) f (c .before .before .raised .ensures .0) in (omega arith, sym (stays-next (s .args .level) (s .args .t3) (s .args .t4) (s .pre .3) (c .before .before .before .before .before .loop .n) (c .before .before .before .before .before .loop .n - 1) (omega arith) (omega arith) (omega arith) (omega (arith, one-shifted (s .args .level) (s .pre .1)))) ∙ c .before .before .before .before .before .loop .inv .1)
 
 returns-3 : tie.Need-returns-3 Inv-loop μ-loop
-returns-3 c = let s = c .before .before in sym (stays-none (s .args .level) (s .args .t3) (s .args .t4) (c .before .loop .n) (omega arith)) ∙ c .before .loop .inv .1
+returns-3 c = let s = c .before .before in sym (stays-none (s .args .level) (s .args .t3) (s .args .t4) (s .pre .3) (c .before .loop .n) (omega arith)) ∙ c .before .loop .inv .1
 
 pub stays-spec : {M : Type 1} → statement M
 stays-spec =
