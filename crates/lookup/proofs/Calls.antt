@@ -30,8 +30,8 @@ use Rattle.space.proofs.Refusals.{Fine, fine}
 use Rattle.morton.specs.Keys.{axesKnown}
 use Rattle.morton.proofs.Checks.{axes-known}
 use Rattle.tree.specs.WellFormed.{wellFormed}
-use Rattle.hints.specs.Owned.{Owned}
-use Rattle.hints.proofs.Owners.{owned-tree}
+use Rattle.lookup.specs.Owned.{Owned}
+use Rattle.lookup.proofs.Owners.{owned-tree}
 use Rattle.lookup.specs.declared.Climbs.{Climbs}
 use Rattle.lookup.specs.declared.Climbs.the-variants.{Ended, Failed}
 use Rattle.lookup.specs.declared.LookedUp.{LookedUp}

@@ -1,3 +1,4 @@
+pub mod Owners
 pub mod Climbing
 pub mod Batch
 pub mod Calls
