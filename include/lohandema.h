@@ -90,7 +90,7 @@ lohandema_ended lohandema_points_to_keys(const double centre[3], double radius, 
                                          size_t key_len, const size_t *own, size_t own_len, const size_t *begin,
                                          size_t begin_len, const double *points, size_t points_len, uint64_t *output,
                                          size_t output_len, size_t *steps);
-/* One point: its leaf and the steps to it. */
+/* One point: its leaf and the steps to it, at most 15. */
 lohandema_ended lohandema_point_to_leaf(const double centre[3], double radius, size_t axes, const uint64_t *key,
                                         size_t key_len, const size_t *own, size_t own_len, const size_t *begin,
                                         size_t begin_len, const double point[3], uint64_t *leaf, uint64_t *steps);
