@@ -269,7 +269,7 @@ lohandema_ended lohandema_points_to_keys(const double centre[3], double radius, 
                                          size_t begin_len, const double *points, size_t points_len, uint64_t *output,
                                          size_t output_len, size_t *steps);
 
-/* leaf: the key of the leaf that holds one point. steps: the depth less its level. Refused 1, 2, 13, 7, 12, value 0. */
+/* leaf: the key of the leaf that holds one point. steps: the depth less its level, at most 15. Refused 1, 2, 13, 7, 12, value 0. */
 lohandema_ended lohandema_point_to_leaf(const double centre[3], double radius, size_t axes, const uint64_t *key,
                                         size_t key_len, const size_t *own, size_t own_len, const size_t *begin,
                                         size_t begin_len, const double point[3], uint64_t *leaf, uint64_t *steps);

@@ -1,56 +1,152 @@
--- What a build returns, for every build that is not refused: a well-formed tree over all sources, each in the leaf whose run has it.
-use mathlib.Core.Path.{_≡_, ap, _∙_}
-use mathlib.Core.Bool.{true}
-use mathlib.Core.List.{List}
-use Prim.Native.Nat.{ℕ, _≤_, _<_}
+-- What a build returns, for every build that is not refused: a well-formed tree over all sources, each in one leaf's part of the
+-- order column, and the tender's third demand for the sources handed in.
+use mathlib.Core.Path.{_≡_, sym, ap, ap₂, _∙_}
+use mathlib.Core.Bool.{Bool, true, cond}
+use mathlib.Core.List.{List, []}
+use Prim.Native.Nat.{ℕ, _*_, _≤_, _<_}
 use native.Mathlib.Omega.{arith}
-use lib.ListN.{length, getD}
-use Rattle.slices.specs.Lists.{sum, range}
+use lib.Dec.{eqb}
+use lib.ListN.{length, getD, drop}
+use borrow.Author.Tests.{eqb-true}
+use Rattle.refusal.specs.declared.Refusal.the-variants.{Source, Point}
+use Rattle.refusal.specs.declared.Outcome.the-variants.{Done}
+use Rattle.refusal.specs.Chain.{ask, _then_}
+use Rattle.refusal.proofs.Chain.{asked, both-done}
+use Rattle.slices.specs.Lists.{filter, sum, range, bit}
 use Rattle.slices.specs.Order.{ascending}
 use Rattle.morton.specs.Keys.{axesKnown}
-use Rattle.tree.specs.Nodes.{depthOf}
+use Rattle.morton.specs.Anchors.{close}
+use Rattle.axes.proofs.Known.{axes-known}
+use Rattle.space.specs.Cells.{frameOf, inside}
+use Rattle.space.proofs.Batches.{codes-length, row-inside}
+use Rattle.tree.specs.Nodes.{leaf, depthOf}
 use Rattle.tree.specs.WellFormed.{wellFormed, mostSources, Run}
+use Rattle.tree.specs.Sources.{leafSources}
+use Rattle.rows.specs.Lists.{uRow, vRow}
+use Rattle.rows.specs.Demand3.{brings, meetings, Far, Few}
+use Rattle.rows.proofs.Demand3.{demand-3}
 use Rattle.climb.specs.Leaves.{leafKey}
-use Rattle.space.specs.Cells.{frameOf}
-use Rattle.space.proofs.Batches.{codes-length}
+use Rattle.growth.specs.Columns.{holds, indicesIn}
 use Rattle.growth.proofs.Arranged.{order-arranged}
 use Rattle.growth.proofs.Formed.{well-formed, own-total, depth-most}
 use Rattle.growth.proofs.Found.{source-found}
-use Rattle.laying.specs.Points.{rowsOf, codesOf}
+use Rattle.growth.proofs.Runs.{leaf-part}
+use Rattle.growth.proofs.Meets.{meets-once, meets-near}
+use Rattle.laying.specs.Points.{rowsOf, rowsInside, codesOf}
+use Rattle.laying.specs.Outcomes.{callOutcome, insideOutcome, workOutcome}
+use Rattle.laying.proofs.Prepared.{Passed, passed}
 use Rattle.build.specs.Asked.{Asked, ruleOf, keyOf, ownOf, beginOf, orderOf}
+use Rattle.build.specs.Outcomes.{columnOutcome, buildOutcome}
 use Rattle.build.proofs.Growing.{codes-lt}
 
-module _ (a : Asked) (known : axesKnown (a .box .axes) ≡ true) where
-  abbrev sources : List ℕ
+module _ (a : Asked) where
+  -- the number of axes, how many sources are handed in, and the level-16 code of each
+  abbrev pub axes : ℕ
+  axes = a .box .axes
+
+  abbrev pub count : ℕ
+  count = rowsOf (a .box) (a .sources)
+
+  abbrev pub sources : List ℕ
   sources = codesOf (a .box) (a .sources)
+
+  -- the leaf of source number x
+  abbrev pub leafOf : ℕ → ℕ
+  leafOf x = leafKey axes (keyOf a) (getD sources x 0)
+
+  -- the U and V rows of the tree
+  abbrev pub u : ℕ → List ℕ
+  u = uRow axes (keyOf a) (ownOf a)
+
+  abbrev pub v : ℕ → List ℕ
+  v = vRow axes (keyOf a) (ownOf a)
 
   abbrev targets : List ℕ
   targets = codesOf (a .box) (a .targets)
 
-  as-many : length sources ≡ rowsOf (a .box) (a .sources)
-  as-many = codes-length (rowsOf (a .box) (a .sources)) (frameOf (a .box)) (a .sources)
+  as-many : length sources ≡ count
+  as-many = codes-length count (frameOf (a .box)) (a .sources)
 
-  -- it is well formed
-  pub built-formed : rowsOf (a .box) (a .sources) ≤ mostSources → wellFormed (a .box .axes) (keyOf a) (ownOf a) (beginOf a) ≡ true
+  pub record Demand3 : Type 0 where
+    -- each leaf meets each source exactly once, over its own U row and the V rows of itself and all its ancestors
+    pub once : (b x : ℕ) → leaf axes (keyOf a) b ≡ true → x < count → meetings axes u v b (leafOf x) ≡ 1
+    -- in U exactly when the two leaves' cells at the coarser one's level coincide or touch
+    pub near : (b x : ℕ) → leaf axes (keyOf a) b ≡ true → x < count → brings axes (leafOf x) (u b) ≡ bit (close axes b (leafOf x))
+    -- no V row pairs touching cells, and none is too long
+    pub far : Far axes (keyOf a) v
+    pub few : Few axes (keyOf a) v
+
+-- a build that is not refused, with so much work, room in the order column and room in the node columns
+module _ (a : Asked) (work order nodes : ℕ) (done : buildOutcome a work order nodes ≡ Done) where
+  points-done : callOutcome (a .box) (a .sources) (a .targets) (a .order) then insideOutcome (a .box) (a .sources) (a .targets) then workOutcome (a .box) (a .sources) (a .targets) work ≡ Done
+  points-done = both-done _ (columnOutcome a order nodes) done .0
+
+  checks : Passed (a .box) (a .sources) (a .targets) (a .order) work
+  checks = passed (a .box) (a .sources) (a .targets) (a .order) work points-done
+
+  pub built-axes : axesKnown (axes a) ≡ true
+  built-axes = axes-known (axes a) (checks .call .box .least) (checks .call .box .most)
+
+  pub built-few : count a ≤ mostSources
+  built-few = checks .call .few
+
+  few : length (sources a) ≤ mostSources
+  few = omega (arith, as-many a, built-few)
+
+  -- every source is inside the box
+  pub built-inside : (x : ℕ) → x < count a → inside (frameOf (a .box)) (drop (x * axes a) (a .sources)) ≡ true
+  unfolding insideOutcome
+  built-inside x h =
+      let second = both-done (callOutcome (a .box) (a .sources) (a .targets) (a .order) then insideOutcome (a .box) (a .sources) (a .targets)) _ points-done in
+      let inner = both-done (callOutcome (a .box) (a .sources) (a .targets) (a .order)) (insideOutcome (a .box) (a .sources) (a .targets)) (second .0) .1 in
+      let first = both-done (ask (eqb (rowsInside (a .box) (a .sources)) (count a)) (Source (rowsInside (a .box) (a .sources)))) _ inner .0 in
+      let all : rowsInside (a .box) (a .sources) ≡ count a = eqb-true (rowsInside (a .box) (a .sources)) (count a) (asked _ _ first) in
+      row-inside (count a) x (frameOf (a .box)) (a .sources) (omega (arith, all))
+
+  -- the tree is well formed
+  pub built-formed : wellFormed (axes a) (keyOf a) (ownOf a) (beginOf a) ≡ true
   unfolding keyOf ownOf beginOf
-  built-formed few = well-formed (ruleOf a) sources targets known (codes-lt (a .box) (a .sources)) (omega (arith, as-many))
+  built-formed = well-formed (ruleOf a) (sources a) (targets a) built-axes (codes-lt (a .box) (a .sources)) few
 
   -- its total is the number of sources
-  pub built-total : sum (ownOf a) ≡ rowsOf (a .box) (a .sources)
+  pub built-total : sum (ownOf a) ≡ count a
   unfolding keyOf ownOf
-  built-total = own-total (ruleOf a) sources targets known (codes-lt (a .box) (a .sources)) ∙ as-many
-
-  -- the order column is an arrangement of all source indices
-  pub built-order : ascending (orderOf a) ≡ range 0 (rowsOf (a .box) (a .sources))
-  unfolding keyOf orderOf
-  built-order = order-arranged (ruleOf a) sources targets known (codes-lt (a .box) (a .sources)) ∙ ap (range 0) as-many
-
-  -- a source whose index stands in a node's run has that node as its leaf
-  pub built-leaf : (j p : ℕ) → Run (ownOf a) (beginOf a) j p → leafKey (a .box .axes) (keyOf a) (getD sources (getD (orderOf a) p 0) 0) ≡ getD (keyOf a) j 0
-  unfolding keyOf ownOf beginOf orderOf
-  built-leaf j p r = source-found (ruleOf a) sources targets known j p r
+  built-total = own-total (ruleOf a) (sources a) (targets a) built-axes (codes-lt (a .box) (a .sources)) ∙ as-many a
 
   -- its depth is at most 16
   pub built-depth : depthOf (keyOf a) ≤ 16
   unfolding keyOf
-  built-depth = depth-most (ruleOf a) sources targets known
+  built-depth = depth-most (ruleOf a) (sources a) (targets a) built-axes
+
+  -- the order column is an arrangement of all source indices
+  pub built-order : ascending (orderOf a) ≡ range 0 (count a)
+  unfolding keyOf orderOf
+  built-order = order-arranged (ruleOf a) (sources a) (targets a) built-axes (codes-lt (a .box) (a .sources)) ∙ ap (range 0) (as-many a)
+
+  -- a leaf's part of it: the indices of the sources whose code lies in that leaf, ascending
+  pub built-part : (j : ℕ) → j < length (keyOf a) → leaf (axes a) (keyOf a) (getD (keyOf a) j 0) ≡ true
+      → leafSources (ownOf a) (beginOf a) (orderOf a) j ≡ filter (λ x. holds (axes a) (getD (keyOf a) j 0) (getD (sources a) x 0)) (range 0 (count a))
+  unfolding ownOf beginOf orderOf indicesIn
+  built-part j h l =
+      leaf-part (axes a) (keyOf a) (sources a) j h
+      ∙ ap (λ (b : Bool). cond b (indicesIn (axes a) (sources a) (getD (keyOf a) j 0)) []) l
+      ∙ ap (λ (n : ℕ). filter (λ x. holds (axes a) (getD (keyOf a) j 0) (getD (sources a) x 0)) (range 0 n)) (as-many a)
+
+  -- a source whose index stands in a node's run has that node as its leaf
+  pub built-leaf : (j p : ℕ) → Run (ownOf a) (beginOf a) j p → leafOf a (getD (orderOf a) p 0) ≡ getD (keyOf a) j 0
+  unfolding keyOf ownOf beginOf orderOf
+  built-leaf j p r = source-found (ruleOf a) (sources a) (targets a) built-axes j p r
+
+  -- the tender's third demand
+  built-once : (b x : ℕ) → leaf (axes a) (keyOf a) b ≡ true → x < count a → meetings (axes a) (u a) (v a) b (leafOf a x) ≡ 1
+  unfolding keyOf ownOf
+  built-once b x l h = meets-once (ruleOf a) (sources a) (targets a) built-axes (codes-lt (a .box) (a .sources)) few b x l (omega (arith, as-many a))
+
+  built-near : (b x : ℕ) → leaf (axes a) (keyOf a) b ≡ true → x < count a → brings (axes a) (leafOf a x) (u a b) ≡ bit (close (axes a) b (leafOf a x))
+  unfolding keyOf ownOf
+  built-near b x l h = meets-near (ruleOf a) (sources a) (targets a) built-axes (codes-lt (a .box) (a .sources)) few b x l (omega (arith, as-many a))
+
+  pub built-demand-3 : Demand3 a
+  built-demand-3 =
+      let whole = demand-3 (axes a) (keyOf a) (ownOf a) (beginOf a) built-formed in
+      record { once = built-once; near = built-near; far = whole .3; few = whole .4 }

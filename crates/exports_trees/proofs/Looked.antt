@@ -1,14 +1,15 @@
 -- What is told of a lookup is what the definitions say of the box of the arguments.
-use mathlib.Core.Path.{_≡_, refl, ap, _∙_}
+use mathlib.Core.Path.{_≡_, refl, ap, subst, _∙_}
 use mathlib.Core.List.{List}
-use Prim.Native.Nat.{ℕ}
+use Prim.Native.Nat.{ℕ, _*_, _≤_}
 use lib.Ieee.{Float}
 use Rattle.refusal.specs.declared.Outcome.{Outcome}
 use Rattle.refusal.specs.declared.Outcome.the-variants.{Done, Refused}
 use Rattle.space.specs.declared.Box.{Box}
 use Rattle.lookup.specs.declared.LookedUp.{LookedUp}
 use Rattle.grouping.specs.Batches.{written}
-use Rattle.lookup.specs.Batch.{leafKeys, stepsSum, codesInside, lookupOutcome, foundOr}
+use Rattle.lookup.specs.Lookup.{BatchSteps}
+use Rattle.lookup.specs.Batch.{leafKeys, stepsSum, rowsOf, codesInside, lookupOutcome, foundOr}
 use Rattle.exports_trees.specs.Told.{lookedEnd, stepsIn}
 
 pub written-same : {o p : Outcome} (n : ℕ) (xs : List ℕ) → o ≡ p → written o n xs ≡ written p n xs
@@ -31,3 +32,6 @@ module _ {b x : Box} (keys own begin : List ℕ) (points : List Float) (room : �
   pub told-output : (out : List ℕ) → out ≡ written (lookupOutcome b keys own begin points room) room (leafKeys (b .axes) keys (codesInside b points))
       → out ≡ written (lookupOutcome x keys own begin points room) room (leafKeys (x .axes) keys (codesInside x points))
   told-output out f = f ∙ ap (λ b. written (lookupOutcome b keys own begin points room) room (leafKeys (b .axes) keys (codesInside b points))) e
+
+  pub told-few : (n : ℕ) → BatchSteps (b .axes) keys (codesInside b points) (rowsOf b points) n → n ≤ 15 * rowsOf x points
+  told-few n s = subst (λ (b : Box). n ≤ 15 * rowsOf b points) e (s .few)

@@ -6,6 +6,7 @@ use refusal::Outcome;
 use sourced::CellsAnswer;
 ghost use mathlib.Core.Path.{_≡_};
 ghost use mathlib.Core.Bool.{_&&_};
+ghost use Prim.Native.Nat.{_*_, _≤_};
 ghost use lib.ListN.{length, take, drop};
 ghost use Rattle.morton.specs.Keys.{axesKnown};
 ghost use Rattle.tree.specs.Nodes.{depthOf};
@@ -14,7 +15,7 @@ ghost use Rattle.tree.specs.Sources.{leafSources};
 ghost use Rattle.grouping.specs.Groups.{grouped};
 ghost use Rattle.grouping.specs.Batches.{written};
 ghost use Rattle.leaf_points.specs.Grouping.{groupStarts, groupOutcome};
-ghost use Rattle.lookup.specs.Batch.{leafKeys, stepsSum, codesInside, lookupOutcome, foundOr};
+ghost use Rattle.lookup.specs.Batch.{leafKeys, stepsSum, rowsOf, codesInside, lookupOutcome, foundOr};
 ghost use Rattle.lookup.specs.Single.{pointToLeaf};
 ghost use Rattle.sourced.specs.Answers.{cellsAnswer, cellsLeft};
 ghost use Rattle.exports_keys.specs.Told.{told};
@@ -78,6 +79,7 @@ pub extern "C" fn lohandema_points_to_keys(
     ensures ended { λ r. ⌜ r ≡ told (lookupOutcome (boxAt (now (centre .entry)) radius axes) (now (key .entry)) (now (own .entry)) (now (begin .entry)) (now (points .entry)) (length (now (output .entry)))) ⌝ }
     ensures output { λ _. ⌜ now (output .exit) ≡ written (lookupOutcome (boxAt (now (centre .entry)) radius axes) (now (key .entry)) (now (own .entry)) (now (begin .entry)) (now (points .entry)) (length (now (output .entry)))) (length (now (output .entry))) (leafKeys axes (now (key .entry)) (codesInside (boxAt (now (centre .entry)) radius axes) (now (points .entry)))) ⌝ }
     ensures steps { λ _. ⌜ now (steps .exit) ≡ stepsIn (foundOr (lookupOutcome (boxAt (now (centre .entry)) radius axes) (now (key .entry)) (now (own .entry)) (now (begin .entry)) (now (points .entry)) (length (now (output .entry)))) (stepsSum axes (now (key .entry)) (codesInside (boxAt (now (centre .entry)) radius axes) (now (points .entry))))) ⌝ }
+    ensures few { λ _. ⌜ now (steps .exit) ≤ 15 * rowsOf (boxAt (now (centre .entry)) radius axes) (now (points .entry)) ⌝ }
 {
     let b = exports_points::box_at(centre, radius, axes);
     let answer = lookup::points_to_keys(b, key, own, begin, points, output);
@@ -109,6 +111,7 @@ pub extern "C" fn lohandema_point_to_leaf(
     ensures ended { λ r. ⌜ r ≡ told (leafEnd (pointToLeaf (boxAt (now (centre .entry)) radius axes) (now (key .entry)) (now (own .entry)) (now (begin .entry)) (now (point .entry)))) ⌝ }
     ensures leaf { λ _. ⌜ now (leaf .exit) ≡ leafIn (pointToLeaf (boxAt (now (centre .entry)) radius axes) (now (key .entry)) (now (own .entry)) (now (begin .entry)) (now (point .entry))) ⌝ }
     ensures steps { λ _. ⌜ now (steps .exit) ≡ climbedIn (pointToLeaf (boxAt (now (centre .entry)) radius axes) (now (key .entry)) (now (own .entry)) (now (begin .entry)) (now (point .entry))) ⌝ }
+    ensures few { λ _. ⌜ now (steps .exit) ≤ 15 ⌝ }
 {
     let b = exports_points::box_at(centre, radius, axes);
     let place = *point;

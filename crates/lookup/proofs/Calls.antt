@@ -30,8 +30,8 @@ use Rattle.space.proofs.Refusals.{Fine, fine}
 use Rattle.morton.specs.Keys.{axesKnown}
 use Rattle.morton.proofs.Checks.{axes-known}
 use Rattle.tree.specs.WellFormed.{wellFormed}
-use Rattle.hints.specs.Owned.{Owned}
-use Rattle.hints.proofs.Owners.{owned-tree}
+use Rattle.lookup.specs.Owned.{Owned}
+use Rattle.lookup.proofs.Owners.{owned-tree}
 use Rattle.lookup.specs.declared.Climbs.{Climbs}
 use Rattle.lookup.specs.declared.Climbs.the-variants.{Ended, Failed}
 use Rattle.lookup.specs.declared.LookedUp.{LookedUp}
@@ -184,7 +184,7 @@ module _ (b : Box) (keys own begin : List ℕ) (xs : List Float) (room : ℕ) wh
       }
 
 -- ---- the answer and the output of a call
-found-is : (o : Outcome) (s steps : ℕ) → foundOr o s ≡ Found steps → (o ≡ Done) × (steps ≡ s)
+pub found-is : (o : Outcome) (s steps : ℕ) → foundOr o s ≡ Found steps → (o ≡ Done) × (steps ≡ s)
 found-is Done s steps e = (refl, (cc))
 found-is (Refused r) s steps e = let z : _≡_ {A = ℕ} 0 1 = cc in absurd (omega arith)
 

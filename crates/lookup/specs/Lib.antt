@@ -1,3 +1,4 @@
+pub mod Owned
 pub mod Lookup
 pub mod Batch
 pub mod Single

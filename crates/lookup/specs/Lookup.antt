@@ -2,13 +2,14 @@
 use mathlib.Core.Path.{_≡_}
 use mathlib.Core.Bool.{Bool, true, false}
 use mathlib.Core.List.{List}
-use Prim.Native.Nat.{ℕ, _-_, _≤_, _<_}
+use Prim.Native.Nat.{ℕ, _+_, _*_, _-_, _≤_, _<_}
 use lib.Dec.{ltb}
 use lib.ListN.{length, getD}
 use Rattle.morton.specs.Keys.{levelOf}
+use Rattle.tree.specs.Nodes.{depthOf}
 use Rattle.tree.specs.declared.Found.{Found}
 use Rattle.tree.specs.declared.Found.the-variants.{At, Nothing}
-use Rattle.climb.specs.Leaves.{cellOf, climbed}
+use Rattle.climb.specs.Leaves.{cellOf, climbed, leafKey, stepsTo}
 use Rattle.lookup.specs.declared.Climb.{Climb}
 use Rattle.lookup.specs.declared.Climb.the-variants.{Leaf, Unstored}
 
@@ -29,3 +30,13 @@ pub record Reached (keys : List ℕ) (top : ℕ) (leaf : Found) : Type 0 where
 abbrev pub climbAt : List ℕ → ℕ → Found → Climb
 climbAt keys top (At node) = Leaf (getD keys node 0) (top - levelOf (getD keys node 0))
 climbAt keys top Nothing = Unstored
+
+-- ---- what is promised of the steps: from the leaf with key k they make up the depth, and they are at most 15
+pub record Steps (keys : List ℕ) (k steps : ℕ) : Type 0 where
+  pub levels : steps + levelOf k ≡ depthOf keys
+  pub few : steps ≤ 15
+
+-- of a batch of n codes: so do each one's, and their sum is at most 15 for each
+pub record BatchSteps (d : ℕ) (keys codes : List ℕ) (n total : ℕ) : Type 0 where
+  pub each : (i : ℕ) → i < n → Steps keys (leafKey d keys (getD codes i 0)) (stepsTo d keys (getD codes i 0))
+  pub few : total ≤ 15 * n

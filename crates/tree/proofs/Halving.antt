@@ -78,7 +78,7 @@ module _ (keys : List ℕ) (k r : ℕ) (f : FirstFrom keys k r) where
           (f .splits o r h ∙ le-ltb r r (omega arith))
       go o j p l e (no q) = let s : j ≡ r = omega arith in n (rw s at e)
 
--- where the keys are in order, there is one right answer
+-- where the keys are in order, there is one right answer to each search
 pub found-unique : (keys : List ℕ) (k : ℕ) (a b : Found) → inOrder keys ≡ true → FoundNode keys k a → FoundNode keys k b → a ≡ b
 found-unique keys k (At i) (At j) o p q = ap At (go (decLt i j) (decLt j i))
   where
@@ -89,3 +89,16 @@ found-unique keys k (At i) (At j) o p q = ap At (go (decLt i j) (decLt j i))
 found-unique keys k (At i) Nothing o p q = absurd (clash (mem-stored keys k (i, p .0, p .1)) (q o))
 found-unique keys k Nothing (At j) o p q = absurd (clash (mem-stored keys k (j, q .0, q .1)) (p o))
 found-unique keys k Nothing Nothing o p q = refl
+
+pub first-unique : (keys : List ℕ) (k a b : ℕ) → inOrder keys ≡ true → FirstFrom keys k a → FirstFrom keys k b → a ≡ b
+first-unique keys k a b o p q = go (decLt a b) (decLt b a)
+  where
+    earlier-first : (a b : ℕ) → FirstFrom keys k a → FirstFrom keys k b → a < b → ⊥
+    earlier-first a b p q l =
+        let there : a < length keys = omega (arith, q .within) in
+        clash (q .splits o a there ∙ lt-ltb a b l) (p .splits o a there ∙ le-ltb a a (omega arith))
+
+    go : Dec (a < b) → Dec (b < a) → a ≡ b
+    go (yes l) _ = absurd (earlier-first a b p q l)
+    go (no n) (yes l) = absurd (earlier-first b a q p l)
+    go (no n) (no m) = omega arith

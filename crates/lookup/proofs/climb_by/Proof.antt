@@ -3,7 +3,7 @@ use mathlib.Core.Path.{sym, ap, _∙_}
 use Prim.Native.Nat.{ℕ, _≤_}
 use native.Mathlib.Omega.{arith}
 use Rattle.climb.specs.Leaves.{climbFrom}
-use Rattle.hints.proofs.Owners.{depth-few}
+use Rattle.lookup.proofs.Owners.{depth-few}
 use denote.Ref.{now}
 use Rattle.lookup.proofs.Climbing.{climb-reached, climb-at}
 use borrow.Author.Needs.{needs}
@@ -11,7 +11,7 @@ use Rattle.lookup.proofs.climb_by.Statement.{statement}
 use Rattle.lookup.proofs.climb_by.Tie as tie
 use Rattle.lookup.proofs.climb_by.Reads as reads
 use Rattle.lookup.proofs.climb_by.Lts as lts
-use Rattle.hints.proofs.leaf_of.Reads as leaf-of-reads
+use Rattle.lookup.proofs.hints.leaf_of.Reads as leaf-of-reads
 use Rattle.lookup.proofs.end_of.Reads as end-of-reads
 
 leaf-of-requires : tie.Need-leaf-of-requires
