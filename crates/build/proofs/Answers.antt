@@ -18,7 +18,7 @@ use Rattle.growth.specs.Columns.{ownColumn, beginColumn, orderColumn}
 use Rattle.laying.specs.Points.{rowsOf, codesOf}
 use Rattle.laying.specs.Outcomes.{callOutcome, insideOutcome, workOutcome}
 use Rattle.build.specs.declared.Built.the-variants.{Tree, Refused as NotBuilt}
-use Rattle.build.specs.Asked.{Asked, keyOf, ownOf, beginOf, orderOf}
+use Rattle.build.specs.Asked.{Asked, builtKeys, builtOwn, builtBegins, builtOrder}
 use Rattle.build.specs.Outcomes.{columnOutcome, buildOutcome, treeOr, written, Columns}
 
 -- an answer that is a refusal, or a tree, tells the outcome
@@ -37,38 +37,38 @@ module _ (a : Asked) (work order nodes : ℕ) where
   abbrev checks : Outcome
   checks = callOutcome (a .box) (a .sources) (a .targets) (a .order) then insideOutcome (a .box) (a .sources) (a .targets) then workOutcome (a .box) (a .sources) (a .targets) work
 
-  pub early-refused : (r : Refusal) → checks ≡ Refused r → NotBuilt r ≡ treeOr (buildOutcome a work order nodes) (keyOf a)
-  early-refused r e = sym (ap (λ q. treeOr (q then columnOutcome a order nodes) (keyOf a)) e)
+  pub early-refused : (r : Refusal) → checks ≡ Refused r → NotBuilt r ≡ treeOr (buildOutcome a work order nodes) (builtKeys a)
+  early-refused r e = sym (ap (λ q. treeOr (q then columnOutcome a order nodes) (builtKeys a)) e)
 
   module _ (o : checks ≡ Done) where
-    late : treeOr (buildOutcome a work order nodes) (keyOf a) ≡ treeOr (columnOutcome a order nodes) (keyOf a)
-    late = ap (λ q. treeOr (q then columnOutcome a order nodes) (keyOf a)) o
+    late : treeOr (buildOutcome a work order nodes) (builtKeys a) ≡ treeOr (columnOutcome a order nodes) (builtKeys a)
+    late = ap (λ q. treeOr (q then columnOutcome a order nodes) (builtKeys a)) o
 
-    pub order-short : order < rowsOf (a .box) (a .sources) → NotBuilt (Room 2) ≡ treeOr (buildOutcome a work order nodes) (keyOf a)
+    pub order-short : order < rowsOf (a .box) (a .sources) → NotBuilt (Room 2) ≡ treeOr (buildOutcome a work order nodes) (builtKeys a)
     unfolding columnOutcome
-    order-short h = sym (late ∙ ap (λ b. treeOr (ask b (Room 2) then ask (leb (length (keyOf a)) nodes) (Room 3)) (keyOf a)) (lt-leb (rowsOf (a .box) (a .sources)) order h))
+    order-short h = sym (late ∙ ap (λ b. treeOr (ask b (Room 2) then ask (leb (length (builtKeys a)) nodes) (Room 3)) (builtKeys a)) (lt-leb (rowsOf (a .box) (a .sources)) order h))
 
     module _ (fits : rowsOf (a .box) (a .sources) ≤ order) where
-      last : treeOr (buildOutcome a work order nodes) (keyOf a) ≡ treeOr (ask (leb (length (keyOf a)) nodes) (Room 3)) (keyOf a)
+      last : treeOr (buildOutcome a work order nodes) (builtKeys a) ≡ treeOr (ask (leb (length (builtKeys a)) nodes) (Room 3)) (builtKeys a)
       unfolding columnOutcome
-      last = late ∙ ap (λ b. treeOr (ask b (Room 2) then ask (leb (length (keyOf a)) nodes) (Room 3)) (keyOf a)) (le-leb (rowsOf (a .box) (a .sources)) order fits)
+      last = late ∙ ap (λ b. treeOr (ask b (Room 2) then ask (leb (length (builtKeys a)) nodes) (Room 3)) (builtKeys a)) (le-leb (rowsOf (a .box) (a .sources)) order fits)
 
-      pub nodes-short : nodes < length (keyOf a) → NotBuilt (Room 3) ≡ treeOr (buildOutcome a work order nodes) (keyOf a)
-      nodes-short h = sym (last ∙ ap (λ b. treeOr (ask b (Room 3)) (keyOf a)) (lt-leb (length (keyOf a)) nodes h))
+      pub nodes-short : nodes < length (builtKeys a) → NotBuilt (Room 3) ≡ treeOr (buildOutcome a work order nodes) (builtKeys a)
+      nodes-short h = sym (last ∙ ap (λ b. treeOr (ask b (Room 3)) (builtKeys a)) (lt-leb (length (builtKeys a)) nodes h))
 
-      pub tree-built : (n depth : ℕ) (key : List ℕ) → key ≡ keyOf a → n ≡ length (keyOf a) → n ≤ nodes → depth ≡ depthOf key → Tree n depth ≡ treeOr (buildOutcome a work order nodes) (keyOf a)
+      pub tree-built : (n depth : ℕ) (key : List ℕ) → key ≡ builtKeys a → n ≡ length (builtKeys a) → n ≤ nodes → depth ≡ depthOf key → Tree n depth ≡ treeOr (buildOutcome a work order nodes) (builtKeys a)
       tree-built n depth key k e h d =
           ap₂ (λ (x y : ℕ). Tree x y) e (d ∙ ap depthOf k)
-          ∙ sym (last ∙ ap (λ b. treeOr (ask b (Room 3)) (keyOf a)) (le-leb (length (keyOf a)) nodes (omega (arith, e, h))))
+          ∙ sym (last ∙ ap (λ b. treeOr (ask b (Room 3)) (builtKeys a)) (le-leb (length (builtKeys a)) nodes (omega (arith, e, h))))
 
 -- the columns that were written, said of what was asked
-pub columns-are : (a : Asked) (n : ℕ) (key codes : List ℕ) → take n key ≡ keyOf a → n ≡ length (keyOf a) → codes ≡ codesOf (a .box) (a .sources)
+pub columns-are : (a : Asked) (n : ℕ) (key codes : List ℕ) → take n key ≡ builtKeys a → n ≡ length (builtKeys a) → codes ≡ codesOf (a .box) (a .sources)
     → (work₁ work₂ order₂ key₂ own₂ begin₂ : List ℕ) (works orders keys owns begins : ℕ) → length work₁ ≡ works → length key ≡ keys
     → work₂ ≡ replicate (length work₁) 0 → order₂ ≡ filled orders (orderColumn (a .box .axes) (take n key) codes)
     → key₂ ≡ take n key ++ replicate (length key - n) 0 → own₂ ≡ filled owns (ownColumn (a .box .axes) (take n key) codes)
     → begin₂ ≡ filled begins (beginColumn (ownColumn (a .box .axes) (take n key) codes))
     → Columns a work₂ order₂ key₂ own₂ begin₂ works orders keys owns begins
-unfolding orderOf ownOf beginOf
+unfolding builtOrder builtOwn builtBegins
 columns-are a n key codes k e c work₁ work₂ order₂ key₂ own₂ begin₂ works orders keys owns begins lw lk iw io ik iown ib =
     let d = a .box .axes in
     record {

@@ -29,14 +29,14 @@ abbrev pub ruleOf : Asked → Rule
 ruleOf a = record { axes = a .box .axes; limit = a .limit; order = a .order; keep = a .keep }
 
 -- the columns of the tree
-unfoldable pub keyOf : Asked → List ℕ
-keyOf a = nodes (ruleOf a) (codesOf (a .box) (a .sources)) (codesOf (a .box) (a .targets))
+unfoldable pub builtKeys : Asked → List ℕ
+builtKeys a = nodes (ruleOf a) (codesOf (a .box) (a .sources)) (codesOf (a .box) (a .targets))
 
-unfoldable pub ownOf : Asked → List ℕ
-ownOf a = ownColumn (a .box .axes) (keyOf a) (codesOf (a .box) (a .sources))
+unfoldable pub builtOwn : Asked → List ℕ
+builtOwn a = ownColumn (a .box .axes) (builtKeys a) (codesOf (a .box) (a .sources))
 
-unfoldable pub beginOf : Asked → List ℕ
-beginOf a = beginColumn (ownOf a)
+unfoldable pub builtBegins : Asked → List ℕ
+builtBegins a = beginColumn (builtOwn a)
 
-unfoldable pub orderOf : Asked → List ℕ
-orderOf a = orderColumn (a .box .axes) (keyOf a) (codesOf (a .box) (a .sources))
+unfoldable pub builtOrder : Asked → List ℕ
+builtOrder a = orderColumn (a .box .axes) (builtKeys a) (codesOf (a .box) (a .sources))

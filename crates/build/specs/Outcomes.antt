@@ -14,7 +14,7 @@ use Rattle.laying.specs.Points.{rowsOf}
 use Rattle.laying.specs.Outcomes.{callOutcome, insideOutcome, workOutcome}
 use Rattle.build.specs.declared.Built.{Built}
 use Rattle.build.specs.declared.Built.the-variants.{Tree, Refused as NotBuilt}
-use Rattle.build.specs.Asked.{Asked, keyOf, ownOf, beginOf, orderOf}
+use Rattle.build.specs.Asked.{Asked, builtKeys, builtOwn, builtBegins, builtOrder}
 
 -- the shortest of the three node columns, of which at most 1,048,576 entries count
 abbrev pub nodeRoom : ℕ → ℕ → ℕ → ℕ
@@ -22,7 +22,7 @@ nodeRoom key own begin = min 1048576 (min key (min own begin))
 
 -- 8 ROOM: 2 the order, 3 the node columns, of which `nodes` entries count
 unfoldable pub columnOutcome : Asked → ℕ → ℕ → Outcome
-columnOutcome a order nodes = ask (leb (rowsOf (a .box) (a .sources)) order) (Room 2) then ask (leb (length (keyOf a)) nodes) (Room 3)
+columnOutcome a order nodes = ask (leb (rowsOf (a .box) (a .sources)) order) (Room 2) then ask (leb (length (builtKeys a)) nodes) (Room 3)
 
 abbrev pub buildOutcome : Asked → ℕ → ℕ → ℕ → Outcome
 buildOutcome a work order nodes =
@@ -44,7 +44,7 @@ written (Refused r) room answer = replicate room 0
 -- the slices after a build that is not refused, by the length of each
 pub record Columns (a : Asked) (work order key own begin : List ℕ) (works orders keys owns begins : ℕ) : Type 0 where
   pub worked : work ≡ replicate works 0
-  pub ordered : order ≡ filled orders (orderOf a)
-  pub keyed : key ≡ filled keys (keyOf a)
-  pub owned : own ≡ filled owns (ownOf a)
-  pub begun : begin ≡ filled begins (beginOf a)
+  pub ordered : order ≡ filled orders (builtOrder a)
+  pub keyed : key ≡ filled keys (builtKeys a)
+  pub owned : own ≡ filled owns (builtOwn a)
+  pub begun : begin ≡ filled begins (builtBegins a)

@@ -17,7 +17,7 @@ use Rattle.rows.specs.Lists.{uRow, vRow, nearWork}
 use Rattle.sourced.specs.Answers.{treeCheck}
 use Rattle.interaction.specs.Answers.{keysOf, startsCheck, listsCheck}
 use Rattle.lists.specs.Descent.{keysRoom}
-use Rattle.build.specs.Asked.{keyOf, ownOf, beginOf}
+use Rattle.build.specs.Asked.{builtKeys, builtOwn, builtBegins}
 use Rattle.build.specs.Outcomes.{buildOutcome}
 use Rattle.survey.specs.declared.Survey.{Survey}
 use Rattle.survey.specs.File.{fileOutcome, survey, sourceRows, targetRows}
@@ -46,7 +46,7 @@ columns-most d key own begin sources = text-most (listsCheck d key own begin 204
 survey-most : (s : Survey) (sources targets : List Float) → length (surveyText s sources targets) ≤ 481390
 survey-most s sources targets =
     let a = askedBy s sources targets in
-    text-most (buildOutcome a 8176 4088 2048) (columnsText (s .b .axes) (keyOf a) (ownOf a) (beginOf a) (s .sources)) (λ _. columns-most (s .b .axes) (keyOf a) (ownOf a) (beginOf a) (s .sources))
+    text-most (buildOutcome a 8176 4088 2048) (columnsText (s .b .axes) (builtKeys a) (builtOwn a) (builtBegins a) (s .sources)) (λ _. columns-most (s .b .axes) (builtKeys a) (builtOwn a) (builtBegins a) (s .sources))
 
 pub file-most : (file : List ℕ) → length (fileText file) ≤ 481390
 file-most file = text-most (fileOutcome file) (surveyText (survey file) (sourceRows file) (targetRows file)) (λ _. survey-most (survey file) (sourceRows file) (targetRows file))

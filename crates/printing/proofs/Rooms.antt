@@ -22,7 +22,7 @@ use Rattle.laying.specs.Outcomes.{callOutcome, insideOutcome, workOutcome}
 use Rattle.laying.specs.Points.{rowsOf}
 use Rattle.build.specs.declared.Built.{Built}
 use Rattle.build.specs.declared.Built.the-variants.{Tree, Refused as NotBuilt}
-use Rattle.build.specs.Asked.{Asked, keyOf, ownOf, beginOf}
+use Rattle.build.specs.Asked.{Asked, builtKeys, builtOwn, builtBegins}
 use Rattle.build.specs.Outcomes.{columnOutcome, buildOutcome, treeOr, written}
 use Rattle.survey.specs.declared.Survey.{Survey}
 use Rattle.survey.specs.File.{none, fileOutcome, surveyOr, survey, sourceRows, targetRows, filledWith}
@@ -45,13 +45,13 @@ was-not : (o : Outcome) (k : List ℕ) (r : Refusal) → NotBuilt r ≡ treeOr o
 was-not Done k r e = absurd (let z : _≡_ {A = ℕ} 0 1 = cc in omega arith)
 was-not (Refused s) k r e = cc
 
-own-length : (a : Asked) → length (ownOf a) ≡ length (keyOf a)
-unfolding ownOf ownColumn
-own-length a = length-map (keyOf a) _
+own-length : (a : Asked) → length (builtOwn a) ≡ length (builtKeys a)
+unfolding builtOwn ownColumn
+own-length a = length-map (builtKeys a) _
 
-begin-length : (a : Asked) → length (beginOf a) ≡ length (keyOf a)
-unfolding beginOf beginColumn
-begin-length a = length-map (range 0 (length (ownOf a))) (λ i. sum (take i (ownOf a))) ∙ length-range 0 (length (ownOf a)) ∙ own-length a
+begin-length : (a : Asked) → length (builtBegins a) ≡ length (builtKeys a)
+unfolding builtBegins beginColumn
+begin-length a = length-map (range 0 (length (builtOwn a))) (λ i. sum (take i (builtOwn a))) ∙ length-range 0 (length (builtOwn a)) ∙ own-length a
 
 -- a column that is left by a build: its first entries
 column-front : (o : Outcome) (s xs : List ℕ) (n room : ℕ) → s ≡ written o room xs → o ≡ Done → n ≡ length xs → take n s ≡ xs
@@ -60,7 +60,7 @@ column-front o s xs n room e f k = ap (take n) (e ∙ ap (λ (o : Outcome). writ
 column-long : (o : Outcome) (s xs : List ℕ) (n room : ℕ) → s ≡ written o room xs → o ≡ Done → n ≡ length xs → n ≤ length s
 column-long o s xs n room e f k = omega (arith, ap length (e ∙ ap (λ (o : Outcome). written o room xs) f) ∙ length-append xs (replicate (room - length xs) 0))
 
-module _ (s : Survey) (sources targets : List Float) (work order nodes : ℕ) (r : Built) (e : r ≡ treeOr (buildOutcome (askedBy s sources targets) work order nodes) (keyOf (askedBy s sources targets))) where
+module _ (s : Survey) (sources targets : List Float) (work order nodes : ℕ) (r : Built) (e : r ≡ treeOr (buildOutcome (askedBy s sources targets) work order nodes) (builtKeys (askedBy s sources targets))) where
   abbrev a : Asked
   a = askedBy s sources targets
 
@@ -69,30 +69,30 @@ module _ (s : Survey) (sources targets : List Float) (work order nodes : ℕ) (r
 
   pub built-refused : (x : Refusal) → r ≡ NotBuilt x → refusalLine x ≡ surveyTextIn work order nodes s sources targets
   built-refused x f =
-      sym (ap (λ (o : Outcome). textOr o (columnsText (s .b .axes) (keyOf a) (ownOf a) (beginOf a) (s .sources))) (was-not o (keyOf a) x (sym f ∙ e)))
+      sym (ap (λ (o : Outcome). textOr o (columnsText (s .b .axes) (builtKeys a) (builtOwn a) (builtBegins a) (s .sources))) (was-not o (builtKeys a) x (sym f ∙ e)))
 
   module _ (n d : ℕ) (f : r ≡ Tree n d) where
     done : o ≡ Done
-    done = was-built o (keyOf a) n d (sym f ∙ e) .0
+    done = was-built o (builtKeys a) n d (sym f ∙ e) .0
 
-    count : n ≡ length (keyOf a)
-    count = was-built o (keyOf a) n d (sym f ∙ e) .1
+    count : n ≡ length (builtKeys a)
+    count = was-built o (builtKeys a) n d (sym f ∙ e) .1
 
-    pub key-long : (key : List ℕ) (room : ℕ) → key ≡ written o room (keyOf a) → n ≤ length key
-    key-long key room g = column-long o key (keyOf a) n room g done count
+    pub key-long : (key : List ℕ) (room : ℕ) → key ≡ written o room (builtKeys a) → n ≤ length key
+    key-long key room g = column-long o key (builtKeys a) n room g done count
 
-    pub own-long : (own : List ℕ) (room : ℕ) → own ≡ written o room (ownOf a) → n ≤ length own
-    own-long own room g = column-long o own (ownOf a) n room g done (count ∙ sym (own-length a))
+    pub own-long : (own : List ℕ) (room : ℕ) → own ≡ written o room (builtOwn a) → n ≤ length own
+    own-long own room g = column-long o own (builtOwn a) n room g done (count ∙ sym (own-length a))
 
-    pub begin-long : (begin : List ℕ) (room : ℕ) → begin ≡ written o room (beginOf a) → n ≤ length begin
-    begin-long begin room g = column-long o begin (beginOf a) n room g done (count ∙ sym (begin-length a))
+    pub begin-long : (begin : List ℕ) (room : ℕ) → begin ≡ written o room (builtBegins a) → n ≤ length begin
+    begin-long begin room g = column-long o begin (builtBegins a) n room g done (count ∙ sym (begin-length a))
 
-    pub built-text : (key own begin : List ℕ) (keys owns begins : ℕ) → key ≡ written o keys (keyOf a) → own ≡ written o owns (ownOf a) → begin ≡ written o begins (beginOf a)
+    pub built-text : (key own begin : List ℕ) (keys owns begins : ℕ) → key ≡ written o keys (builtKeys a) → own ≡ written o owns (builtOwn a) → begin ≡ written o begins (builtBegins a)
         → columnsText (s .b .axes) (take n key) (take n own) (take n begin) (s .sources) ≡ surveyTextIn work order nodes s sources targets
     built-text key own begin keys owns begins g h i =
-        ap₂ (λ (k w : List ℕ). columnsText (s .b .axes) k w (take n begin) (s .sources)) (column-front o key (keyOf a) n keys g done count) (column-front o own (ownOf a) n owns h done (count ∙ sym (own-length a)))
-        ∙ ap (λ (b : List ℕ). columnsText (s .b .axes) (keyOf a) (ownOf a) b (s .sources)) (column-front o begin (beginOf a) n begins i done (count ∙ sym (begin-length a)))
-        ∙ sym (ap (λ (o : Outcome). textOr o (columnsText (s .b .axes) (keyOf a) (ownOf a) (beginOf a) (s .sources))) done)
+        ap₂ (λ (k w : List ℕ). columnsText (s .b .axes) k w (take n begin) (s .sources)) (column-front o key (builtKeys a) n keys g done count) (column-front o own (builtOwn a) n owns h done (count ∙ sym (own-length a)))
+        ∙ ap (λ (b : List ℕ). columnsText (s .b .axes) (builtKeys a) (builtOwn a) b (s .sources)) (column-front o begin (builtBegins a) n begins i done (count ∙ sym (begin-length a)))
+        ∙ sym (ap (λ (o : Outcome). textOr o (columnsText (s .b .axes) (builtKeys a) (builtOwn a) (builtBegins a) (s .sources))) done)
 
 -- ---- a file's answer
 

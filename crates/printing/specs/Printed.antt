@@ -3,7 +3,7 @@ use mathlib.Core.Bool.{true}
 use mathlib.Core.List.{List}
 use Prim.Native.Nat.{ℕ}
 use lib.Ieee.{Float}
-use Rattle.build.specs.Asked.{Asked, asks, used, keyOf, ownOf, beginOf}
+use Rattle.build.specs.Asked.{Asked, asks, used, builtKeys, builtOwn, builtBegins}
 use Rattle.build.specs.Outcomes.{buildOutcome}
 use Rattle.survey.specs.declared.Survey.{Survey}
 use Rattle.survey.specs.File.{fileOutcome, survey, sourceRows, targetRows}
@@ -21,7 +21,7 @@ columnsText d key own begin sources = treeText d key own begin 2049 8192 2049 81
 abbrev pub surveyTextIn : (work order nodes : ℕ) → Survey → List Float → List Float → List ℕ
 surveyTextIn work order nodes s sources targets =
     textOr (buildOutcome (askedBy s sources targets) work order nodes)
-    (columnsText (s .b .axes) (keyOf (askedBy s sources targets)) (ownOf (askedBy s sources targets)) (beginOf (askedBy s sources targets)) (s .sources))
+    (columnsText (s .b .axes) (builtKeys (askedBy s sources targets)) (builtOwn (askedBy s sources targets)) (builtBegins (askedBy s sources targets)) (s .sources))
 
 -- room for 2,048 nodes, and work and order for the largest file
 abbrev pub surveyText : Survey → List Float → List Float → List ℕ
