@@ -18,13 +18,13 @@ use Rattle.space.specs.declared.Frame.{Frame}
 use Rattle.space.specs.declared.Place.{Place}
 use Rattle.space.specs.declared.Place.the-variants.{At, Outside}
 use Rattle.space.specs.Domain.{radiusKnown}
-use Rattle.space.specs.Cells.{displacement, frameOf, cellIn, cell16, isAt, numberAt, inside, anchors16, anchors, code16, cellAt, Nests}
+use Rattle.space.specs.Cells.{displacement, frameOf, cellIn, cell16, isAt, numberAt, inside, anchors16, anchors, code16, levelCell, Nests}
 use Rattle.points.proofs.Sides.{radius, cells-nest, not-finite}
 use Rattle.space.proofs.Points.{cell-on}
 
 -- for every box of the domain, every axis and every coordinate
 module _ (b : Box) (held : fits binary64 (b .radius) ≡ true) (known : radiusKnown (b .radius) ≡ true) where
-  pub cell-nests : (level a k : ℕ) (x : Float) → level ≤ 16 → cellAt b 16 a x ≡ At k → cellAt b level a x ≡ At (k / 2 ^ (16 - level))
+  pub cell-nests : (level a k : ℕ) (x : Float) → level ≤ 16 → levelCell b 16 a x ≡ At k → levelCell b level a x ≡ At (k / 2 ^ (16 - level))
   cell-nests level a k x l h = cells-nest (b .radius) x (displacement b a) level k (radius (b .radius) held known) l h
 
 is-at : (p : Place) → isAt p ≡ true → p ≡ At (numberAt p)

@@ -80,12 +80,12 @@ abbrev pub placeOf : Frame → List Float → Place
 placeOf f xs = pick (inside f xs) (At (code16 f xs)) Outside
 
 -- ---- the level's own quotient
-abbrev pub cellAt : Box → ℕ → ℕ → Float → Place
-cellAt b level a x = cellIn (2 ^ level) (floor (quotient x (displacement b a) (side (b .radius) level)))
+abbrev pub levelCell : Box → ℕ → ℕ → Float → Place
+levelCell b level a x = cellIn (2 ^ level) (floor (quotient x (displacement b a) (side (b .radius) level)))
 
 -- cells are those that the level's own quotients name, on each of the axes
 abbrev pub Nests : Box → List Float → ℕ → List ℕ → Type 0
-Nests b xs level cells = (a : ℕ) → a < b .axes → cellAt b level a (getD xs a nan) ≡ At (getD cells a 0)
+Nests b xs level cells = (a : ℕ) → a < b .axes → levelCell b level a (getD xs a nan) ≡ At (getD cells a 0)
 
 -- ---- one point
 abbrev pub kept : Bool → List ℕ → List ℕ
