@@ -4,7 +4,7 @@ use mathlib.Core.List.{List, [], _∷_, _++_}
 use Prim.Native.Nat.{ℕ, zero, suc, _+_, _-_}
 use lib.ListN.{length, getD, take, drop}
 use Rattle.slices.specs.Lists.{concatMap, Mem}
-use Rattle.tree.specs.Nodes.{placeOf}
+use Rattle.tree.specs.Nodes.{nodeNumber}
 
 -- where each node's row begins, the first at a, and where the last one ends
 unfoldable pub startsFrom : ℕ → (ℕ → List ℕ) → List ℕ → List ℕ
@@ -24,7 +24,7 @@ rowAt starts flat i = take (getD starts (suc i) 0 - getD starts i 0) (drop (getD
 
 -- the row of the node with key k
 abbrev pub rowOf : List ℕ → List ℕ → List ℕ → ℕ → List ℕ
-rowOf keys starts flat k = rowAt starts flat (placeOf keys k)
+rowOf keys starts flat k = rowAt starts flat (nodeNumber keys k)
 
 -- what is read as the row of each node is its row
 abbrev pub Gives : List ℕ → (row read : ℕ → List ℕ) → Type 0

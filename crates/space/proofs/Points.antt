@@ -17,7 +17,7 @@ use Rattle.space.specs.declared.Located.{Located}
 use Rattle.space.specs.declared.Place.{Place}
 use Rattle.space.specs.declared.Place.the-variants.{At, Outside}
 use Rattle.space.specs.Floats.{Floor, none, whole, floor}
-use Rattle.space.specs.Cells.{displacement, quotient, side, pick, cellIn, cell16, numberAt, inside, anchors16, code16, placeOf, locatedOf}
+use Rattle.space.specs.Cells.{displacement, quotient, side, pick, cellIn, cell16, numberAt, inside, anchors16, code16, pointPlace, locatedOf}
 use Rattle.codes.specs.Tables.{encodeTable, EncodeTables, Bytes2}
 use Rattle.morton.specs.Anchors.{encode}
 use Rattle.space.proofs.Literals.{zero-is}
@@ -102,21 +102,21 @@ module _ (f : Frame) (xs : List Float) where
   pub located-out : (r : Located) → r ≡ locatedOf f xs → r .inside ≡ false → inside f xs ≡ false
   located-out r e h = sym (ap (λ l. l .inside) e) ∙ h
 
-  pub place-in : (k : ℕ) → inside f xs ≡ true → k ≡ encode (f .axes) (f .axes) 16 (anchors16 f xs) → At k ≡ placeOf f xs
+  pub place-in : (k : ℕ) → inside f xs ≡ true → k ≡ encode (f .axes) (f .axes) 16 (anchors16 f xs) → At k ≡ pointPlace f xs
   unfolding code16
   place-in k h e = rw (h, e)
 
-  pub place-out : inside f xs ≡ false → Outside ≡ placeOf f xs
+  pub place-out : inside f xs ≡ false → Outside ≡ pointPlace f xs
   place-out h = rw h
 
-  pub placed-in : (k : ℕ) → placeOf f xs ≡ At k → (inside f xs ≡ true) × (k ≡ code16 f xs)
+  pub placed-in : (k : ℕ) → pointPlace f xs ≡ At k → (inside f xs ≡ true) × (k ≡ code16 f xs)
   placed-in k h = go (inside f xs) refl h
     where
       go : (t : Bool) → inside f xs ≡ t → pick t (At (code16 f xs)) Outside ≡ At k → (inside f xs ≡ true) × (k ≡ code16 f xs)
       go true e g = (e, cc)
       go false e g = let z : _≡_ {A = ℕ} 0 1 = cc in absurd (omega arith)
 
-  pub placed-out : placeOf f xs ≡ Outside → inside f xs ≡ false
+  pub placed-out : pointPlace f xs ≡ Outside → inside f xs ≡ false
   placed-out h = go (inside f xs) refl h
     where
       go : (t : Bool) → inside f xs ≡ t → pick t (At (code16 f xs)) Outside ≡ Outside → inside f xs ≡ false

@@ -76,8 +76,8 @@ unfoldable pub code16 : Frame → List Float → ℕ
 unfolding anchors16 encode
 code16 f xs = encode (f .axes) (f .axes) 16 (anchors16 f xs)
 
-abbrev pub placeOf : Frame → List Float → Place
-placeOf f xs = pick (inside f xs) (At (code16 f xs)) Outside
+abbrev pub pointPlace : Frame → List Float → Place
+pointPlace f xs = pick (inside f xs) (At (code16 f xs)) Outside
 
 -- ---- the level's own quotient
 abbrev pub levelCell : Box → ℕ → ℕ → Float → Place
