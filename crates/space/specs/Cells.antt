@@ -68,8 +68,8 @@ unfolding cell16
 anchors16 f xs = numberAt (cell16 f xs 0) ∷ numberAt (cell16 f xs 1) ∷ numberAt (cell16 f xs 2) ∷ []
 
 -- the level-16 anchors divided by 2 ^ (16 - level), rounded down
-abbrev pub anchors : Frame → List Float → ℕ → List ℕ
-anchors f xs level = map (λ k. k / 2 ^ (16 - level)) (anchors16 f xs)
+abbrev pub pointAnchors : Frame → List Float → ℕ → List ℕ
+pointAnchors f xs level = map (λ k. k / 2 ^ (16 - level)) (anchors16 f xs)
 
 -- the code of a point's level-16 cell
 unfoldable pub code16 : Frame → List Float → ℕ
