@@ -88,9 +88,9 @@ abbrev pub Nests : Box → List Float → ℕ → List ℕ → Type 0
 Nests b xs level cells = (a : ℕ) → a < b .axes → levelCell b level a (getD xs a nan) ≡ At (getD cells a 0)
 
 -- ---- one point
-abbrev pub kept : Bool → List ℕ → List ℕ
-kept true cells = cells
-kept false cells = 0 ∷ 0 ∷ 0 ∷ []
+abbrev pub orZeros : Bool → List ℕ → List ℕ
+orZeros true cells = cells
+orZeros false cells = 0 ∷ 0 ∷ 0 ∷ []
 
 abbrev pub locatedOf : Frame → List Float → Located
-locatedOf f xs = record { inside = inside f xs; anchor = kept (inside f xs) (anchors16 f xs) }
+locatedOf f xs = record { inside = inside f xs; anchor = orZeros (inside f xs) (anchors16 f xs) }
