@@ -16,11 +16,11 @@ pub data Floor : Type 0 where
   whole : ℤ → Floor
 
 -- the greatest integer that is no more than n / d, or than -(n / d) where the sign is set, for a d above 0
-abbrev pub floorOf : Bool → ℕ → ℕ → ℤ
-floorOf false n d = pos (n / d)
-floorOf true n d = negℤ (pos ((n + (d - 1)) / d))
+abbrev pub floorRatio : Bool → ℕ → ℕ → ℤ
+floorRatio false n d = pos (n / d)
+floorRatio true n d = negℤ (pos ((n + (d - 1)) / d))
 
 unfoldable pub floor : Float → Floor
 floor nan = none
 floor (inf s) = none
-floor (fin s m e) = whole (floorOf s (m * up e) (down e))
+floor (fin s m e) = whole (floorRatio s (m * up e) (down e))
