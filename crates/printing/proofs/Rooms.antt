@@ -31,7 +31,7 @@ use Rattle.survey.proofs.Surveys.{Reads, reads}
 use Rattle.text.specs.declared.Text.{Text}
 use Rattle.text.specs.declared.Text.the-variants.{Length, Short}
 use Rattle.text.specs.Listing.{lengthOr, refusalLine}
-use Rattle.text.specs.Listing.{written as writtenIn}
+use Rattle.text.specs.Listing.{textAnswer as writtenIn}
 use Rattle.report.specs.Report.{textOr}
 use Rattle.printing.specs.Printed.{askedBy, columnsText, surveyTextIn, surveyText, fileText}
 

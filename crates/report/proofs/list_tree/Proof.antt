@@ -3,7 +3,7 @@ use mathlib.Core.Path.{sym, ap, _∙_}
 use lib.ListN.{length}
 use denote.Ref.{now}
 use borrow.Author.Needs.{needs}
-use Rattle.text.specs.Listing.{written, left}
+use Rattle.text.specs.Listing.{textAnswer, textLeft}
 use Rattle.report.proofs.Reports.{holds-rows, text-refused, tree-sound, text-listed, filled-as, left-as}
 use Rattle.report.proofs.list_tree.Statement.{statement}
 use Rattle.report.proofs.list_tree.Tie as tie
@@ -52,7 +52,7 @@ returns c =
     let a = c .before .before .before .before .before .before .before .before .before .before .before .before .before .before .before .before .before .before .before .before .before .before .before .before .before .before .before .before .args in
     let g = c .before .before .before .before .before .before .before .before .before .before .before .before .before .before .before .get-interaction-lists in
     let e = text-refused (a .axes) (now (a .key)) (now (a .own)) (now (a .begin)) (length (now (a .u-starts))) (length (now (a .u-keys))) (length (now (a .v-starts))) (length (now (a .v-keys))) (a .sources) _ (sym (c .before .before .before .before .before .listed .given .1) ∙ g .ensures .0) in
-    (c .before .before .write-refusal .ensures .0 ∙ ap (written (length (now (a .out)))) e, (c .before .before .write-refusal .ensures .1 ∙ ap (left (length (now (a .out)))) e, (left-as _ _ _ _ _ (g .ensures .1 .0) (g .ensures .0), (left-as _ _ _ _ _ (g .ensures .1 .1 .0) (g .ensures .0), (left-as _ _ _ _ _ (g .ensures .1 .1 .1 .0) (g .ensures .0), left-as _ _ _ _ _ (g .ensures .1 .1 .1 .1 .0) (g .ensures .0))))))
+    (c .before .before .write-refusal .ensures .0 ∙ ap (textAnswer (length (now (a .out)))) e, (c .before .before .write-refusal .ensures .1 ∙ ap (textLeft (length (now (a .out)))) e, (left-as _ _ _ _ _ (g .ensures .1 .0) (g .ensures .0), (left-as _ _ _ _ _ (g .ensures .1 .1 .0) (g .ensures .0), (left-as _ _ _ _ _ (g .ensures .1 .1 .1 .0) (g .ensures .0), left-as _ _ _ _ _ (g .ensures .1 .1 .1 .1 .0) (g .ensures .0))))))
 
 same-length-6 : tie.Need-same-length-6
 same-length-6 c = search needs
@@ -74,7 +74,7 @@ returns-2 c =
     let a = c .before .before .before .before .before .before .before .before .before .before .before .before .before .before .before .before .before .before .before .before .before .before .before .before .before .before .before .before .before .before .before .before .before .before .before .args in
     let g = c .before .before .before .before .before .before .before .before .before .before .before .before .before .before .before .before .before .before .before .before .before .before .get-interaction-lists in
     let e = text-listed (a .axes) (now (a .key)) (now (a .own)) (now (a .begin)) (length (now (a .u-starts))) (length (now (a .u-keys))) (length (now (a .v-starts))) (length (now (a .v-keys))) _ _ (sym (c .before .before .before .before .before .before .before .before .before .before .before .before .enum-told .given .1) ∙ g .ensures .0) (a .sources) _ _ _ _ _ _ (c .before .before .before .before .before .before .before .before .before .near-work .ensures .0) (c .before .before .before .before .before .before .before .before .depth-of .ensures) (holds-rows _ _ _ _ _ _ (filled-as _ _ _ _ _ _ (g .ensures .1 .0) (c .before .before .before .before .before .before .before .before .before .before .before .before .enum-told .given .1)) (filled-as _ _ _ _ _ _ (g .ensures .1 .1 .0) (c .before .before .before .before .before .before .before .before .before .before .before .before .enum-told .given .1))) (holds-rows _ _ _ _ _ _ (filled-as _ _ _ _ _ _ (g .ensures .1 .1 .1 .0) (c .before .before .before .before .before .before .before .before .before .before .before .before .enum-told .given .1)) (filled-as _ _ _ _ _ _ (g .ensures .1 .1 .1 .1 .0) (c .before .before .before .before .before .before .before .before .before .before .before .before .enum-told .given .1))) in
-    (c .before .before .write-listing .ensures .0 ∙ ap (written (length (now (a .out)))) e, (c .before .before .write-listing .ensures .1 ∙ ap (left (length (now (a .out)))) e, (left-as _ _ _ _ _ (g .ensures .1 .0) (g .ensures .0), (left-as _ _ _ _ _ (g .ensures .1 .1 .0) (g .ensures .0), (left-as _ _ _ _ _ (g .ensures .1 .1 .1 .0) (g .ensures .0), left-as _ _ _ _ _ (g .ensures .1 .1 .1 .1 .0) (g .ensures .0))))))
+    (c .before .before .write-listing .ensures .0 ∙ ap (textAnswer (length (now (a .out)))) e, (c .before .before .write-listing .ensures .1 ∙ ap (textLeft (length (now (a .out)))) e, (left-as _ _ _ _ _ (g .ensures .1 .0) (g .ensures .0), (left-as _ _ _ _ _ (g .ensures .1 .1 .0) (g .ensures .0), (left-as _ _ _ _ _ (g .ensures .1 .1 .1 .0) (g .ensures .0), left-as _ _ _ _ _ (g .ensures .1 .1 .1 .1 .0) (g .ensures .0))))))
 
 pub list-tree-spec : {M : Type 1} → statement M
 list-tree-spec =
