@@ -20,7 +20,7 @@ use Rattle.sourced.proofs.Checks.{passed}
 use Rattle.lists.specs.Descent.{keysRoom}
 use Rattle.quick_lists.specs.Halves.{hasRoom, WritesBoth}
 use Rattle.interaction.specs.declared.ListsAnswer.the-variants as lists
-use Rattle.interaction.specs.Answers.{keysOf, startsCheck, listsCheck, counted, listsAnswer}
+use Rattle.interaction.specs.Answers.{keysOf, startsCheck, listsCheck, listsOr, listsAnswer}
 
 -- ---- the tree and the starts
 module _ (d : ℕ) (keys own begin : List ℕ) (us vs : ℕ) where
@@ -71,13 +71,13 @@ module _ (d : ℕ) (keys own begin : List ℕ) (us uk vs vk : ℕ) where
   told o s t = o then ask s (Room 6) then ask t (Room 7)
 
   pub early : (r : Refusal) → startsCheck d keys own begin us vs ≡ Refused r → lists.Refused r ≡ listsAnswer d keys own begin us uk vs vk
-  early r h = sym (ap (λ o. counted (told o uFits vFits) (keysOf (uRow d keys own) keys) (keysOf (vRow d keys own) keys)) h)
+  early r h = sym (ap (λ o. listsOr (told o uFits vFits) (keysOf (uRow d keys own) keys) (keysOf (vRow d keys own) keys)) h)
 
   module _ (h : startsCheck d keys own begin us vs ≡ Done) where
-    late : (s t : Bool) → s ≡ uFits → t ≡ vFits → counted (ask s (Room 6) then ask t (Room 7)) (keysOf (uRow d keys own) keys) (keysOf (vRow d keys own) keys) ≡ listsAnswer d keys own begin us uk vs vk
+    late : (s t : Bool) → s ≡ uFits → t ≡ vFits → listsOr (ask s (Room 6) then ask t (Room 7)) (keysOf (uRow d keys own) keys) (keysOf (vRow d keys own) keys) ≡ listsAnswer d keys own begin us uk vs vk
     late s t a b =
-        ap₂ (λ s t. counted (ask s (Room 6) then ask t (Room 7)) (keysOf (uRow d keys own) keys) (keysOf (vRow d keys own) keys)) a b
-        ∙ sym (ap (λ o. counted (told o uFits vFits) (keysOf (uRow d keys own) keys) (keysOf (vRow d keys own) keys)) h)
+        ap₂ (λ s t. listsOr (ask s (Room 6) then ask t (Room 7)) (keysOf (uRow d keys own) keys) (keysOf (vRow d keys own) keys)) a b
+        ∙ sym (ap (λ o. listsOr (told o uFits vFits) (keysOf (uRow d keys own) keys) (keysOf (vRow d keys own) keys)) h)
 
     pub over-u : (s : Bool) → s ≡ uFits → s ≡ false → lists.Refused (Room 6) ≡ listsAnswer d keys own begin us uk vs vk
     over-u s a e = late false vFits (sym e ∙ a) refl
@@ -90,7 +90,7 @@ module _ (d : ℕ) (keys own begin : List ℕ) (us uk vs vk : ℕ) where
     in-room s t a e b f u v p q = ap₂ lists.Listed p q ∙ late true true (sym e ∙ a) (sym f ∙ b)
 
   -- an answer that is not a refusal
-  done-of : (o : Outcome) (u v a b : ℕ) → lists.Listed a b ≡ counted o u v → o ≡ Done
+  done-of : (o : Outcome) (u v a b : ℕ) → lists.Listed a b ≡ listsOr o u v → o ≡ Done
   done-of Done u v a b e = refl
   done-of (Refused r) u v a b e = let z : _≡_ {A = ℕ} 0 1 = cc in absurd (omega arith)
 

@@ -30,12 +30,12 @@ listsCheck d keys own begin us uk vs vk =
     startsCheck d keys own begin us vs then ask (leb (keysOf (uRow d keys own) keys) (keysRoom uk)) (Room 6) then ask (leb (keysOf (vRow d keys own) keys) (keysRoom vk)) (Room 7)
 
 -- how many keys U and V have, or the refusal
-abbrev pub counted : Outcome → (u v : ℕ) → ListsAnswer
-counted Done u v = lists.Listed u v
-counted (Refused r) u v = lists.Refused r
+abbrev pub listsOr : Outcome → (u v : ℕ) → ListsAnswer
+listsOr Done u v = lists.Listed u v
+listsOr (Refused r) u v = lists.Refused r
 
 abbrev pub listsAnswer : ℕ → List ℕ → List ℕ → List ℕ → (us uk vs vk : ℕ) → ListsAnswer
-listsAnswer d keys own begin us uk vs vk = counted (listsCheck d keys own begin us uk vs vk) (keysOf (uRow d keys own) keys) (keysOf (vRow d keys own) keys)
+listsAnswer d keys own begin us uk vs vk = listsOr (listsCheck d keys own begin us uk vs vk) (keysOf (uRow d keys own) keys) (keysOf (vRow d keys own) keys)
 
 -- whether the answer is not a refusal
 abbrev pub isListed : ListsAnswer → Bool

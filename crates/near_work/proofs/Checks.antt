@@ -18,20 +18,20 @@ use Rattle.rows.specs.Written.{rowKeys}
 use Rattle.sourced.specs.Answers.{treeCheck}
 use Rattle.lists.specs.Descent.{keysRoom}
 use Rattle.near_work.specs.declared.WorkAnswer.the-variants as work
-use Rattle.near_work.specs.Answers.{found, workAnswer}
+use Rattle.near_work.specs.Answers.{workOr, workAnswer}
 
 module _ (d : ℕ) (keys own begin : List ℕ) (us uk : ℕ) where
   abbrev fits : Bool
   fits = leb (length (rowKeys (uRow d keys own) keys)) (keysRoom uk)
 
   pub not-tree : (r : Refusal) → treeCheck d keys own begin ≡ Refused r → work.Refused r ≡ workAnswer d keys own begin us uk
-  not-tree r h = sym (ap (λ o. found (o then ask (ltb (length keys) us) (Room 4) then ask fits (Room 6)) (nearWork d keys own)) h)
+  not-tree r h = sym (ap (λ o. workOr (o then ask (ltb (length keys) us) (Room 4) then ask fits (Room 6)) (nearWork d keys own)) h)
 
   module _ (h : treeCheck d keys own begin ≡ Done) where
-    after-tree : (s t : Bool) → ltb (length keys) us ≡ s → t ≡ fits → found (ask s (Room 4) then ask t (Room 6)) (nearWork d keys own) ≡ workAnswer d keys own begin us uk
+    after-tree : (s t : Bool) → ltb (length keys) us ≡ s → t ≡ fits → workOr (ask s (Room 4) then ask t (Room 6)) (nearWork d keys own) ≡ workAnswer d keys own begin us uk
     after-tree s t a b =
-        ap₂ (λ s t. found (ask s (Room 4) then ask t (Room 6)) (nearWork d keys own)) (sym a) b
-        ∙ sym (ap (λ o. found (o then ask (ltb (length keys) us) (Room 4) then ask fits (Room 6)) (nearWork d keys own)) h)
+        ap₂ (λ s t. workOr (ask s (Room 4) then ask t (Room 6)) (nearWork d keys own)) (sym a) b
+        ∙ sym (ap (λ o. workOr (o then ask (ltb (length keys) us) (Room 4) then ask fits (Room 6)) (nearWork d keys own)) h)
 
     pub short : us ≤ length keys → work.Refused (Room 4) ≡ workAnswer d keys own begin us uk
     short l = after-tree false fits (le-ltb (length keys) us l) refl

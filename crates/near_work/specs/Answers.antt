@@ -21,12 +21,12 @@ abbrev pub workCheck : ℕ → List ℕ → List ℕ → List ℕ → (us uk : �
 workCheck d keys own begin us uk = treeCheck d keys own begin then ask (ltb (length keys) us) (Room 4) then ask (leb (length (rowKeys (uRow d keys own) keys)) (keysRoom uk)) (Room 6)
 
 -- the work, or the refusal
-abbrev pub found : Outcome → ℕ → WorkAnswer
-found Done n = work.Work n
-found (Refused r) n = work.Refused r
+abbrev pub workOr : Outcome → ℕ → WorkAnswer
+workOr Done n = work.Work n
+workOr (Refused r) n = work.Refused r
 
 abbrev pub workAnswer : ℕ → List ℕ → List ℕ → List ℕ → (us uk : ℕ) → WorkAnswer
-workAnswer d keys own begin us uk = found (workCheck d keys own begin us uk) (nearWork d keys own)
+workAnswer d keys own begin us uk = workOr (workCheck d keys own begin us uk) (nearWork d keys own)
 
 -- whether the answer is not a refusal
 abbrev pub isWork : WorkAnswer → Bool

@@ -15,7 +15,7 @@ use Rattle.sourced.specs.Trees.{SoundTree}
 use Rattle.sourced.proofs.Checks.{passed}
 use Rattle.interaction.specs.declared.ListsAnswer.{ListsAnswer}
 use Rattle.interaction.specs.declared.ListsAnswer.the-variants as lists
-use Rattle.interaction.specs.Answers.{keysOf, listsCheck, counted, listsAnswer, left}
+use Rattle.interaction.specs.Answers.{keysOf, listsCheck, listsOr, listsAnswer, left}
 use Rattle.interaction.proofs.Checks.{listed-tree}
 use Rattle.text.specs.Listing.{listing, refusalLine}
 use Rattle.text.proofs.Columns.{listing-read}
@@ -30,11 +30,11 @@ holds-rows row keys starts flat n m e f = record {
   keys-are = f;
 }
 
-was-refused : (o : Outcome) (u v : ℕ) (r : Refusal) → lists.Refused r ≡ counted o u v → o ≡ Refused r
+was-refused : (o : Outcome) (u v : ℕ) (r : Refusal) → lists.Refused r ≡ listsOr o u v → o ≡ Refused r
 was-refused Done u v r e = absurd (let z : _≡_ {A = ℕ} 0 1 = cc in omega arith)
 was-refused (Refused s) u v r e = cc
 
-was-done : (o : Outcome) (u v a b : ℕ) → lists.Listed a b ≡ counted o u v → o ≡ Done
+was-done : (o : Outcome) (u v a b : ℕ) → lists.Listed a b ≡ listsOr o u v → o ≡ Done
 was-done Done u v a b e = refl
 was-done (Refused s) u v a b e = absurd (let z : _≡_ {A = ℕ} 0 1 = cc in omega arith)
 
