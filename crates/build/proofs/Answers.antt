@@ -16,7 +16,7 @@ use Rattle.slices.specs.Lists.{filled}
 use Rattle.tree.specs.Nodes.{depthOf}
 use Rattle.growth.specs.Columns.{ownColumn, beginColumn, orderColumn}
 use Rattle.laying.specs.Points.{rowsOf, codesOf}
-use Rattle.laying.specs.Outcomes.{callOutcome, insideOutcome, workOutcome}
+use Rattle.laying.specs.Outcomes.{askedOutcome, insideOutcome, workOutcome}
 use Rattle.build.specs.declared.Built.the-variants.{Tree, Refused as NotBuilt}
 use Rattle.build.specs.Asked.{Asked, builtKeys, builtOwn, builtBegins, builtOrder}
 use Rattle.build.specs.Outcomes.{columnOutcome, buildOutcome, treeOr, written, Columns}
@@ -35,7 +35,7 @@ not-done o key r e d = never r (sym (told-refused o key r e) ∙ d)
 
 module _ (a : Asked) (work order nodes : ℕ) where
   abbrev checks : Outcome
-  checks = callOutcome (a .box) (a .sources) (a .targets) (a .order) then insideOutcome (a .box) (a .sources) (a .targets) then workOutcome (a .box) (a .sources) (a .targets) work
+  checks = askedOutcome (a .box) (a .sources) (a .targets) (a .order) then insideOutcome (a .box) (a .sources) (a .targets) then workOutcome (a .box) (a .sources) (a .targets) work
 
   pub early-refused : (r : Refusal) → checks ≡ Refused r → NotBuilt r ≡ treeOr (buildOutcome a work order nodes) (builtKeys a)
   early-refused r e = sym (ap (λ q. treeOr (q then columnOutcome a order nodes) (builtKeys a)) e)

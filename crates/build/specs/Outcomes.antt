@@ -11,7 +11,7 @@ use Rattle.refusal.specs.Chain.{ask, _then_}
 use Rattle.slices.specs.Lists.{filled}
 use Rattle.tree.specs.Nodes.{depthOf}
 use Rattle.laying.specs.Points.{rowsOf}
-use Rattle.laying.specs.Outcomes.{callOutcome, insideOutcome, workOutcome}
+use Rattle.laying.specs.Outcomes.{askedOutcome, insideOutcome, workOutcome}
 use Rattle.build.specs.declared.Built.{Built}
 use Rattle.build.specs.declared.Built.the-variants.{Tree, Refused as NotBuilt}
 use Rattle.build.specs.Asked.{Asked, builtKeys, builtOwn, builtBegins, builtOrder}
@@ -26,7 +26,7 @@ columnOutcome a order nodes = ask (leb (rowsOf (a .box) (a .sources)) order) (Ro
 
 abbrev pub buildOutcome : Asked → ℕ → ℕ → ℕ → Outcome
 buildOutcome a work order nodes =
-    callOutcome (a .box) (a .sources) (a .targets) (a .order)
+    askedOutcome (a .box) (a .sources) (a .targets) (a .order)
     then insideOutcome (a .box) (a .sources) (a .targets)
     then workOutcome (a .box) (a .sources) (a .targets) work
     then columnOutcome a order nodes

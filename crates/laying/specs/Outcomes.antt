@@ -21,8 +21,8 @@ abbrev pub orderFits : ℕ → List Float → Bool
 orderFits order targets = eqb (length targets) 0 || (leb 1 order && leb order 64)
 
 -- 1 DIMS, 2 BOX, 3 SHAPE, 4 COUNT, 5 ORDER
-unfoldable pub callOutcome : Box → List Float → List Float → ℕ → Outcome
-callOutcome b sources targets order =
+unfoldable pub askedOutcome : Box → List Float → List Float → ℕ → Outcome
+askedOutcome b sources targets order =
     boxOutcome b
     then ask (eqb (length sources % b .axes) 0) Shape
     then ask (eqb (length targets % b .axes) 0) Shape

@@ -18,7 +18,7 @@ use Rattle.refusal.proofs.Chain.{asked, both-done}
 use Rattle.slices.specs.Lists.{filled, range, sum}
 use Rattle.slices.proofs.Lists.{length-range}
 use Rattle.growth.specs.Columns.{ownColumn, beginColumn}
-use Rattle.laying.specs.Outcomes.{callOutcome, insideOutcome, workOutcome}
+use Rattle.laying.specs.Outcomes.{askedOutcome, insideOutcome, workOutcome}
 use Rattle.laying.specs.Points.{rowsOf}
 use Rattle.build.specs.declared.Built.{Built}
 use Rattle.build.specs.declared.Built.the-variants.{Tree, Refused as NotBuilt}
