@@ -52,8 +52,8 @@ module _ (file : List ℕ) where
   order = u32At file (trailer + 12)
 
   -- f64 centre ×3, radius; a centre entry past the axes is not read, and is 0
-  abbrev pub centreOn : ℕ → Float
-  centreOn a = onAxis (ltb a axes) (f64At file (trailer + 16 + 8 * a))
+  abbrev pub centreEntry : ℕ → Float
+  centreEntry a = onAxis (ltb a axes) (f64At file (trailer + 16 + 8 * a))
 
   abbrev pub radius : Float
   radius = f64At file (trailer + 40)
@@ -98,7 +98,7 @@ module _ (file : List ℕ) where
   abbrev pub said : Survey
   said = record {
     outcome = Done;
-    b = record { centre = centreOn 0 ∷ centreOn 1 ∷ centreOn 2 ∷ []; radius = radius; axes = axes };
+    b = record { centre = centreEntry 0 ∷ centreEntry 1 ∷ centreEntry 2 ∷ []; radius = radius; axes = axes };
     keep = keepEmpty;
     limit = limit;
     order = order;
