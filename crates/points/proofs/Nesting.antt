@@ -18,7 +18,7 @@ use Rattle.space.specs.declared.Frame.{Frame}
 use Rattle.space.specs.declared.Place.{Place}
 use Rattle.space.specs.declared.Place.the-variants.{At, Outside}
 use Rattle.space.specs.Domain.{radiusKnown}
-use Rattle.space.specs.Cells.{displacement, frameOf, cellIn, cell16, isAt, numberAt, inside, anchors16, pointAnchors, code16, levelCell, Nests}
+use Rattle.space.specs.Cells.{displacement, frameOf, cellIn, cell16, isAt, placeNumber, inside, anchors16, pointAnchors, code16, levelCell, Nests}
 use Rattle.points.proofs.Sides.{radius, cells-nest, not-finite}
 use Rattle.space.proofs.Points.{cell-on}
 
@@ -27,25 +27,25 @@ module _ (b : Box) (held : fits binary64 (b .radius) ≡ true) (known : radiusKn
   pub cell-nests : (level a k : ℕ) (x : Float) → level ≤ 16 → levelCell b 16 a x ≡ At k → levelCell b level a x ≡ At (k / 2 ^ (16 - level))
   cell-nests level a k x l h = cells-nest (b .radius) x (displacement b a) level k (radius (b .radius) held known) l h
 
-is-at : (p : Place) → isAt p ≡ true → p ≡ At (numberAt p)
+is-at : (p : Place) → isAt p ≡ true → p ≡ At (placeNumber p)
 is-at (At k) h = refl
 is-at Outside h = absurd (true≢false (sym h))
 
 -- the axes of a point that is inside
-pub inside-0 : (f : Frame) (xs : List Float) → inside f xs ≡ true → cell16 f xs 0 ≡ At (numberAt (cell16 f xs 0))
+pub inside-0 : (f : Frame) (xs : List Float) → inside f xs ≡ true → cell16 f xs 0 ≡ At (placeNumber (cell16 f xs 0))
 unfolding inside
 inside-0 f xs h = is-at (cell16 f xs 0) (and-l (isAt (cell16 f xs 0)) (isAt (cell16 f xs 1) && isAt (cell16 f xs 2)) h)
 
-pub inside-1 : (f : Frame) (xs : List Float) → inside f xs ≡ true → cell16 f xs 1 ≡ At (numberAt (cell16 f xs 1))
+pub inside-1 : (f : Frame) (xs : List Float) → inside f xs ≡ true → cell16 f xs 1 ≡ At (placeNumber (cell16 f xs 1))
 unfolding inside
 inside-1 f xs h = is-at (cell16 f xs 1) (and-l (isAt (cell16 f xs 1)) (isAt (cell16 f xs 2)) (and-r (isAt (cell16 f xs 0)) (isAt (cell16 f xs 1) && isAt (cell16 f xs 2)) h))
 
-pub inside-2 : (f : Frame) (xs : List Float) → inside f xs ≡ true → cell16 f xs 2 ≡ At (numberAt (cell16 f xs 2))
+pub inside-2 : (f : Frame) (xs : List Float) → inside f xs ≡ true → cell16 f xs 2 ≡ At (placeNumber (cell16 f xs 2))
 unfolding inside
 inside-2 f xs h = is-at (cell16 f xs 2) (and-r (isAt (cell16 f xs 1)) (isAt (cell16 f xs 2)) (and-r (isAt (cell16 f xs 0)) (isAt (cell16 f xs 1) && isAt (cell16 f xs 2)) h))
 
 -- a point that is inside has a finite coordinate on each of its axes
-finite-at : (f : Frame) (xs : List Float) (a : ℕ) → a < f .axes → cell16 f xs a ≡ At (numberAt (cell16 f xs a)) → finite (getD xs a nan) ≡ true
+finite-at : (f : Frame) (xs : List Float) (a : ℕ) → a < f .axes → cell16 f xs a ≡ At (placeNumber (cell16 f xs a)) → finite (getD xs a nan) ≡ true
 finite-at f xs a n h = go (finite (getD xs a nan)) refl
   where
     go : (t : Bool) → finite (getD xs a nan) ≡ t → finite (getD xs a nan) ≡ true

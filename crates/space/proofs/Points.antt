@@ -17,7 +17,7 @@ use Rattle.space.specs.declared.Located.{Located}
 use Rattle.space.specs.declared.Place.{Place}
 use Rattle.space.specs.declared.Place.the-variants.{At, Outside}
 use Rattle.space.specs.Floats.{Floor, none, whole, floor}
-use Rattle.space.specs.Cells.{displacement, quotient, side, pick, cellIn, cell16, numberAt, inside, anchors16, code16, pointPlace, locatedOf}
+use Rattle.space.specs.Cells.{displacement, quotient, side, pick, cellIn, cell16, placeNumber, inside, anchors16, code16, pointPlace, locatedOf}
 use Rattle.codes.specs.Tables.{encodeTable, EncodeTables, Bytes2}
 use Rattle.morton.specs.Anchors.{encode}
 use Rattle.space.proofs.Literals.{zero-is}
@@ -71,21 +71,21 @@ pub tables-for : (d e : ℕ) (x y z : List ℕ) → e ≡ d → x ≡ encodeTabl
 tables-for d e x y z h p q r = subst (λ n. EncodeTables n x y z) (sym h) (record { first = p; second = q; third = r })
 
 -- ---- anchors are below 65536
-number-under : (n : ℕ) (y : Floor) → 0 < n → numberAt (cellIn n y) < n
+number-under : (n : ℕ) (y : Floor) → 0 < n → placeNumber (cellIn n y) < n
 number-under n none h = h
 number-under n (whole (negsuc k)) h = h
 number-under n (whole (pos k)) h = go (ltb k n) refl
   where
-    go : (t : Bool) → ltb k n ≡ t → numberAt (pick t (At k) Outside) < n
+    go : (t : Bool) → ltb k n ≡ t → placeNumber (pick t (At k) Outside) < n
     go true e = ltb-true k n e
     go false e = h
 
 module _ (f : Frame) (xs : List Float) where
-  pub anchor-under : (a : ℕ) → numberAt (cell16 f xs a) < 65536
+  pub anchor-under : (a : ℕ) → placeNumber (cell16 f xs a) < 65536
   unfolding cell16
   anchor-under a = go (ltb a (f .axes))
     where
-      go : (t : Bool) → numberAt (pick t (cellIn 65536 (floor (quotient (getD xs a nan) (getD (f .displacement) a nan) (f .side)))) (At 0)) < 65536
+      go : (t : Bool) → placeNumber (pick t (cellIn 65536 (floor (quotient (getD xs a nan) (getD (f .displacement) a nan) (f .side)))) (At 0)) < 65536
       go true = number-under 65536 (floor (quotient (getD xs a nan) (getD (f .displacement) a nan) (f .side))) (lit< tt)
       go false = lit< tt
 

@@ -54,9 +54,9 @@ abbrev pub isAt : Place → Bool
 isAt (At k) = true
 isAt Outside = false
 
-abbrev pub numberAt : Place → ℕ
-numberAt (At k) = k
-numberAt Outside = 0
+abbrev pub placeNumber : Place → ℕ
+placeNumber (At k) = k
+placeNumber Outside = 0
 
 -- on all axes the level-16 anchor is one of 0..65535
 unfoldable pub inside : Frame → List Float → Bool
@@ -65,7 +65,7 @@ inside f xs = isAt (cell16 f xs 0) && (isAt (cell16 f xs 1) && isAt (cell16 f xs
 
 unfoldable pub anchors16 : Frame → List Float → List ℕ
 unfolding cell16
-anchors16 f xs = numberAt (cell16 f xs 0) ∷ numberAt (cell16 f xs 1) ∷ numberAt (cell16 f xs 2) ∷ []
+anchors16 f xs = placeNumber (cell16 f xs 0) ∷ placeNumber (cell16 f xs 1) ∷ placeNumber (cell16 f xs 2) ∷ []
 
 -- the level-16 anchors divided by 2 ^ (16 - level), rounded down
 abbrev pub pointAnchors : Frame → List Float → ℕ → List ℕ
