@@ -12,7 +12,7 @@ ghost use Rattle.tree.specs.WellFormed.{mostSources};
 ghost use Rattle.rows.specs.Lists.{uRow, nearWork};
 ghost use Rattle.rows.specs.Written.{rowStarts, rowKeys, Written};
 ghost use Rattle.sourced.specs.Trees.{SoundTree};
-ghost use Rattle.near_work.specs.Work.{Beside, sourcesIn, workOf, mostWork};
+ghost use Rattle.near_work.specs.Work.{Beside, rowSources, workOf, mostWork};
 ghost use Rattle.near_work.specs.Answers.{workAnswer, isWork, left};
 
 // Near work of a tree, or a refusal.
@@ -35,8 +35,8 @@ fn own_of(key: &[u64], own: &[usize], k: u64) -> usize
 
 // The sources in a row.
 fn row_sources(key: &[u64], own: &[usize], row: &[u64]) -> u64
-    requires { ⌜ Beside (now key) (now own) × (sourcesIn (now key) (now own) (now row) ≤ mostSources) ⌝ }
-    ensures { λ r. ⌜ r ≡ sourcesIn (now (key .entry)) (now (own .entry)) (now (row .entry)) ⌝ }
+    requires { ⌜ Beside (now key) (now own) × (rowSources (now key) (now own) (now row) ≤ mostSources) ⌝ }
+    ensures { λ r. ⌜ r ≡ rowSources (now (key .entry)) (now (own .entry)) (now (row .entry)) ⌝ }
 {
     let mut sources: u64 = 0;
     let mut i: usize = 0;
