@@ -20,9 +20,9 @@ abbrev pub cellEnd : PointKey → Outcome
 cellEnd (point.Cell k) = Done
 cellEnd (point.Refused r) = Refused r
 
-abbrev pub cellIn : PointKey → ℕ
-cellIn (point.Cell k) = k
-cellIn (point.Refused r) = 0
+abbrev pub keyIn : PointKey → ℕ
+keyIn (point.Cell k) = k
+keyIn (point.Refused r) = 0
 
 abbrev pub sideEnd : SideLength → Outcome
 sideEnd (side.Side x) = Done
@@ -48,5 +48,5 @@ abbrev pub depthOr : Outcome → ℕ → ℕ
 depthOr Done depth = depth
 depthOr (Refused r) depth = 0
 
-abbrev pub depthIn : ℕ → ℕ → ℕ
-depthIn d sources = depthOr (depthEnd d) (referenceDepth d sources)
+abbrev pub referenceDepthIn : ℕ → ℕ → ℕ
+referenceDepthIn d sources = depthOr (depthEnd d) (referenceDepth d sources)
