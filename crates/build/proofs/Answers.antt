@@ -15,7 +15,8 @@ use Rattle.refusal.proofs.Chain.{never}
 use Rattle.slices.specs.Lists.{filled}
 use Rattle.tree.specs.Nodes.{depthOf}
 use Rattle.growth.specs.Columns.{ownColumn, beginColumn, orderColumn}
-use Rattle.laying.specs.Points.{rowsOf, codesOf}
+use Rattle.space.specs.Rows.{rowsOf}
+use Rattle.laying.specs.Points.{codesOf}
 use Rattle.laying.specs.Outcomes.{askedOutcome, insideOutcome, workOutcome}
 use Rattle.build.specs.declared.Built.the-variants.{Tree, Refused as NotBuilt}
 use Rattle.build.specs.Asked.{Asked, builtKeys, builtOwn, builtBegins, builtOrder}

@@ -26,7 +26,8 @@ use Rattle.grow.specs.declared.Grown.{Grown}
 use Rattle.grow.specs.declared.Grown.the-variants.{Nodes, Full}
 use Rattle.grow.specs.Queue.{Points, Grows}
 use Rattle.arrange.specs.Sources.{InLeaves}
-use Rattle.laying.specs.Points.{rowsOf, codesOf, part, laid}
+use Rattle.space.specs.Rows.{rowsOf}
+use Rattle.laying.specs.Points.{codesOf, part, laid}
 use Rattle.laying.proofs.Laying.{laid-first, laid-again, laid-third}
 use Rattle.laying.proofs.Prepared.{Passed}
 use Rattle.build.specs.Asked.{Asked, ruleOf, builtKeys}

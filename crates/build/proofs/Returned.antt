@@ -16,7 +16,8 @@ use Rattle.space.proofs.Batches.{codes-length}
 use Rattle.growth.proofs.Arranged.{order-arranged}
 use Rattle.growth.proofs.Formed.{well-formed, own-total, depth-most}
 use Rattle.growth.proofs.Found.{source-found}
-use Rattle.laying.specs.Points.{rowsOf, codesOf}
+use Rattle.space.specs.Rows.{rowsOf}
+use Rattle.laying.specs.Points.{codesOf}
 use Rattle.build.specs.Asked.{Asked, ruleOf, builtKeys, builtOwn, builtBegins, builtOrder}
 use Rattle.build.proofs.Growing.{codes-lt}
 

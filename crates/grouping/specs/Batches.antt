@@ -7,9 +7,9 @@ use Rattle.refusal.specs.declared.Outcome.{Outcome}
 use Rattle.refusal.specs.declared.Outcome.the-variants.{Done, Refused}
 use Rattle.slices.specs.Lists.{filled}
 
--- the most points, and the most keys to group
-abbrev pub mostPoints : ℕ
-mostPoints = 1048576
+-- the most keys to group
+abbrev pub mostKeys : ℕ
+mostKeys = 1048576
 
 -- how many stand before the first that fails a test
 unfoldable pub passing : (ℕ → Bool) → List ℕ → ℕ

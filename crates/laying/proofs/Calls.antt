@@ -17,8 +17,8 @@ use Rattle.slices.proofs.Tests.{and-r, or-not}
 use Rattle.space.specs.declared.Box.{Box}
 use Rattle.space.specs.Domain.{boxOutcome}
 use Rattle.space.proofs.Refusals.{Fine, fine}
-use Rattle.laying.specs.Points.{rowsOf}
-use Rattle.laying.specs.Outcomes.{mostPoints, orderFits, askedOutcome}
+use Rattle.space.specs.Rows.{rowsOf, mostPoints}
+use Rattle.laying.specs.Outcomes.{orderFits, askedOutcome}
 
 module _ (b : Box) (s t : List Float) (order : ℕ) where
   pub box-refused : (r : Refusal) → boxOutcome b ≡ Refused r → Refused r ≡ askedOutcome b s t order

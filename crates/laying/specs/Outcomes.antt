@@ -11,10 +11,7 @@ use Rattle.refusal.specs.declared.Outcome.{Outcome}
 use Rattle.refusal.specs.Chain.{ask, _then_}
 use Rattle.space.specs.declared.Box.{Box}
 use Rattle.space.specs.Domain.{boxOutcome}
-use Rattle.laying.specs.Points.{rowsOf, rowsInside}
-
-abbrev pub mostPoints : ℕ
-mostPoints = 1048576
+use Rattle.space.specs.Rows.{mostPoints, rowsOf, rowsInside}
 
 -- from 1 to 64, where targets are used
 abbrev pub orderFits : ℕ → List Float → Bool

@@ -23,7 +23,7 @@ use Rattle.space.specs.declared.Rows.{Rows}
 use Rattle.space.specs.declared.Rows.the-variants.{Inside, Outside}
 use Rattle.space.specs.Domain.{boxOutcome}
 use Rattle.space.specs.Cells.{frameOf, code16}
-use Rattle.space.specs.Rows.{insideRows, codes16, orInside, firstOutside, coded}
+use Rattle.space.specs.Rows.{insideRows, codes16, orInside, firstOutside, coded, rowsOf, rowsInside, mostPoints}
 use Rattle.space.proofs.Batches.{codes-length, rows-le, code-at-row}
 use Rattle.space.proofs.Points.{code-small}
 use Rattle.space.proofs.Refusals.{Fine, fine}
@@ -36,9 +36,9 @@ use Rattle.lookup.specs.declared.Climbs.{Climbs}
 use Rattle.lookup.specs.declared.Climbs.the-variants.{Ended, Failed}
 use Rattle.lookup.specs.declared.LookedUp.{LookedUp}
 use Rattle.lookup.specs.declared.LookedUp.the-variants.{Found, Refused as NotFound}
-use Rattle.grouping.specs.Batches.{mostPoints, written}
+use Rattle.grouping.specs.Batches.{written}
 use Rattle.climb.specs.Leaves.{leafKey}
-use Rattle.lookup.specs.Batch.{heldBefore, leafKeys, stepsSum, endedOr, climbsOf, insideOf, rowsOf, rowsInside, codesInside, callOutcome, pointsOutcome, lookupOutcome, foundOr}
+use Rattle.lookup.specs.Batch.{heldBefore, leafKeys, stepsSum, endedOr, climbsOf, insideOf, codesInside, callOutcome, pointsOutcome, lookupOutcome, foundOr}
 
 -- ---- the end of the climbs
 module _ (d : ℕ) (keys codes : List ℕ) where

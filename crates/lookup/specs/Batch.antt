@@ -1,7 +1,7 @@
 -- Document 01: lookup of a batch. The lowest failing index decides between 7 and 12; a batch reports the sum of the steps.
 use mathlib.Core.Bool.{Bool, true, false}
 use mathlib.Core.List.{List, map}
-use Prim.Native.Nat.{ℕ, _/_, _%_}
+use Prim.Native.Nat.{ℕ, _%_}
 use lib.Dec.{leb, eqb}
 use lib.Ieee.{Float}
 use lib.ListN.{length}
@@ -16,9 +16,9 @@ use Rattle.space.specs.declared.Rows.{Rows}
 use Rattle.space.specs.declared.Rows.the-variants.{Inside, Outside}
 use Rattle.space.specs.Domain.{boxOutcome}
 use Rattle.space.specs.Cells.{frameOf}
-use Rattle.space.specs.Rows.{insideRows, codes16}
+use Rattle.space.specs.Rows.{mostPoints, rowsOf, rowsInside, codes16}
 use Rattle.tree.specs.WellFormed.{wellFormed}
-use Rattle.grouping.specs.Batches.{mostPoints, passing}
+use Rattle.grouping.specs.Batches.{passing}
 use Rattle.climb.specs.Leaves.{held, leafKey, stepsTo}
 use Rattle.lookup.specs.declared.Climbs.{Climbs}
 use Rattle.lookup.specs.declared.Climbs.the-variants.{Ended, Failed}
@@ -48,14 +48,7 @@ abbrev pub insideOf : Rows → ℕ → ℕ
 insideOf Inside n = n
 insideOf (Outside row) n = row
 
--- ---- the points of a call, one row after the other
-abbrev pub rowsOf : Box → List Float → ℕ
-rowsOf b points = length points / b .axes
-
--- how many rows stand before the first that is outside, and their codes
-abbrev pub rowsInside : Box → List Float → ℕ
-rowsInside b points = insideRows (rowsOf b points) (frameOf b) points
-
+-- the codes of the points of a call before the first that is outside
 abbrev pub codesInside : Box → List Float → List ℕ
 codesInside b points = codes16 (rowsInside b points) (frameOf b) points
 

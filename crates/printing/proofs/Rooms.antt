@@ -19,7 +19,7 @@ use Rattle.slices.specs.Lists.{filled, range, sum}
 use Rattle.slices.proofs.Lists.{length-range}
 use Rattle.growth.specs.Columns.{ownColumn, beginColumn}
 use Rattle.laying.specs.Outcomes.{askedOutcome, insideOutcome, workOutcome}
-use Rattle.laying.specs.Points.{rowsOf}
+use Rattle.space.specs.Rows.{rowsOf}
 use Rattle.build.specs.declared.Built.{Built}
 use Rattle.build.specs.declared.Built.the-variants.{Tree, Refused as NotBuilt}
 use Rattle.build.specs.Asked.{Asked, builtKeys, builtOwn, builtBegins}
