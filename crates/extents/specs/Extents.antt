@@ -12,6 +12,7 @@ use Rattle.refusal.specs.declared.Outcome.{Outcome}
 use Rattle.refusal.specs.declared.Outcome.the-variants.{Done, Refused}
 use Rattle.space.specs.declared.Box.{Box}
 use Rattle.refusal.specs.Chain.{ask, _then_}
+use Rattle.space.specs.Floats.{nought}
 use Rattle.space.specs.Domain.{boxOutcome}
 use Rattle.space.specs.Cells.{onAxis}
 use Rattle.extents.specs.declared.TreeBox.{TreeBox}
@@ -64,9 +65,6 @@ abbrev pub extentsOutcome : List Float → Outcome
 extentsOutcome xs = ask (lengthKnown (length xs)) Dims then ask (allFinite xs) OutOfDomain then boxOutcome (boxFrom xs (length xs / 2))
 
 -- 0 throughout after a refusal
-abbrev nought : Float
-nought = fin false 0 (pos 0)
-
 abbrev pub noBox : Refusal → TreeBox
 noBox r = record { outcome = Refused r; bounds = record { centre = nought ∷ nought ∷ nought ∷ []; radius = nought; axes = 0 } }
 

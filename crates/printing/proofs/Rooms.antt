@@ -25,7 +25,8 @@ use Rattle.build.specs.declared.Built.the-variants.{Tree, Refused as NotBuilt}
 use Rattle.build.specs.Asked.{Asked, builtKeys, builtOwn, builtBegins}
 use Rattle.build.specs.Outcomes.{columnOutcome, buildOutcome, treeOr, written}
 use Rattle.survey.specs.declared.Survey.{Survey}
-use Rattle.survey.specs.File.{none, fileOutcome, surveyOr, survey, sourceRows, targetRows, filledWith}
+use Rattle.space.specs.Floats.{nought}
+use Rattle.survey.specs.File.{fileOutcome, surveyOr, survey, sourceRows, targetRows, filledWith}
 use Rattle.survey.proofs.Numbers.{f64s-length}
 use Rattle.survey.proofs.Surveys.{Reads, reads}
 use Rattle.text.specs.declared.Text.{Text}
@@ -108,7 +109,7 @@ module _ (file : List ℕ) (s : Survey) (e : s ≡ survey file) where
   file-refused x f = sym (ap (λ (o : Outcome). textOr o (surveyText (survey file) (sourceRows file) (targetRows file))) (file-is (Refused x) f))
 
   long : (m : ℕ) (column rows : List Float) → column ≡ filledWith 4088 rows → m ≡ length rows → m ≤ length column
-  long m column rows g k = omega (arith, ap length g ∙ length-append rows (replicate (4088 - length rows) none))
+  long m column rows g k = omega (arith, ap length g ∙ length-append rows (replicate (4088 - length rows) nought))
 
   sources-count : s .sources * s .b .axes ≡ length (sourceRows file)
   sources-count = sym (ap length (sym (reads file s e .sources-are)) ∙ f64s-length file (s .sources * s .b .axes) 0)
@@ -126,8 +127,8 @@ module _ (file : List ℕ) (s : Survey) (e : s ≡ survey file) where
       → surveyText s (take (s .sources * s .b .axes) xs) (take (s .targets * s .b .axes) ts) ≡ fileText file
   file-text xs ts g h f =
       ap₂ (λ (x t : List Float). surveyText s x t)
-      (ap (take (s .sources * s .b .axes)) g ∙ take-at (sourceRows file) (replicate (4088 - length (sourceRows file)) none) (s .sources * s .b .axes) (sym sources-count))
-      (ap (take (s .targets * s .b .axes)) h ∙ take-at (targetRows file) (replicate (4088 - length (targetRows file)) none) (s .targets * s .b .axes) (sym targets-count))
+      (ap (take (s .sources * s .b .axes)) g ∙ take-at (sourceRows file) (replicate (4088 - length (sourceRows file)) nought) (s .sources * s .b .axes) (sym sources-count))
+      (ap (take (s .targets * s .b .axes)) h ∙ take-at (targetRows file) (replicate (4088 - length (targetRows file)) nought) (s .targets * s .b .axes) (sym targets-count))
       ∙ ap (λ (s : Survey). surveyText s (sourceRows file) (targetRows file)) e
       ∙ sym (ap (λ (o : Outcome). textOr o (surveyText (survey file) (sourceRows file) (targetRows file))) (file-is Done f))
 

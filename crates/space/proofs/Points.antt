@@ -16,7 +16,7 @@ use Rattle.space.specs.declared.Frame.{Frame}
 use Rattle.space.specs.declared.Located.{Located}
 use Rattle.space.specs.declared.Place.{Place}
 use Rattle.space.specs.declared.Place.the-variants.{At, Outside}
-use Rattle.space.specs.Floats.{Floor, none, whole, floor}
+use Rattle.space.specs.Floats.{Floor, noFloor, whole, floor}
 use Rattle.space.specs.Cells.{displacement, quotient, side, pick, cellIn, cell16, placeNumber, inside, anchors16, code16, pointPlace, locatedOf}
 use Rattle.codes.specs.Tables.{encodeTable, EncodeTables, Bytes2}
 use Rattle.morton.specs.Anchors.{encode}
@@ -72,7 +72,7 @@ tables-for d e x y z h p q r = subst (λ n. EncodeTables n x y z) (sym h) (recor
 
 -- ---- anchors are below 65536
 number-under : (n : ℕ) (y : Floor) → 0 < n → placeNumber (cellIn n y) < n
-number-under n none h = h
+number-under n noFloor h = h
 number-under n (whole (negsuc k)) h = h
 number-under n (whole (pos k)) h = go (ltb k n) refl
   where

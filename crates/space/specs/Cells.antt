@@ -13,12 +13,12 @@ use Rattle.space.specs.declared.Frame.{Frame}
 use Rattle.space.specs.declared.Located.{Located}
 use Rattle.space.specs.declared.Place.{Place}
 use Rattle.space.specs.declared.Place.the-variants.{At, Outside}
-use Rattle.space.specs.Floats.{Floor, none, whole, floor}
+use Rattle.space.specs.Floats.{nought, Floor, noFloor, whole, floor}
 
 -- an entry past the axes is 0
 abbrev pub onAxis : Bool → Float → Float
 onAxis true x = x
-onAxis false x = fin false 0 (pos 0)
+onAxis false x = nought
 
 -- centre minus radius
 abbrev pub displacement : Box → ℕ → Float
@@ -38,7 +38,7 @@ pick false p q = q
 
 -- of n cells in a row, numbered from 0, the one that a floor names; any other floor is outside
 abbrev pub cellIn : ℕ → Floor → Place
-cellIn n none = Outside
+cellIn n noFloor = Outside
 cellIn n (whole (negsuc k)) = Outside
 cellIn n (whole (pos k)) = pick (ltb k n) (At k) Outside
 
