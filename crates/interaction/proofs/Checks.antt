@@ -17,7 +17,7 @@ use Rattle.rows.specs.Lists.{uRow, vRow}
 use Rattle.sourced.specs.Answers.{treeCheck}
 use Rattle.sourced.specs.Trees.{SoundTree}
 use Rattle.sourced.proofs.Checks.{passed}
-use Rattle.lists.specs.Descent.{keysRoom}
+use Rattle.rows.specs.Written.{keysRoom}
 use Rattle.quick_lists.specs.Halves.{hasRoom, WritesBoth}
 use Rattle.interaction.specs.declared.ListsAnswer.the-variants as lists
 use Rattle.interaction.specs.Answers.{keysOf, startsCheck, listsCheck, listsOr, listsAnswer}

@@ -10,9 +10,8 @@ use Rattle.refusal.specs.declared.Outcome.the-variants.{Done, Refused}
 use Rattle.refusal.specs.Chain.{ask, _then_}
 use Rattle.slices.specs.Lists.{filled}
 use Rattle.rows.specs.Lists.{uRow, vRow}
-use Rattle.rows.specs.Written.{rowKeys}
+use Rattle.rows.specs.Written.{rowKeys, keysRoom}
 use Rattle.sourced.specs.Answers.{treeCheck}
-use Rattle.lists.specs.Descent.{keysRoom}
 use Rattle.interaction.specs.declared.ListsAnswer.{ListsAnswer}
 use Rattle.interaction.specs.declared.ListsAnswer.the-variants as lists
 

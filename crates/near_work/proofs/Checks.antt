@@ -14,9 +14,8 @@ use Rattle.refusal.specs.Chain.{ask, _then_}
 use Rattle.slices.specs.Lists.{filled}
 use Rattle.slices.proofs.Lists.{filled-none}
 use Rattle.rows.specs.Lists.{uRow, nearWork}
-use Rattle.rows.specs.Written.{rowKeys}
+use Rattle.rows.specs.Written.{rowKeys, keysRoom}
 use Rattle.sourced.specs.Answers.{treeCheck}
-use Rattle.lists.specs.Descent.{keysRoom}
 use Rattle.near_work.specs.declared.WorkAnswer.the-variants as work
 use Rattle.near_work.specs.Answers.{workOr, workAnswer}
 

@@ -16,7 +16,7 @@ use Rattle.tree.specs.Nodes.{depthOf}
 use Rattle.rows.specs.Lists.{uRow, vRow, nearWork}
 use Rattle.sourced.specs.Answers.{treeCheck}
 use Rattle.interaction.specs.Answers.{keysOf, startsCheck, listsCheck}
-use Rattle.lists.specs.Descent.{keysRoom}
+use Rattle.rows.specs.Written.{keysRoom}
 use Rattle.build.specs.Asked.{builtKeys, builtOwn, builtBegins}
 use Rattle.build.specs.Outcomes.{buildOutcome}
 use Rattle.survey.specs.declared.Survey.{Survey}

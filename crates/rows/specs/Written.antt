@@ -1,7 +1,7 @@
 -- Document 01: rows are flat key slices with N + 1 starts. How a row of each node is written, and read again.
 use mathlib.Core.Path.{_≡_}
 use mathlib.Core.List.{List, [], _∷_, _++_}
-use Prim.Native.Nat.{ℕ, zero, suc, _+_, _-_}
+use Prim.Native.Nat.{ℕ, zero, suc, _+_, _-_, min}
 use lib.ListN.{length, getD, take, drop}
 use Rattle.slices.specs.Lists.{concatMap, Mem}
 use Rattle.tree.specs.Nodes.{nodeNumber}
@@ -17,6 +17,10 @@ rowStarts row keys = startsFrom 0 row keys
 -- the rows of the nodes, one after the other
 abbrev pub rowKeys : (ℕ → List ℕ) → List ℕ → List ℕ
 rowKeys row keys = concatMap row keys
+
+-- of a key slice with so many entries at most 16,777,216 count
+abbrev pub keysRoom : ℕ → ℕ
+keysRoom len = min len 16777216
 
 -- the row of node i in such columns
 abbrev pub rowAt : List ℕ → List ℕ → ℕ → List ℕ
