@@ -20,7 +20,7 @@ use Rattle.laying.specs.Points.{codesOf}
 use Rattle.laying.specs.Outcomes.{askedOutcome, insideOutcome, workOutcome}
 use Rattle.build.specs.declared.Built.the-variants.{Tree, Refused as NotBuilt}
 use Rattle.build.specs.Asked.{Asked, builtKeys, builtOwn, builtBegins, builtOrder}
-use Rattle.build.specs.Outcomes.{columnOutcome, buildOutcome, treeOr, written, Columns}
+use Rattle.build.specs.Outcomes.{columnOutcome, buildOutcome, treeOr, written, BuiltSlices}
 
 -- an answer that is a refusal, or a tree, tells the outcome
 pub told-refused : (o : Outcome) (key : List ℕ) (r : Refusal) → NotBuilt r ≡ treeOr o key → o ≡ Refused r
@@ -68,7 +68,7 @@ pub columns-are : (a : Asked) (n : ℕ) (key codes : List ℕ) → take n key �
     → work₂ ≡ replicate (length work₁) 0 → order₂ ≡ filled orders (orderColumn (a .box .axes) (take n key) codes)
     → key₂ ≡ take n key ++ replicate (length key - n) 0 → own₂ ≡ filled owns (ownColumn (a .box .axes) (take n key) codes)
     → begin₂ ≡ filled begins (beginColumn (ownColumn (a .box .axes) (take n key) codes))
-    → Columns a work₂ order₂ key₂ own₂ begin₂ works orders keys owns begins
+    → BuiltSlices a work₂ order₂ key₂ own₂ begin₂ works orders keys owns begins
 unfolding builtOrder builtOwn builtBegins
 columns-are a n key codes k e c work₁ work₂ order₂ key₂ own₂ begin₂ works orders keys owns begins lw lk iw io ik iown ib =
     let d = a .box .axes in

@@ -42,7 +42,7 @@ written Done room answer = filled room answer
 written (Refused r) room answer = replicate room 0
 
 -- the slices after a build that is not refused, by the length of each
-pub record Columns (a : Asked) (work order key own begin : List ℕ) (works orders keys owns begins : ℕ) : Type 0 where
+pub record BuiltSlices (a : Asked) (work order key own begin : List ℕ) (works orders keys owns begins : ℕ) : Type 0 where
   pub worked : work ≡ replicate works 0
   pub ordered : order ≡ filled orders (builtOrder a)
   pub keyed : key ≡ filled keys (builtKeys a)

@@ -17,7 +17,7 @@ ghost use Rattle.grow.specs.Queue.{Points, Grows};
 ghost use Rattle.arrange.specs.Sources.{InLeaves};
 ghost use Rattle.laying.specs.Points.{part};
 ghost use Rattle.build.specs.Asked.{used, asks, builtKeys, builtOwn, builtBegins, builtOrder};
-ghost use Rattle.build.specs.Outcomes.{nodeRoom, buildOutcome, treeOr, written, Columns};
+ghost use Rattle.build.specs.Outcomes.{nodeRoom, buildOutcome, treeOr, written, BuiltSlices};
 
 pub const MOST_NODES: usize = 1048576;
 
@@ -112,7 +112,7 @@ fn attempt(
     begin: &mut [usize],
 ) -> Built
     ensures { λ r. ⌜ r ≡ treeOr (buildOutcome (asks b limit order keep (now (sources .entry)) (now (targets .entry))) (length (now (work .entry))) (length (now (indices .entry))) (nodeRoom (length (now (key .entry))) (length (now (own .entry))) (length (now (begin .entry))))) (builtKeys (asks b limit order keep (now (sources .entry)) (now (targets .entry)))) ⌝ }
-    ensures { λ _. ⌜ (buildOutcome (asks b limit order keep (now (sources .entry)) (now (targets .entry))) (length (now (work .entry))) (length (now (indices .entry))) (nodeRoom (length (now (key .entry))) (length (now (own .entry))) (length (now (begin .entry)))) ≡ Done → Columns (asks b limit order keep (now (sources .entry)) (now (targets .entry))) (now (work .exit)) (now (indices .exit)) (now (key .exit)) (now (own .exit)) (now (begin .exit)) (length (now (work .entry))) (length (now (indices .entry))) (length (now (key .entry))) (length (now (own .entry))) (length (now (begin .entry)))) ⌝ }
+    ensures { λ _. ⌜ (buildOutcome (asks b limit order keep (now (sources .entry)) (now (targets .entry))) (length (now (work .entry))) (length (now (indices .entry))) (nodeRoom (length (now (key .entry))) (length (now (own .entry))) (length (now (begin .entry)))) ≡ Done → BuiltSlices (asks b limit order keep (now (sources .entry)) (now (targets .entry))) (now (work .exit)) (now (indices .exit)) (now (key .exit)) (now (own .exit)) (now (begin .exit)) (length (now (work .entry))) (length (now (indices .entry))) (length (now (key .entry))) (length (now (own .entry))) (length (now (begin .entry)))) ⌝ }
 {
     let prepared = laying::prepare(b, sources, targets, order, work);
     if let Outcome::Refused(refusal) = prepared {

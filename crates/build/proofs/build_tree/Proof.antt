@@ -8,7 +8,7 @@ use lib.ListN.{length, replicate}
 use denote.Ref.{now}
 use Rattle.refusal.specs.declared.Outcome.the-variants.{Done}
 use Rattle.build.specs.Asked.{used, asks, builtKeys}
-use Rattle.build.specs.Outcomes.{nodeRoom, buildOutcome, treeOr, Columns}
+use Rattle.build.specs.Outcomes.{nodeRoom, buildOutcome, treeOr, BuiltSlices}
 use Rattle.build.proofs.Answers.{told-refused, told-tree, after-refusal, after-tree}
 use Rattle.build.proofs.build_tree.Statement.{statement}
 use Rattle.build.proofs.build_tree.Tie as tie
@@ -48,7 +48,7 @@ returns c =
     let s = c .before .before .before .before .before .before .before .before .before .before .before .before .before .before .before .before .before .before .before .before .before .before .before .before .before .before .before in
     let e = subst (λ (x : List Float). c .before .before .before .before .before .before .before .before .before .before .before .before .before .attempt .result ≡ treeOr (buildOutcome (asks (s .args .b) (s .args .limit) (s .args .order) (s .args .keep) (now (s .args .sources)) x) (length (now (s .args .work))) (length (now (s .args .indices))) (nodeRoom (length (now (s .args .key))) (length (now (s .args .own))) (length (now (s .args .begin))))) (builtKeys (asks (s .args .b) (s .args .limit) (s .args .order) (s .args .keep) (now (s .args .sources)) x))) (c .before .before .before .before .before .before .before .before .before .before .before .before .before .before .before .before .before .before .before .used-targets .ensures) (c .before .before .before .before .before .before .before .before .before .before .before .before .before .attempt .ensures .0) in
     let d = told-tree (buildOutcome (asks (s .args .b) (s .args .limit) (s .args .order) (s .args .keep) (now (s .args .sources)) (used (s .args .keep) (s .args .refine) (now (s .args .targets)))) (length (now (s .args .work))) (length (now (s .args .indices))) (nodeRoom (length (now (s .args .key))) (length (now (s .args .own))) (length (now (s .args .begin))))) (builtKeys (asks (s .args .b) (s .args .limit) (s .args .order) (s .args .keep) (now (s .args .sources)) (used (s .args .keep) (s .args .refine) (now (s .args .targets))))) _ _ (sym (c .before .built .given .1) ∙ e) in
-    let f = subst (λ (x : List Float). (buildOutcome (asks (s .args .b) (s .args .limit) (s .args .order) (s .args .keep) (now (s .args .sources)) x) (length (now (s .args .work))) (length (now (s .args .indices))) (nodeRoom (length (now (s .args .key))) (length (now (s .args .own))) (length (now (s .args .begin))))) ≡ Done → Columns (asks (s .args .b) (s .args .limit) (s .args .order) (s .args .keep) (now (s .args .sources)) x) (c .before .before .before .before .before .before .before .before .before .before .before .before .before .attempt .last .1 .1 .1 .1 .1 .1 .0) (c .before .before .before .before .before .before .before .before .before .before .before .before .before .attempt .last .1 .1 .1 .1 .1 .1 .1 .0) (c .before .before .before .before .before .before .before .before .before .before .before .before .before .attempt .last .1 .1 .1 .1 .1 .1 .1 .1 .0) (c .before .before .before .before .before .before .before .before .before .before .before .before .before .attempt .last .1 .1 .1 .1 .1 .1 .1 .1 .1 .0) (c .before .before .before .before .before .before .before .before .before .before .before .before .before .attempt .last .1 .1 .1 .1 .1 .1 .1 .1 .1 .1 .0) (length (now (s .args .work))) (length (now (s .args .indices))) (length (now (s .args .key))) (length (now (s .args .own))) (length (now (s .args .begin)))) (c .before .before .before .before .before .before .before .before .before .before .before .before .before .before .before .before .before .before .before .used-targets .ensures) (c .before .before .before .before .before .before .before .before .before .before .before .before .before .attempt .ensures .1) d in
+    let f = subst (λ (x : List Float). (buildOutcome (asks (s .args .b) (s .args .limit) (s .args .order) (s .args .keep) (now (s .args .sources)) x) (length (now (s .args .work))) (length (now (s .args .indices))) (nodeRoom (length (now (s .args .key))) (length (now (s .args .own))) (length (now (s .args .begin))))) ≡ Done → BuiltSlices (asks (s .args .b) (s .args .limit) (s .args .order) (s .args .keep) (now (s .args .sources)) x) (c .before .before .before .before .before .before .before .before .before .before .before .before .before .attempt .last .1 .1 .1 .1 .1 .1 .0) (c .before .before .before .before .before .before .before .before .before .before .before .before .before .attempt .last .1 .1 .1 .1 .1 .1 .1 .0) (c .before .before .before .before .before .before .before .before .before .before .before .before .before .attempt .last .1 .1 .1 .1 .1 .1 .1 .1 .0) (c .before .before .before .before .before .before .before .before .before .before .before .before .before .attempt .last .1 .1 .1 .1 .1 .1 .1 .1 .1 .0) (c .before .before .before .before .before .before .before .before .before .before .before .before .before .attempt .last .1 .1 .1 .1 .1 .1 .1 .1 .1 .1 .0) (length (now (s .args .work))) (length (now (s .args .indices))) (length (now (s .args .key))) (length (now (s .args .own))) (length (now (s .args .begin)))) (c .before .before .before .before .before .before .before .before .before .before .before .before .before .before .before .before .before .before .before .used-targets .ensures) (c .before .before .before .before .before .before .before .before .before .before .before .before .before .attempt .ensures .1) d in
     (sym (c .before .built .given .1) ∙ e, (f .worked, (after-tree _ (length (now (s .args .indices))) _ _ d (f .ordered), (after-tree _ (length (now (s .args .key))) _ _ d (f .keyed), (after-tree _ (length (now (s .args .own))) _ _ d (f .owned), after-tree _ (length (now (s .args .begin))) _ _ d (f .begun))))))
 
 same-length-6 : tie.Need-same-length-6
