@@ -18,7 +18,7 @@ use Rattle.sourced.proofs.Putting.{filter-yes, filter-no}
 use Rattle.lists.specs.Descent.{PutsThose}
 use Rattle.lists.proofs.Those.{those-same}
 use Rattle.around.specs.Candidates.{bitOf}
-use Rattle.quick.specs.Marks.{Numbered, Marks, owns, ownsUnder, PutsOwners}
+use Rattle.quick.specs.Marks.{NodesWithMasks, Marks, owns, ownsUnder, PutsOwners}
 use Rattle.quick.specs.Runs.{among, underRun, NodeRuns, Collected, CollectsMarked, FewMarked}
 use Rattle.quick.proofs.EachOne.{among-elim, among-intro}
 
@@ -71,7 +71,7 @@ module _ (nodes masks : List ℕ) (c s : ℕ) (l : c ≤ length nodes) where
   collect-all j a b from to k w t m = let e : j ≡ c = omega arith in subst (λ (n : ℕ). Collected (filter t (take n nodes)) from to k) e (w t m)
 
 -- ---- what lies under those runs
-module _ (d : ℕ) (keys own nodes masks : List ℕ) (c s left : ℕ) (l : Numbered keys nodes masks c) (dist : Distinct (take c nodes)) (levels : (i : ℕ) → i < c → levelOf (getD keys (getD nodes i 0) 0) + left ≡ 17)
+module _ (d : ℕ) (keys own nodes masks : List ℕ) (c s left : ℕ) (l : NodesWithMasks keys nodes masks c) (dist : Distinct (take c nodes)) (levels : (i : ℕ) → i < c → levelOf (getD keys (getD nodes i 0) 0) + left ≡ 17)
     (from to : List ℕ) (k : ℕ) (all : CollectsMarked nodes masks c s from to k) where
   module _ (t : ℕ → Bool) (m : Marks nodes masks c s t) where
     at : (i : ℕ) → i < k → getD (filter t (take c nodes)) i 0 ≡ getD from i 0
