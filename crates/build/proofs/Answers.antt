@@ -20,7 +20,7 @@ use Rattle.laying.specs.Points.{codesOf}
 use Rattle.laying.specs.Outcomes.{askedOutcome, insideOutcome, workOutcome}
 use Rattle.build.specs.declared.Built.the-variants.{Tree, Refused as NotBuilt}
 use Rattle.build.specs.Asked.{Asked, builtKeys, builtOwn, builtBegins, builtOrder}
-use Rattle.build.specs.Outcomes.{columnOutcome, buildOutcome, treeOr, written, BuiltSlices}
+use Rattle.build.specs.Outcomes.{columnOutcome, buildOutcome, treeOr, BuiltSlices}
 
 -- an answer that is a refusal, or a tree, tells the outcome
 pub told-refused : (o : Outcome) (key : List ℕ) (r : Refusal) → NotBuilt r ≡ treeOr o key → o ≡ Refused r
@@ -79,10 +79,3 @@ columns-are a n key codes k e c work₁ work₂ order₂ key₂ own₂ begin₂ 
       owned = iown ∙ ap₂ (λ (x y : List ℕ). filled owns (ownColumn d x y)) k c;
       begun = ib ∙ ap₂ (λ (x y : List ℕ). filled begins (beginColumn (ownColumn d x y))) k c;
     }
-
--- a slice after a refusal and after a tree
-pub after-refusal : (o : Outcome) (r : Refusal) (room m : ℕ) (answer slice : List ℕ) → o ≡ Refused r → m ≡ room → slice ≡ replicate m 0 → slice ≡ written o room answer
-after-refusal o r room m answer slice e l z = z ∙ ap (λ (x : ℕ). replicate x 0) l ∙ sym (ap (λ q. written q room answer) e)
-
-pub after-tree : (o : Outcome) (room : ℕ) (answer slice : List ℕ) → o ≡ Done → slice ≡ filled room answer → slice ≡ written o room answer
-after-tree o room answer slice e z = z ∙ sym (ap (λ q. written q room answer) e)

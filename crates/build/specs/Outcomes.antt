@@ -8,6 +8,7 @@ use Rattle.refusal.specs.declared.Refusal.the-variants.{Room}
 use Rattle.refusal.specs.declared.Outcome.{Outcome}
 use Rattle.refusal.specs.declared.Outcome.the-variants.{Done, Refused}
 use Rattle.refusal.specs.Chain.{ask, _then_}
+use Rattle.refusal.specs.Left.{left}
 use Rattle.slices.specs.Lists.{filled}
 use Rattle.tree.specs.Nodes.{depthOf}
 use Rattle.space.specs.Rows.{rowsOf}
@@ -36,10 +37,37 @@ abbrev pub treeOr : Outcome → List ℕ → Built
 treeOr Done key = Tree (length key) (depthOf key)
 treeOr (Refused r) key = NotBuilt r
 
--- a slice's end content: the answer and zeros, or zeros throughout
-abbrev pub written : Outcome → ℕ → List ℕ → List ℕ
-written Done room answer = filled room answer
-written (Refused r) room answer = replicate room 0
+-- how many entries the lent slices have: the work, the order column, and the three node columns
+pub record Rooms : Type 0 where
+  pub work : ℕ
+  pub order : ℕ
+  pub keys : ℕ
+  pub own : ℕ
+  pub begins : ℕ
+
+abbrev pub rooms : (work order keys own begins : ℕ) → Rooms
+rooms work order keys own begins = record { work = work; order = order; keys = keys; own = own; begins = begins }
+
+-- ---- a build with so much room
+module _ (a : Asked) (r : Rooms) where
+  abbrev pub buildCheck : Outcome
+  buildCheck = buildOutcome a (r .work) (r .order) (nodeRoom (r .keys) (r .own) (r .begins))
+
+  abbrev pub buildAnswer : Built
+  buildAnswer = treeOr buildCheck (builtKeys a)
+
+  -- what is left in each of the slices; all of the work is 0
+  abbrev pub orderLeft : List ℕ
+  orderLeft = left buildCheck (r .order) (builtOrder a)
+
+  abbrev pub keysLeft : List ℕ
+  keysLeft = left buildCheck (r .keys) (builtKeys a)
+
+  abbrev pub ownLeft : List ℕ
+  ownLeft = left buildCheck (r .own) (builtOwn a)
+
+  abbrev pub beginsLeft : List ℕ
+  beginsLeft = left buildCheck (r .begins) (builtBegins a)
 
 -- the slices after a build that is not refused, by the length of each
 pub record BuiltSlices (a : Asked) (work order key own begin : List ℕ) (works orders keys owns begins : ℕ) : Type 0 where

@@ -13,17 +13,19 @@ use Rattle.refusal.specs.declared.Refusal.{Refusal}
 use Rattle.refusal.specs.declared.Refusal.the-variants.{Room}
 use Rattle.refusal.specs.declared.Outcome.{Outcome}
 use Rattle.refusal.specs.declared.Outcome.the-variants.{Done, Refused}
+use Rattle.refusal.specs.Left.{left}
 use Rattle.refusal.specs.Chain.{ask, _then_}
 use Rattle.refusal.proofs.Chain.{asked, both-done}
 use Rattle.slices.specs.Lists.{filled, range, sum}
 use Rattle.slices.proofs.Lists.{length-range}
+use Rattle.tree.specs.Columns.{columns}
 use Rattle.growth.specs.Columns.{ownColumn, beginColumn}
 use Rattle.laying.specs.Outcomes.{askedOutcome, insideOutcome, workOutcome}
 use Rattle.space.specs.Rows.{rowsOf}
 use Rattle.build.specs.declared.Built.{Built}
 use Rattle.build.specs.declared.Built.the-variants.{Tree, Refused as NotBuilt}
 use Rattle.build.specs.Asked.{Asked, builtKeys, builtOwn, builtBegins}
-use Rattle.build.specs.Outcomes.{columnOutcome, buildOutcome, treeOr, written}
+use Rattle.build.specs.Outcomes.{columnOutcome, buildOutcome, treeOr}
 use Rattle.survey.specs.declared.Survey.{Survey}
 use Rattle.space.specs.Floats.{nought}
 use Rattle.survey.specs.File.{fileOutcome, surveyOr, survey, sourceRows, targetRows, filledWith}
@@ -32,7 +34,7 @@ use Rattle.survey.proofs.Surveys.{Reads, reads}
 use Rattle.text.specs.declared.Text.{Text}
 use Rattle.text.specs.declared.Text.the-variants.{Length, Short}
 use Rattle.text.specs.Listing.{lengthOr, refusalLine}
-use Rattle.text.specs.Listing.{textAnswer as writtenIn}
+use Rattle.text.specs.Listing.{textAnswer}
 use Rattle.report.specs.Report.{textOr}
 use Rattle.printing.specs.Printed.{askedBy, columnsText, surveyTextIn, surveyText, fileText}
 
@@ -55,11 +57,11 @@ unfolding builtBegins beginColumn
 begin-length a = length-map (range 0 (length (builtOwn a))) (λ i. sum (take i (builtOwn a))) ∙ length-range 0 (length (builtOwn a)) ∙ own-length a
 
 -- a column that is left by a build: its first entries
-column-front : (o : Outcome) (s xs : List ℕ) (n room : ℕ) → s ≡ written o room xs → o ≡ Done → n ≡ length xs → take n s ≡ xs
-column-front o s xs n room e f k = ap (take n) (e ∙ ap (λ (o : Outcome). written o room xs) f) ∙ take-at xs (replicate (room - length xs) 0) n (sym k)
+column-front : (o : Outcome) (s xs : List ℕ) (n room : ℕ) → s ≡ left o room xs → o ≡ Done → n ≡ length xs → take n s ≡ xs
+column-front o s xs n room e f k = ap (take n) (e ∙ ap (λ (o : Outcome). left o room xs) f) ∙ take-at xs (replicate (room - length xs) 0) n (sym k)
 
-column-long : (o : Outcome) (s xs : List ℕ) (n room : ℕ) → s ≡ written o room xs → o ≡ Done → n ≡ length xs → n ≤ length s
-column-long o s xs n room e f k = omega (arith, ap length (e ∙ ap (λ (o : Outcome). written o room xs) f) ∙ length-append xs (replicate (room - length xs) 0))
+column-long : (o : Outcome) (s xs : List ℕ) (n room : ℕ) → s ≡ left o room xs → o ≡ Done → n ≡ length xs → n ≤ length s
+column-long o s xs n room e f k = omega (arith, ap length (e ∙ ap (λ (o : Outcome). left o room xs) f) ∙ length-append xs (replicate (room - length xs) 0))
 
 module _ (s : Survey) (sources targets : List Float) (work order nodes : ℕ) (r : Built) (e : r ≡ treeOr (buildOutcome (askedBy s sources targets) work order nodes) (builtKeys (askedBy s sources targets))) where
   abbrev a : Asked
@@ -70,7 +72,7 @@ module _ (s : Survey) (sources targets : List Float) (work order nodes : ℕ) (r
 
   pub built-refused : (x : Refusal) → r ≡ NotBuilt x → refusalLine x ≡ surveyTextIn work order nodes s sources targets
   built-refused x f =
-      sym (ap (λ (o : Outcome). textOr o (columnsText (s .b .axes) (builtKeys a) (builtOwn a) (builtBegins a) (s .sources))) (was-not o (builtKeys a) x (sym f ∙ e)))
+      sym (ap (λ (o : Outcome). textOr o (columnsText (s .b .axes) (columns (builtKeys a) (builtOwn a) (builtBegins a)) (s .sources))) (was-not o (builtKeys a) x (sym f ∙ e)))
 
   module _ (n d : ℕ) (f : r ≡ Tree n d) where
     done : o ≡ Done
@@ -79,21 +81,21 @@ module _ (s : Survey) (sources targets : List Float) (work order nodes : ℕ) (r
     count : n ≡ length (builtKeys a)
     count = was-built o (builtKeys a) n d (sym f ∙ e) .1
 
-    pub key-long : (key : List ℕ) (room : ℕ) → key ≡ written o room (builtKeys a) → n ≤ length key
+    pub key-long : (key : List ℕ) (room : ℕ) → key ≡ left o room (builtKeys a) → n ≤ length key
     key-long key room g = column-long o key (builtKeys a) n room g done count
 
-    pub own-long : (own : List ℕ) (room : ℕ) → own ≡ written o room (builtOwn a) → n ≤ length own
+    pub own-long : (own : List ℕ) (room : ℕ) → own ≡ left o room (builtOwn a) → n ≤ length own
     own-long own room g = column-long o own (builtOwn a) n room g done (count ∙ sym (own-length a))
 
-    pub begin-long : (begin : List ℕ) (room : ℕ) → begin ≡ written o room (builtBegins a) → n ≤ length begin
+    pub begin-long : (begin : List ℕ) (room : ℕ) → begin ≡ left o room (builtBegins a) → n ≤ length begin
     begin-long begin room g = column-long o begin (builtBegins a) n room g done (count ∙ sym (begin-length a))
 
-    pub built-text : (key own begin : List ℕ) (keys owns begins : ℕ) → key ≡ written o keys (builtKeys a) → own ≡ written o owns (builtOwn a) → begin ≡ written o begins (builtBegins a)
-        → columnsText (s .b .axes) (take n key) (take n own) (take n begin) (s .sources) ≡ surveyTextIn work order nodes s sources targets
+    pub built-text : (key own begin : List ℕ) (keys owns begins : ℕ) → key ≡ left o keys (builtKeys a) → own ≡ left o owns (builtOwn a) → begin ≡ left o begins (builtBegins a)
+        → columnsText (s .b .axes) (columns (take n key) (take n own) (take n begin)) (s .sources) ≡ surveyTextIn work order nodes s sources targets
     built-text key own begin keys owns begins g h i =
-        ap₂ (λ (k w : List ℕ). columnsText (s .b .axes) k w (take n begin) (s .sources)) (column-front o key (builtKeys a) n keys g done count) (column-front o own (builtOwn a) n owns h done (count ∙ sym (own-length a)))
-        ∙ ap (λ (b : List ℕ). columnsText (s .b .axes) (builtKeys a) (builtOwn a) b (s .sources)) (column-front o begin (builtBegins a) n begins i done (count ∙ sym (begin-length a)))
-        ∙ sym (ap (λ (o : Outcome). textOr o (columnsText (s .b .axes) (builtKeys a) (builtOwn a) (builtBegins a) (s .sources))) done)
+        ap₂ (λ (k w : List ℕ). columnsText (s .b .axes) (columns k w (take n begin)) (s .sources)) (column-front o key (builtKeys a) n keys g done count) (column-front o own (builtOwn a) n owns h done (count ∙ sym (own-length a)))
+        ∙ ap (λ (b : List ℕ). columnsText (s .b .axes) (columns (builtKeys a) (builtOwn a) b) (s .sources)) (column-front o begin (builtBegins a) n begins i done (count ∙ sym (begin-length a)))
+        ∙ sym (ap (λ (o : Outcome). textOr o (columnsText (s .b .axes) (columns (builtKeys a) (builtOwn a) (builtBegins a)) (s .sources))) done)
 
 -- ---- a file's answer
 
@@ -138,7 +140,7 @@ told : (b : Bool) (k n : ℕ) → Length n ≡ lengthOr b k → (b ≡ true) × 
 told true k n e = (refl, cc)
 told false k n e = absurd (let z : _≡_ {A = ℕ} 0 1 = cc in omega arith)
 
-pub written-within : (room : ℕ) (text : List ℕ) (n : ℕ) → Length n ≡ writtenIn room text → n ≤ room
+pub written-within : (room : ℕ) (text : List ℕ) (n : ℕ) → Length n ≡ textAnswer room text → n ≤ room
 written-within room text n e =
     let (b, k) = told (leb (length text) room) (length text) n e in
     omega (arith, leb-true (length text) room b)

@@ -6,6 +6,7 @@ use survey::Survey;
 use text::Text;
 ghost use mathlib.Core.Path.{_≡_};
 ghost use lib.ListN.{length};
+ghost use Rattle.tree.specs.Columns.{columns};
 ghost use Rattle.text.specs.Listing.{textAnswer, textLeft};
 ghost use Rattle.build.specs.Outcomes.{nodeRoom};
 ghost use Rattle.printing.specs.Printed.{columnsText, surveyTextIn, surveyText, fileText};
@@ -19,8 +20,8 @@ fn list_columns(
     begin: &[usize],
     out: &mut [u8],
 ) -> Text
-    ensures answer { λ r. ⌜ r ≡ textAnswer (length (now (out .entry))) (columnsText axes (now (key .entry)) (now (own .entry)) (now (begin .entry)) sources) ⌝ }
-    ensures text { λ _. ⌜ now (out .exit) ≡ textLeft (length (now (out .entry))) (columnsText axes (now (key .entry)) (now (own .entry)) (now (begin .entry)) sources) ⌝ }
+    ensures answer { λ r. ⌜ r ≡ textAnswer (length (now (out .entry))) (columnsText axes (columns (now (key .entry)) (now (own .entry)) (now (begin .entry))) sources) ⌝ }
+    ensures text { λ _. ⌜ now (out .exit) ≡ textLeft (length (now (out .entry))) (columnsText axes (columns (now (key .entry)) (now (own .entry)) (now (begin .entry))) sources) ⌝ }
 {
     let mut u_starts = [0usize; 2049];
     let mut u_keys = [0u64; 8192];
@@ -52,8 +53,10 @@ fn list_built(
     begin: &mut [usize],
     out: &mut [u8],
 ) -> Text
-    ensures answer { λ r. ⌜ r ≡ textAnswer (length (now (out .entry))) (surveyTextIn (length (now (work .entry))) (length (now (indices .entry))) (nodeRoom (length (now (key .entry))) (length (now (own .entry))) (length (now (begin .entry)))) survey (now (sources .entry)) (now (targets .entry))) ⌝ }
-    ensures text { λ _. ⌜ now (out .exit) ≡ textLeft (length (now (out .entry))) (surveyTextIn (length (now (work .entry))) (length (now (indices .entry))) (nodeRoom (length (now (key .entry))) (length (now (own .entry))) (length (now (begin .entry)))) survey (now (sources .entry)) (now (targets .entry))) ⌝ }
+    ensures answer { λ r. ⌜ r ≡ textAnswer (length (now (out .entry))) (surveyTextIn (length (now (work .entry))) (length (now (indices .entry)))
+        (nodeRoom (length (now (key .entry))) (length (now (own .entry))) (length (now (begin .entry)))) survey (now (sources .entry)) (now (targets .entry))) ⌝ }
+    ensures text { λ _. ⌜ now (out .exit) ≡ textLeft (length (now (out .entry))) (surveyTextIn (length (now (work .entry))) (length (now (indices .entry)))
+        (nodeRoom (length (now (key .entry))) (length (now (own .entry))) (length (now (begin .entry)))) survey (now (sources .entry)) (now (targets .entry))) ⌝ }
 {
     let b = survey.b;
     let built = build::build_tree(

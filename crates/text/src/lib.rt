@@ -122,7 +122,8 @@ fn put_node(
     node: usize,
 ) -> usize
     requires { ⌜ node < length (now key) ⌝ }
-    ensures { λ r. ⌜ Puts (now (out .entry)) n (nodeLine (now (key .entry)) (now (own .entry)) (rowAt (now («u_starts» .entry)) (now («u_keys» .entry))) (rowAt (now («v_starts» .entry)) (now («v_keys» .entry))) node) (now (out .exit)) r ⌝ }
+    ensures { λ r. ⌜ Puts (now (out .entry)) n (nodeLine (now (key .entry)) (now (own .entry))
+        (rowAt (now («u_starts» .entry)) (now («u_keys» .entry))) (rowAt (now («v_starts» .entry)) (now («v_keys» .entry))) node) (now (out .exit)) r ⌝ }
 {
     let number = put_decimal(out, n, node as u64);
     let named = put_field(out, number, key[node]);
@@ -143,7 +144,8 @@ fn put_nodes(
     v_starts: &[usize],
     v_keys: &[u64],
 ) -> usize
-    ensures { λ r. ⌜ Puts (now (out .entry)) n (nodeLines (now (key .entry)) (now (own .entry)) (rowAt (now («u_starts» .entry)) (now («u_keys» .entry))) (rowAt (now («v_starts» .entry)) (now («v_keys» .entry)))) (now (out .exit)) r ⌝ }
+    ensures { λ r. ⌜ Puts (now (out .entry)) n (nodeLines (now (key .entry)) (now (own .entry))
+        (rowAt (now («u_starts» .entry)) (now («u_keys» .entry))) (rowAt (now («v_starts» .entry)) (now («v_keys» .entry)))) (now (out .exit)) r ⌝ }
 {
     let mut m = n;
     let mut node = 0;
@@ -209,8 +211,10 @@ pub fn write_listing(
     v_keys: &[u64],
     out: &mut [u8],
 ) -> Text
-    ensures answer { λ r. ⌜ r ≡ textAnswer (length (now (out .entry))) (listing (now (key .entry)) (now (own .entry)) (rowAt (now («u_starts» .entry)) (now («u_keys» .entry))) (rowAt (now («v_starts» .entry)) (now («v_keys» .entry))) axes depth sources work) ⌝ }
-    ensures text { λ _. ⌜ now (out .exit) ≡ textLeft (length (now (out .entry))) (listing (now (key .entry)) (now (own .entry)) (rowAt (now («u_starts» .entry)) (now («u_keys» .entry))) (rowAt (now («v_starts» .entry)) (now («v_keys» .entry))) axes depth sources work) ⌝ }
+    ensures answer { λ r. ⌜ r ≡ textAnswer (length (now (out .entry))) (listing (now (key .entry)) (now (own .entry))
+        (rowAt (now («u_starts» .entry)) (now («u_keys» .entry))) (rowAt (now («v_starts» .entry)) (now («v_keys» .entry))) axes depth sources work) ⌝ }
+    ensures text { λ _. ⌜ now (out .exit) ≡ textLeft (length (now (out .entry))) (listing (now (key .entry)) (now (own .entry))
+        (rowAt (now («u_starts» .entry)) (now («u_keys» .entry))) (rowAt (now («v_starts» .entry)) (now («v_keys» .entry))) axes depth sources work) ⌝ }
 {
     let numbers = [axes as u64, key.len() as u64, depth, sources as u64, work];
     let n = put_line(out, 0, b"tree", &numbers);

@@ -1,6 +1,7 @@
 -- In each case of the answer; the box is the one of the arguments.
 use mathlib.Core.Path.{ap, sym, _∙_}
 use denote.Ref.{now}
+use Rattle.tree.specs.Columns.{columns}
 use Rattle.exports_keys.specs.Told.{told}
 use Rattle.lookup.specs.Single.{pointToLeaf}
 use Rattle.exports_trees.specs.Told.{leafEnd, leafIn, climbedIn}
@@ -27,10 +28,10 @@ end-of-requires-2 : tie.Need-end-of-requires-2
 end-of-requires-2 c κs = search needs
 
 returns : tie.Need-returns
-returns c = let a = c .before .before .before .before .before .before .before .before .before .before .args in let e = sym (c .before .before .answer .given .1) ∙ c .before .before .before .before .point-to-leaf .ensures ∙ ap (λ b. pointToLeaf b (now (a .key)) (now (a .own)) (now (a .begin)) (now (a .point))) (c .before .before .before .before .before .before .box-at .ensures) in (c .end-of .ensures ∙ ap (λ x. told (leafEnd x)) e, (ap leafIn e, ap climbedIn e))
+returns c = let a = c .before .before .before .before .before .before .before .before .before .before .args in let e = sym (c .before .before .answer .given .1) ∙ c .before .before .before .before .point-to-leaf .ensures ∙ ap (λ b. pointToLeaf b (columns (now (a .key)) (now (a .own)) (now (a .begin))) (now (a .point))) (c .before .before .before .before .before .before .box-at .ensures) in (c .end-of .ensures ∙ ap (λ x. told (leafEnd x)) e, (ap leafIn e, ap climbedIn e))
 
 returns-2 : tie.Need-returns-2
-returns-2 c = let a = c .before .before .before .before .before .before .before .before .before .before .args in let e = sym (c .before .before .answer2 .given .1) ∙ c .before .before .before .before .point-to-leaf .ensures ∙ ap (λ b. pointToLeaf b (now (a .key)) (now (a .own)) (now (a .begin)) (now (a .point))) (c .before .before .before .before .before .before .box-at .ensures) in (c .end-of2 .ensures ∙ ap (λ x. told (leafEnd x)) e, (ap leafIn e, ap climbedIn e))
+returns-2 c = let a = c .before .before .before .before .before .before .before .before .before .before .args in let e = sym (c .before .before .answer2 .given .1) ∙ c .before .before .before .before .point-to-leaf .ensures ∙ ap (λ b. pointToLeaf b (columns (now (a .key)) (now (a .own)) (now (a .begin))) (now (a .point))) (c .before .before .before .before .before .before .box-at .ensures) in (c .end-of2 .ensures ∙ ap (λ x. told (leafEnd x)) e, (ap leafIn e, ap climbedIn e))
 
 pub lohandema-point-to-leaf-spec : {M : Type 1} → statement M
 lohandema-point-to-leaf-spec =
