@@ -26,10 +26,11 @@ use Rattle.grow.specs.declared.Grown.{Grown}
 use Rattle.grow.specs.declared.Grown.the-variants.{Nodes, Full}
 use Rattle.grow.specs.Queue.{Points, Grows}
 use Rattle.arrange.specs.Sources.{InLeaves}
-use Rattle.laying.specs.Points.{rowsOf, codesOf, part, laid}
+use Rattle.space.specs.Rows.{rowsOf}
+use Rattle.laying.specs.Points.{codesOf, part, laid}
 use Rattle.laying.proofs.Laying.{laid-first, laid-again, laid-third}
 use Rattle.laying.proofs.Prepared.{Passed}
-use Rattle.build.specs.Asked.{Asked, ruleOf, keyOf}
+use Rattle.build.specs.Asked.{Asked, ruleOf, builtKeys}
 
 -- ---- parts of the work whose lengths are differences
 module _ (g : Rule) (w : List ℕ) (n k m j : ℕ) (em : m ≡ n) (ej : j ≡ k) where
@@ -90,8 +91,8 @@ module _ (a : Asked) (room : ℕ) (p : Passed (a .box) (a .sources) (a .targets)
     order = some-targets;
   }
 
-  pub tree-leaves : InLeaves (a .box .axes) (keyOf a) s
-  unfolding keyOf
+  pub tree-leaves : InLeaves (a .box .axes) (builtKeys a) s
+  unfolding builtKeys
   tree-leaves =
       let known = axes-known (a .box .axes) (p .call .box .least) (p .call .box .most) in
       record {
@@ -118,23 +119,23 @@ module _ (a : Asked) (room : ℕ) (p : Passed (a .box) (a .sources) (a .targets)
         subst (λ (z : List ℕ). Points (ruleOf a) (part n n work) z) (sym third-part)
         (subst (λ (z : List ℕ). Points (ruleOf a) z (ascending t)) (sym second-part) sorted-points)
 
-    pub work-nodes : nodes (ruleOf a) (part n n work) (part (n + n) k work) ≡ keyOf a
-    unfolding keyOf
+    pub work-nodes : nodes (ruleOf a) (part n n work) (part (n + n) k work) ≡ builtKeys a
+    unfolding builtKeys
     work-nodes = ap₂ (λ (x y : List ℕ). nodes (ruleOf a) x y) second-part third-part ∙ nodes-sorted (ruleOf a) s t
 
-    pub work-leaves : (m : ℕ) (key : List ℕ) → take m key ≡ keyOf a → InLeaves (a .box .axes) (take m key) (take n work)
+    pub work-leaves : (m : ℕ) (key : List ℕ) → take m key ≡ builtKeys a → InLeaves (a .box .axes) (take m key) (take n work)
     work-leaves m key q =
         subst (λ (z : List ℕ). InLeaves (a .box .axes) (take m key) z) (sym first-part)
         (subst (λ (z : List ℕ). InLeaves (a .box .axes) z s) (sym q) tree-leaves)
 
     -- the nodes as they are grown into the key column
     pub work-grown : (key : List ℕ) (m : ℕ) (n′ : ℕ) (result : Grown) → result ≡ Nodes n′ → Grows key m (nodes (ruleOf a) (part n n work) (part (n + n) k work)) result
-        → (n′ ≡ length (keyOf a)) × (n′ ≤ m) × (take n′ key ≡ keyOf a)
+        → (n′ ≡ length (builtKeys a)) × (n′ ≤ m) × (take n′ key ≡ builtKeys a)
     work-grown key m n′ result told h =
         let g = subst (λ (r : Grown). Grows key m (nodes (ruleOf a) (part n n work) (part (n + n) k work)) r) told h in
         (g .0 ∙ ap length work-nodes, g .1, g .2 ∙ work-nodes)
 
-    pub work-full : (key : List ℕ) (m : ℕ) (result : Grown) → result ≡ Full → Grows key m (nodes (ruleOf a) (part n n work) (part (n + n) k work)) result → m < length (keyOf a)
+    pub work-full : (key : List ℕ) (m : ℕ) (result : Grown) → result ≡ Full → Grows key m (nodes (ruleOf a) (part n n work) (part (n + n) k work)) result → m < length (builtKeys a)
     work-full key m result told h =
         let g = subst (λ (r : Grown). Grows key m (nodes (ruleOf a) (part n n work) (part (n + n) k work)) r) told h in
         omega (arith, g, ap length work-nodes)

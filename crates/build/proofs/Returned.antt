@@ -33,9 +33,9 @@ use Rattle.growth.proofs.Found.{source-found}
 use Rattle.growth.proofs.Runs.{leaf-part}
 use Rattle.growth.proofs.Meets.{meets-once, meets-near}
 use Rattle.laying.specs.Points.{rowsOf, rowsInside, codesOf}
-use Rattle.laying.specs.Outcomes.{callOutcome, insideOutcome, workOutcome}
+use Rattle.laying.specs.Outcomes.{askedOutcome, insideOutcome, workOutcome}
 use Rattle.laying.proofs.Prepared.{Passed, passed}
-use Rattle.build.specs.Asked.{Asked, ruleOf, keyOf, ownOf, beginOf, orderOf}
+use Rattle.build.specs.Asked.{Asked, ruleOf, builtKeys, builtOwn, builtBegins, builtOrder}
 use Rattle.build.specs.Outcomes.{columnOutcome, buildOutcome}
 use Rattle.build.proofs.Growing.{codes-lt}
 
@@ -52,14 +52,14 @@ module _ (a : Asked) where
 
   -- the leaf of source number x
   abbrev pub leafOf : ℕ → ℕ
-  leafOf x = leafKey axes (keyOf a) (getD sources x 0)
+  leafOf x = leafKey axes (builtKeys a) (getD sources x 0)
 
   -- the U and V rows of the tree
   abbrev pub u : ℕ → List ℕ
-  u = uRow axes (keyOf a) (ownOf a)
+  u = uRow axes (builtKeys a) (builtOwn a)
 
   abbrev pub v : ℕ → List ℕ
-  v = vRow axes (keyOf a) (ownOf a)
+  v = vRow axes (builtKeys a) (builtOwn a)
 
   abbrev targets : List ℕ
   targets = codesOf (a .box) (a .targets)
@@ -69,16 +69,16 @@ module _ (a : Asked) where
 
   pub record Demand3 : Type 0 where
     -- each leaf meets each source exactly once, over its own U row and the V rows of itself and all its ancestors
-    pub once : (b x : ℕ) → leaf axes (keyOf a) b ≡ true → x < count → meetings axes u v b (leafOf x) ≡ 1
+    pub once : (b x : ℕ) → leaf axes (builtKeys a) b ≡ true → x < count → meetings axes u v b (leafOf x) ≡ 1
     -- in U exactly when the two leaves' cells at the coarser one's level coincide or touch
-    pub near : (b x : ℕ) → leaf axes (keyOf a) b ≡ true → x < count → brings axes (leafOf x) (u b) ≡ bit (close axes b (leafOf x))
+    pub near : (b x : ℕ) → leaf axes (builtKeys a) b ≡ true → x < count → brings axes (leafOf x) (u b) ≡ bit (close axes b (leafOf x))
     -- no V row pairs touching cells, and none is too long
-    pub far : Far axes (keyOf a) v
-    pub few : Few axes (keyOf a) v
+    pub far : Far axes (builtKeys a) v
+    pub few : Few axes (builtKeys a) v
 
 -- a build that is not refused, with so much work, room in the order column and room in the node columns
 module _ (a : Asked) (work order nodes : ℕ) (done : buildOutcome a work order nodes ≡ Done) where
-  points-done : callOutcome (a .box) (a .sources) (a .targets) (a .order) then insideOutcome (a .box) (a .sources) (a .targets) then workOutcome (a .box) (a .sources) (a .targets) work ≡ Done
+  points-done : askedOutcome (a .box) (a .sources) (a .targets) (a .order) then insideOutcome (a .box) (a .sources) (a .targets) then workOutcome (a .box) (a .sources) (a .targets) work ≡ Done
   points-done = both-done _ (columnOutcome a order nodes) done .0
 
   checks : Passed (a .box) (a .sources) (a .targets) (a .order) work
@@ -97,56 +97,56 @@ module _ (a : Asked) (work order nodes : ℕ) (done : buildOutcome a work order 
   pub built-inside : (x : ℕ) → x < count a → inside (frameOf (a .box)) (drop (x * axes a) (a .sources)) ≡ true
   unfolding insideOutcome
   built-inside x h =
-      let second = both-done (callOutcome (a .box) (a .sources) (a .targets) (a .order) then insideOutcome (a .box) (a .sources) (a .targets)) _ points-done in
-      let inner = both-done (callOutcome (a .box) (a .sources) (a .targets) (a .order)) (insideOutcome (a .box) (a .sources) (a .targets)) (second .0) .1 in
+      let second = both-done (askedOutcome (a .box) (a .sources) (a .targets) (a .order) then insideOutcome (a .box) (a .sources) (a .targets)) _ points-done in
+      let inner = both-done (askedOutcome (a .box) (a .sources) (a .targets) (a .order)) (insideOutcome (a .box) (a .sources) (a .targets)) (second .0) .1 in
       let first = both-done (ask (eqb (rowsInside (a .box) (a .sources)) (count a)) (Source (rowsInside (a .box) (a .sources)))) _ inner .0 in
       let all : rowsInside (a .box) (a .sources) ≡ count a = eqb-true (rowsInside (a .box) (a .sources)) (count a) (asked _ _ first) in
       row-inside (count a) x (frameOf (a .box)) (a .sources) (omega (arith, all))
 
   -- the tree is well formed
-  pub built-formed : wellFormed (axes a) (keyOf a) (ownOf a) (beginOf a) ≡ true
-  unfolding keyOf ownOf beginOf
+  pub built-formed : wellFormed (axes a) (builtKeys a) (builtOwn a) (builtBegins a) ≡ true
+  unfolding builtKeys builtOwn builtBegins
   built-formed = well-formed (ruleOf a) (sources a) (targets a) built-axes (codes-lt (a .box) (a .sources)) few
 
   -- its total is the number of sources
-  pub built-total : sum (ownOf a) ≡ count a
-  unfolding keyOf ownOf
+  pub built-total : sum (builtOwn a) ≡ count a
+  unfolding builtKeys builtOwn
   built-total = own-total (ruleOf a) (sources a) (targets a) built-axes (codes-lt (a .box) (a .sources)) ∙ as-many a
 
   -- its depth is at most 16
-  pub built-depth : depthOf (keyOf a) ≤ 16
-  unfolding keyOf
+  pub built-depth : depthOf (builtKeys a) ≤ 16
+  unfolding builtKeys
   built-depth = depth-most (ruleOf a) (sources a) (targets a) built-axes
 
   -- the order column is an arrangement of all source indices
-  pub built-order : ascending (orderOf a) ≡ range 0 (count a)
-  unfolding keyOf orderOf
+  pub built-order : ascending (builtOrder a) ≡ range 0 (count a)
+  unfolding builtKeys builtOrder
   built-order = order-arranged (ruleOf a) (sources a) (targets a) built-axes (codes-lt (a .box) (a .sources)) ∙ ap (range 0) (as-many a)
 
   -- a leaf's part of it: the indices of the sources whose code lies in that leaf, ascending
-  pub built-part : (j : ℕ) → j < length (keyOf a) → leaf (axes a) (keyOf a) (getD (keyOf a) j 0) ≡ true
-      → leafSources (ownOf a) (beginOf a) (orderOf a) j ≡ filter (λ x. holds (axes a) (getD (keyOf a) j 0) (getD (sources a) x 0)) (range 0 (count a))
-  unfolding ownOf beginOf orderOf indicesIn
+  pub built-part : (j : ℕ) → j < length (builtKeys a) → leaf (axes a) (builtKeys a) (getD (builtKeys a) j 0) ≡ true
+      → leafSources (builtOwn a) (builtBegins a) (builtOrder a) j ≡ filter (λ x. holds (axes a) (getD (builtKeys a) j 0) (getD (sources a) x 0)) (range 0 (count a))
+  unfolding builtOwn builtBegins builtOrder indicesIn
   built-part j h l =
-      leaf-part (axes a) (keyOf a) (sources a) j h
-      ∙ ap (λ (b : Bool). cond b (indicesIn (axes a) (sources a) (getD (keyOf a) j 0)) []) l
-      ∙ ap (λ (n : ℕ). filter (λ x. holds (axes a) (getD (keyOf a) j 0) (getD (sources a) x 0)) (range 0 n)) (as-many a)
+      leaf-part (axes a) (builtKeys a) (sources a) j h
+      ∙ ap (λ (b : Bool). cond b (indicesIn (axes a) (sources a) (getD (builtKeys a) j 0)) []) l
+      ∙ ap (λ (n : ℕ). filter (λ x. holds (axes a) (getD (builtKeys a) j 0) (getD (sources a) x 0)) (range 0 n)) (as-many a)
 
   -- a source whose index stands in a node's run has that node as its leaf
-  pub built-leaf : (j p : ℕ) → Run (ownOf a) (beginOf a) j p → leafOf a (getD (orderOf a) p 0) ≡ getD (keyOf a) j 0
-  unfolding keyOf ownOf beginOf orderOf
+  pub built-leaf : (j p : ℕ) → Run (builtOwn a) (builtBegins a) j p → leafOf a (getD (builtOrder a) p 0) ≡ getD (builtKeys a) j 0
+  unfolding builtKeys builtOwn builtBegins builtOrder
   built-leaf j p r = source-found (ruleOf a) (sources a) (targets a) built-axes j p r
 
   -- the tender's third demand
-  built-once : (b x : ℕ) → leaf (axes a) (keyOf a) b ≡ true → x < count a → meetings (axes a) (u a) (v a) b (leafOf a x) ≡ 1
-  unfolding keyOf ownOf
+  built-once : (b x : ℕ) → leaf (axes a) (builtKeys a) b ≡ true → x < count a → meetings (axes a) (u a) (v a) b (leafOf a x) ≡ 1
+  unfolding builtKeys builtOwn
   built-once b x l h = meets-once (ruleOf a) (sources a) (targets a) built-axes (codes-lt (a .box) (a .sources)) few b x l (omega (arith, as-many a))
 
-  built-near : (b x : ℕ) → leaf (axes a) (keyOf a) b ≡ true → x < count a → brings (axes a) (leafOf a x) (u a b) ≡ bit (close (axes a) b (leafOf a x))
-  unfolding keyOf ownOf
+  built-near : (b x : ℕ) → leaf (axes a) (builtKeys a) b ≡ true → x < count a → brings (axes a) (leafOf a x) (u a b) ≡ bit (close (axes a) b (leafOf a x))
+  unfolding builtKeys builtOwn
   built-near b x l h = meets-near (ruleOf a) (sources a) (targets a) built-axes (codes-lt (a .box) (a .sources)) few b x l (omega (arith, as-many a))
 
   pub built-demand-3 : Demand3 a
   built-demand-3 =
-      let whole = demand-3 (axes a) (keyOf a) (ownOf a) (beginOf a) built-formed in
+      let whole = demand-3 (axes a) (builtKeys a) (builtOwn a) (builtBegins a) built-formed in
       record { once = built-once; near = built-near; far = whole .3; few = whole .4 }

@@ -4,6 +4,7 @@ use mathlib.Core.List.{List, []}
 use Prim.Native.Nat.{ℕ}
 use lib.Ieee.{Float}
 use Rattle.space.specs.declared.Box.{Box}
+use Rattle.tree.specs.Columns.{Columns, columns}
 use Rattle.growth.specs.declared.Rule.{Rule}
 use Rattle.growth.specs.Nodes.{nodes}
 use Rattle.growth.specs.Columns.{ownColumn, beginColumn, orderColumn}
@@ -25,18 +26,25 @@ pub record Asked : Type 0 where
 abbrev pub asks : Box → ℕ → ℕ → Bool → List Float → List Float → Asked
 asks b limit order keep sources targets = record { box = b; limit = limit; order = order; keep = keep; sources = sources; targets = targets }
 
+-- what a call with these flags asks
+abbrev pub asksFor : Box → (sources targets : List Float) → (limit order : ℕ) → (keep refine : Bool) → Asked
+asksFor b sources targets limit order keep refine = asks b limit order keep sources (used keep refine targets)
+
 abbrev pub ruleOf : Asked → Rule
 ruleOf a = record { axes = a .box .axes; limit = a .limit; order = a .order; keep = a .keep }
 
 -- the columns of the tree
-unfoldable pub keyOf : Asked → List ℕ
-keyOf a = nodes (ruleOf a) (codesOf (a .box) (a .sources)) (codesOf (a .box) (a .targets))
+unfoldable pub builtKeys : Asked → List ℕ
+builtKeys a = nodes (ruleOf a) (codesOf (a .box) (a .sources)) (codesOf (a .box) (a .targets))
 
-unfoldable pub ownOf : Asked → List ℕ
-ownOf a = ownColumn (a .box .axes) (keyOf a) (codesOf (a .box) (a .sources))
+unfoldable pub builtOwn : Asked → List ℕ
+builtOwn a = ownColumn (a .box .axes) (builtKeys a) (codesOf (a .box) (a .sources))
 
-unfoldable pub beginOf : Asked → List ℕ
-beginOf a = beginColumn (ownOf a)
+unfoldable pub builtBegins : Asked → List ℕ
+builtBegins a = beginColumn (builtOwn a)
 
-unfoldable pub orderOf : Asked → List ℕ
-orderOf a = orderColumn (a .box .axes) (keyOf a) (codesOf (a .box) (a .sources))
+abbrev pub builtColumns : Asked → Columns
+builtColumns a = columns (builtKeys a) (builtOwn a) (builtBegins a)
+
+unfoldable pub builtOrder : Asked → List ℕ
+builtOrder a = orderColumn (a .box .axes) (builtKeys a) (codesOf (a .box) (a .sources))

@@ -8,13 +8,14 @@ use Rattle.refusal.specs.declared.Refusal.the-variants.{Room}
 use Rattle.refusal.specs.declared.Outcome.{Outcome}
 use Rattle.refusal.specs.declared.Outcome.the-variants.{Done, Refused}
 use Rattle.refusal.specs.Chain.{ask, _then_}
+use Rattle.refusal.specs.Left.{left}
 use Rattle.slices.specs.Lists.{filled}
 use Rattle.tree.specs.Nodes.{depthOf}
-use Rattle.laying.specs.Points.{rowsOf}
-use Rattle.laying.specs.Outcomes.{callOutcome, insideOutcome, workOutcome}
+use Rattle.space.specs.Rows.{rowsOf}
+use Rattle.laying.specs.Outcomes.{askedOutcome, insideOutcome, workOutcome}
 use Rattle.build.specs.declared.Built.{Built}
 use Rattle.build.specs.declared.Built.the-variants.{Tree, Refused as NotBuilt}
-use Rattle.build.specs.Asked.{Asked, keyOf, ownOf, beginOf, orderOf}
+use Rattle.build.specs.Asked.{Asked, builtKeys, builtOwn, builtBegins, builtOrder}
 
 -- the shortest of the three node columns, of which at most 1,048,576 entries count
 abbrev pub nodeRoom : ℕ → ℕ → ℕ → ℕ
@@ -22,11 +23,11 @@ nodeRoom key own begin = min 1048576 (min key (min own begin))
 
 -- 8 ROOM: 2 the order, 3 the node columns, of which `nodes` entries count
 unfoldable pub columnOutcome : Asked → ℕ → ℕ → Outcome
-columnOutcome a order nodes = ask (leb (rowsOf (a .box) (a .sources)) order) (Room 2) then ask (leb (length (keyOf a)) nodes) (Room 3)
+columnOutcome a order nodes = ask (leb (rowsOf (a .box) (a .sources)) order) (Room 2) then ask (leb (length (builtKeys a)) nodes) (Room 3)
 
 abbrev pub buildOutcome : Asked → ℕ → ℕ → ℕ → Outcome
 buildOutcome a work order nodes =
-    callOutcome (a .box) (a .sources) (a .targets) (a .order)
+    askedOutcome (a .box) (a .sources) (a .targets) (a .order)
     then insideOutcome (a .box) (a .sources) (a .targets)
     then workOutcome (a .box) (a .sources) (a .targets) work
     then columnOutcome a order nodes
@@ -36,15 +37,42 @@ abbrev pub treeOr : Outcome → List ℕ → Built
 treeOr Done key = Tree (length key) (depthOf key)
 treeOr (Refused r) key = NotBuilt r
 
--- a slice's end content: the answer and zeros, or zeros throughout
-abbrev pub written : Outcome → ℕ → List ℕ → List ℕ
-written Done room answer = filled room answer
-written (Refused r) room answer = replicate room 0
+-- how many entries the lent slices have: the work, the order column, and the three node columns
+pub record Rooms : Type 0 where
+  pub work : ℕ
+  pub order : ℕ
+  pub keys : ℕ
+  pub own : ℕ
+  pub begins : ℕ
+
+abbrev pub rooms : (work order keys own begins : ℕ) → Rooms
+rooms work order keys own begins = record { work = work; order = order; keys = keys; own = own; begins = begins }
+
+-- ---- a build with so much room
+module _ (a : Asked) (r : Rooms) where
+  abbrev pub buildCheck : Outcome
+  buildCheck = buildOutcome a (r .work) (r .order) (nodeRoom (r .keys) (r .own) (r .begins))
+
+  abbrev pub buildAnswer : Built
+  buildAnswer = treeOr buildCheck (builtKeys a)
+
+  -- what is left in each of the slices; all of the work is 0
+  abbrev pub orderLeft : List ℕ
+  orderLeft = left buildCheck (r .order) (builtOrder a)
+
+  abbrev pub keysLeft : List ℕ
+  keysLeft = left buildCheck (r .keys) (builtKeys a)
+
+  abbrev pub ownLeft : List ℕ
+  ownLeft = left buildCheck (r .own) (builtOwn a)
+
+  abbrev pub beginsLeft : List ℕ
+  beginsLeft = left buildCheck (r .begins) (builtBegins a)
 
 -- the slices after a build that is not refused, by the length of each
-pub record Columns (a : Asked) (work order key own begin : List ℕ) (works orders keys owns begins : ℕ) : Type 0 where
+pub record BuiltSlices (a : Asked) (work order key own begin : List ℕ) (works orders keys owns begins : ℕ) : Type 0 where
   pub worked : work ≡ replicate works 0
-  pub ordered : order ≡ filled orders (orderOf a)
-  pub keyed : key ≡ filled keys (keyOf a)
-  pub owned : own ≡ filled owns (ownOf a)
-  pub begun : begin ≡ filled begins (beginOf a)
+  pub ordered : order ≡ filled orders (builtOrder a)
+  pub keyed : key ≡ filled keys (builtKeys a)
+  pub owned : own ≡ filled owns (builtOwn a)
+  pub begun : begin ≡ filled begins (builtBegins a)

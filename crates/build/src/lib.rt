@@ -16,8 +16,8 @@ ghost use Rattle.growth.specs.Columns.{ownColumn, beginColumn, orderColumn};
 ghost use Rattle.grow.specs.Queue.{Points, Grows};
 ghost use Rattle.arrange.specs.Sources.{InLeaves};
 ghost use Rattle.laying.specs.Points.{part};
-ghost use Rattle.build.specs.Asked.{used, asks, keyOf, ownOf, beginOf, orderOf};
-ghost use Rattle.build.specs.Outcomes.{nodeRoom, buildOutcome, treeOr, written, Columns};
+ghost use Rattle.build.specs.Asked.{used, asks, asksFor};
+ghost use Rattle.build.specs.Outcomes.{nodeRoom, rooms, buildCheck, buildAnswer, orderLeft, keysLeft, ownLeft, beginsLeft, BuiltSlices};
 
 pub const MOST_NODES: usize = 1048576;
 
@@ -111,8 +111,12 @@ fn attempt(
     own: &mut [usize],
     begin: &mut [usize],
 ) -> Built
-    ensures { λ r. ⌜ r ≡ treeOr (buildOutcome (asks b limit order keep (now (sources .entry)) (now (targets .entry))) (length (now (work .entry))) (length (now (indices .entry))) (nodeRoom (length (now (key .entry))) (length (now (own .entry))) (length (now (begin .entry))))) (keyOf (asks b limit order keep (now (sources .entry)) (now (targets .entry)))) ⌝ }
-    ensures { λ _. ⌜ (buildOutcome (asks b limit order keep (now (sources .entry)) (now (targets .entry))) (length (now (work .entry))) (length (now (indices .entry))) (nodeRoom (length (now (key .entry))) (length (now (own .entry))) (length (now (begin .entry)))) ≡ Done → Columns (asks b limit order keep (now (sources .entry)) (now (targets .entry))) (now (work .exit)) (now (indices .exit)) (now (key .exit)) (now (own .exit)) (now (begin .exit)) (length (now (work .entry))) (length (now (indices .entry))) (length (now (key .entry))) (length (now (own .entry))) (length (now (begin .entry)))) ⌝ }
+    ensures { λ r. ⌜ r ≡ buildAnswer (asks b limit order keep (now (sources .entry)) (now (targets .entry)))
+        (rooms (length (now (work .entry))) (length (now (indices .entry))) (length (now (key .entry))) (length (now (own .entry))) (length (now (begin .entry)))) ⌝ }
+    ensures { λ _. ⌜ (buildCheck (asks b limit order keep (now (sources .entry)) (now (targets .entry)))
+        (rooms (length (now (work .entry))) (length (now (indices .entry))) (length (now (key .entry))) (length (now (own .entry))) (length (now (begin .entry)))) ≡ Done
+        → BuiltSlices (asks b limit order keep (now (sources .entry)) (now (targets .entry))) (now (work .exit)) (now (indices .exit)) (now (key .exit)) (now (own .exit)) (now (begin .exit))
+        (length (now (work .entry))) (length (now (indices .entry))) (length (now (key .entry))) (length (now (own .entry))) (length (now (begin .entry)))) ⌝ }
 {
     let prepared = laying::prepare(b, sources, targets, order, work);
     if let Outcome::Refused(refusal) = prepared {
@@ -178,12 +182,17 @@ pub fn build_tree(
     own: &mut [usize],
     begin: &mut [usize],
 ) -> Built
-    ensures { λ r. ⌜ r ≡ treeOr (buildOutcome (asks b limit order keep (now (sources .entry)) (used keep refine (now (targets .entry)))) (length (now (work .entry))) (length (now (indices .entry))) (nodeRoom (length (now (key .entry))) (length (now (own .entry))) (length (now (begin .entry))))) (keyOf (asks b limit order keep (now (sources .entry)) (used keep refine (now (targets .entry))))) ⌝ }
+    ensures { λ r. ⌜ r ≡ buildAnswer (asksFor b (now (sources .entry)) (now (targets .entry)) limit order keep refine)
+        (rooms (length (now (work .entry))) (length (now (indices .entry))) (length (now (key .entry))) (length (now (own .entry))) (length (now (begin .entry)))) ⌝ }
     ensures { λ _. ⌜ now (work .exit) ≡ replicate (length (now (work .entry))) 0 ⌝ }
-    ensures { λ _. ⌜ now (indices .exit) ≡ written (buildOutcome (asks b limit order keep (now (sources .entry)) (used keep refine (now (targets .entry)))) (length (now (work .entry))) (length (now (indices .entry))) (nodeRoom (length (now (key .entry))) (length (now (own .entry))) (length (now (begin .entry))))) (length (now (indices .entry))) (orderOf (asks b limit order keep (now (sources .entry)) (used keep refine (now (targets .entry))))) ⌝ }
-    ensures { λ _. ⌜ now (key .exit) ≡ written (buildOutcome (asks b limit order keep (now (sources .entry)) (used keep refine (now (targets .entry)))) (length (now (work .entry))) (length (now (indices .entry))) (nodeRoom (length (now (key .entry))) (length (now (own .entry))) (length (now (begin .entry))))) (length (now (key .entry))) (keyOf (asks b limit order keep (now (sources .entry)) (used keep refine (now (targets .entry))))) ⌝ }
-    ensures { λ _. ⌜ now (own .exit) ≡ written (buildOutcome (asks b limit order keep (now (sources .entry)) (used keep refine (now (targets .entry)))) (length (now (work .entry))) (length (now (indices .entry))) (nodeRoom (length (now (key .entry))) (length (now (own .entry))) (length (now (begin .entry))))) (length (now (own .entry))) (ownOf (asks b limit order keep (now (sources .entry)) (used keep refine (now (targets .entry))))) ⌝ }
-    ensures { λ _. ⌜ now (begin .exit) ≡ written (buildOutcome (asks b limit order keep (now (sources .entry)) (used keep refine (now (targets .entry)))) (length (now (work .entry))) (length (now (indices .entry))) (nodeRoom (length (now (key .entry))) (length (now (own .entry))) (length (now (begin .entry))))) (length (now (begin .entry))) (beginOf (asks b limit order keep (now (sources .entry)) (used keep refine (now (targets .entry))))) ⌝ }
+    ensures { λ _. ⌜ now (indices .exit) ≡ orderLeft (asksFor b (now (sources .entry)) (now (targets .entry)) limit order keep refine)
+        (rooms (length (now (work .entry))) (length (now (indices .entry))) (length (now (key .entry))) (length (now (own .entry))) (length (now (begin .entry)))) ⌝ }
+    ensures { λ _. ⌜ now (key .exit) ≡ keysLeft (asksFor b (now (sources .entry)) (now (targets .entry)) limit order keep refine)
+        (rooms (length (now (work .entry))) (length (now (indices .entry))) (length (now (key .entry))) (length (now (own .entry))) (length (now (begin .entry)))) ⌝ }
+    ensures { λ _. ⌜ now (own .exit) ≡ ownLeft (asksFor b (now (sources .entry)) (now (targets .entry)) limit order keep refine)
+        (rooms (length (now (work .entry))) (length (now (indices .entry))) (length (now (key .entry))) (length (now (own .entry))) (length (now (begin .entry)))) ⌝ }
+    ensures { λ _. ⌜ now (begin .exit) ≡ beginsLeft (asksFor b (now (sources .entry)) (now (targets .entry)) limit order keep refine)
+        (rooms (length (now (work .entry))) (length (now (indices .entry))) (length (now (key .entry))) (length (now (own .entry))) (length (now (begin .entry)))) ⌝ }
 {
     let marked = used_targets(targets, keep, refine);
     let built = attempt(

@@ -17,7 +17,7 @@ use Rattle.centres.specs.declared.SideLength.the-variants.{Side, Refused
 use Rattle.centres.specs.declared.Centred.{Centred}
 use Rattle.centres.specs.declared.Adjacent.{Adjacent}
 use Rattle.centres.specs.declared.Adjacent.the-variants.{Is, Refused as NoAnswer}
-use Rattle.space.specs.Floats.{sizeOf}
+use Rattle.space.specs.Floats.{nought, sizeOf}
 use Rattle.refusal.specs.Chain.{ask, _then_}
 use Rattle.space.specs.Domain.{boxOutcome, levelOutcome}
 use Rattle.space.specs.Cells.{onAxis, displacement, side}
@@ -51,9 +51,6 @@ abbrev pub sideLength : Box → ℕ → SideLength
 sideLength b level = sideOr (levelOutcome b level) (side (b .radius) level)
 
 -- ---- a cell's centre and side; zeros after a refusal
-abbrev pub nought : Float
-nought = fin false 0 (pos 0)
-
 abbrev pub centreOr : Outcome → List Float → Float → Centred
 centreOr Done c l = record { outcome = Done; centre = c; length = l }
 centreOr (Refused r) c l = record { outcome = Refused r; centre = nought ∷ nought ∷ nought ∷ []; length = nought }

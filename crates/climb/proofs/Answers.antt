@@ -15,7 +15,7 @@ use Rattle.slices.proofs.Tests.{and-l, and-r, both, clash, refute, lt-or-le}
 use Rattle.slices.proofs.Counts.{any-elim}
 use Rattle.morton.specs.Keys.{key, levelOf, codeOf, above, parent, under}
 use Rattle.morton.proofs.Cells.{above-zero, key-parts, key-level, key-code, level-parent}
-use Rattle.tree.specs.Nodes.{placeOf, stored, childOf, leaf, depthOf}
+use Rattle.tree.specs.Nodes.{nodeNumber, stored, childOf, leaf, depthOf}
 use Rattle.tree.proofs.Rules.{Ascending}
 use Rattle.tree.proofs.Stored.{stored-mem, mem-stored, earlier-at, code-lt, level-le, leaf-under}
 use Rattle.tree.proofs.Sourced.{Under, under-facts, facts-under}
@@ -85,7 +85,7 @@ pub record Ended (d : ℕ) (keys : List ℕ) (top code node : ℕ) : Type 0 wher
 pub climb-end : (d : ℕ) (keys : List ℕ) (top code node : ℕ) → top ≤ 16 → climbFrom d keys top code ≡ At node → Ended d keys top code node
 climb-end d keys top code node m h =
     let l = climbed d keys code top in
-    let f = found-if (ltb 0 l) (placeOf keys (cellOf d l code)) node h in
+    let f = found-if (ltb 0 l) (nodeNumber keys (cellOf d l code)) node h in
     let some = ltb-true 0 l (f .0) in
     let within = climb-le d code keys top in
     let s = place-stored keys (cellOf d l code) (leaf-stored d keys (cellOf d l code) (climb-leaf d code keys top some)) in

@@ -5,7 +5,7 @@ use mathlib.Core.List.{List}
 use Prim.Native.Nat.{ℕ, zero, suc, _-_}
 use lib.Dec.{ltb}
 use Rattle.morton.specs.Keys.{deepest, key, above}
-use Rattle.tree.specs.Nodes.{placeOf, leaf, depthOf}
+use Rattle.tree.specs.Nodes.{nodeNumber, leaf, depthOf}
 use Rattle.tree.specs.declared.Found.{Found}
 use Rattle.tree.specs.declared.Found.the-variants.{At, Nothing}
 
@@ -31,7 +31,7 @@ leafKey d keys code = cellOf d (leafLevel d keys code) code
 
 -- and its number
 abbrev pub leafNumber : ℕ → List ℕ → ℕ → ℕ
-leafNumber d keys code = placeOf keys (leafKey d keys code)
+leafNumber d keys code = nodeNumber keys (leafKey d keys code)
 
 -- the steps: the depth less the leaf's level
 abbrev pub stepsTo : ℕ → List ℕ → ℕ → ℕ
@@ -43,8 +43,8 @@ foundIf false node = Nothing
 
 -- the number of the node with key k, if it is a leaf
 abbrev pub leafWith : ℕ → List ℕ → ℕ → Found
-leafWith d keys k = foundIf (leaf d keys k) (placeOf keys k)
+leafWith d keys k = foundIf (leaf d keys k) (nodeNumber keys k)
 
 -- the number of the leaf at the end of a climb from level `top`
 abbrev pub climbFrom : ℕ → List ℕ → ℕ → ℕ → Found
-climbFrom d keys top code = foundIf (ltb 0 (climbed d keys code top)) (placeOf keys (cellOf d (climbed d keys code top) code))
+climbFrom d keys top code = foundIf (ltb 0 (climbed d keys code top)) (nodeNumber keys (cellOf d (climbed d keys code top) code))

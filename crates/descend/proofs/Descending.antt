@@ -18,7 +18,7 @@ use Rattle.slices.proofs.Counts.{any-intro}
 use Rattle.axes.specs.Axes.{axesKnown, childrenRoom}
 use Rattle.morton.specs.Keys.{key, levelOf, codeOf, above, parent}
 use Rattle.morton.proofs.Cells.{above-up, key-level, key-code, key-parts}
-use Rattle.tree.specs.Nodes.{before, placeOf, stored, childOf, leaf, depthOf}
+use Rattle.tree.specs.Nodes.{before, nodeNumber, stored, childOf, leaf, depthOf}
 use Rattle.tree.specs.WellFormed.{inOrder, keysAscend, parentsStored}
 use Rattle.tree.specs.Finding.{Children}
 use Rattle.tree.specs.declared.Found.{Found}
@@ -183,7 +183,7 @@ module _ (d : ℕ) (keys : List ℕ) (a : keysAscend d keys ≡ true) (p : paren
     pub descend-end : leafLevel d keys code ≤ l → node ≡ leafNumber d keys code
     descend-end b =
         let e : l ≡ leafLevel d keys code = omega (arith, s .within) in
-        sym (ap (placeOf keys) (sym (s .is ∙ ap (λ (n : ℕ). cellOf d n code) e)) ∙ place-is keys (distinct d keys asc) node (s .number))
+        sym (ap (nodeNumber keys) (sym (s .is ∙ ap (λ (n : ℕ). cellOf d n code) e)) ∙ place-is keys (distinct d keys asc) node (s .number))
 
     pub descend-deepest : 16 ≤ l → node ≡ leafNumber d keys code
     descend-deepest b = descend-end (omega (arith, deep))

@@ -4,16 +4,17 @@ use mathlib.Core.Bool.{Bool}
 use mathlib.Core.List.{List}
 use Prim.Native.Nat.{ℕ}
 use lib.Ieee.{Float}
+use Rattle.refusal.specs.Left.{left}
 use Rattle.space.specs.declared.Box.{Box}
 use Rattle.build.specs.declared.Built.{Built}
-use Rattle.build.specs.Asked.{Asked, asks, keyOf}
-use Rattle.build.specs.Outcomes.{nodeRoom, buildOutcome, treeOr, written}
+use Rattle.build.specs.Asked.{Asked, asks, builtKeys}
+use Rattle.build.specs.Outcomes.{nodeRoom, buildOutcome, treeOr}
 
 module _ {b x : Box} (limit order : ℕ) (keep : Bool) (sources targets : List Float) (work indices key own begin : ℕ) (e : b ≡ x) where
-  pub built-same : (a : Built) → a ≡ treeOr (buildOutcome (asks b limit order keep sources targets) work indices (nodeRoom key own begin)) (keyOf (asks b limit order keep sources targets))
-      → a ≡ treeOr (buildOutcome (asks x limit order keep sources targets) work indices (nodeRoom key own begin)) (keyOf (asks x limit order keep sources targets))
-  built-same a f = f ∙ ap (λ b. treeOr (buildOutcome (asks b limit order keep sources targets) work indices (nodeRoom key own begin)) (keyOf (asks b limit order keep sources targets))) e
+  pub built-same : (a : Built) → a ≡ treeOr (buildOutcome (asks b limit order keep sources targets) work indices (nodeRoom key own begin)) (builtKeys (asks b limit order keep sources targets))
+      → a ≡ treeOr (buildOutcome (asks x limit order keep sources targets) work indices (nodeRoom key own begin)) (builtKeys (asks x limit order keep sources targets))
+  built-same a f = f ∙ ap (λ b. treeOr (buildOutcome (asks b limit order keep sources targets) work indices (nodeRoom key own begin)) (builtKeys (asks b limit order keep sources targets))) e
 
-  pub column-same : (column : Asked → List ℕ) (n : ℕ) (out : List ℕ) → out ≡ written (buildOutcome (asks b limit order keep sources targets) work indices (nodeRoom key own begin)) n (column (asks b limit order keep sources targets))
-      → out ≡ written (buildOutcome (asks x limit order keep sources targets) work indices (nodeRoom key own begin)) n (column (asks x limit order keep sources targets))
-  column-same column n out f = f ∙ ap (λ b. written (buildOutcome (asks b limit order keep sources targets) work indices (nodeRoom key own begin)) n (column (asks b limit order keep sources targets))) e
+  pub column-same : (column : Asked → List ℕ) (n : ℕ) (out : List ℕ) → out ≡ left (buildOutcome (asks b limit order keep sources targets) work indices (nodeRoom key own begin)) n (column (asks b limit order keep sources targets))
+      → out ≡ left (buildOutcome (asks x limit order keep sources targets) work indices (nodeRoom key own begin)) n (column (asks x limit order keep sources targets))
+  column-same column n out f = f ∙ ap (λ b. left (buildOutcome (asks b limit order keep sources targets) work indices (nodeRoom key own begin)) n (column (asks b limit order keep sources targets))) e

@@ -4,8 +4,8 @@ use exports_keys::Ended;
 use refusal::Outcome;
 ghost use mathlib.Core.Path.{_≡_};
 ghost use lib.ListN.{length, replicate};
-ghost use Rattle.build.specs.Asked.{used, asks, keyOf, ownOf, beginOf, orderOf};
-ghost use Rattle.build.specs.Outcomes.{nodeRoom, buildOutcome, treeOr, written};
+ghost use Rattle.build.specs.Asked.{asksFor};
+ghost use Rattle.build.specs.Outcomes.{rooms, buildAnswer, orderLeft, keysLeft, ownLeft, beginsLeft};
 ghost use Rattle.exports_keys.specs.Told.{told};
 ghost use Rattle.exports_points.specs.Boxes.{boxAt};
 ghost use Rattle.exports_build.specs.Told.{builtEnd, nodesIn, depthIn};
@@ -50,14 +50,21 @@ pub extern "C" fn lohandema_build_tree(
     nodes: &mut usize,
     depth: &mut u64,
 ) -> Ended
-    ensures ended { λ r. ⌜ r ≡ told (builtEnd (treeOr (buildOutcome (asks (boxAt (now (centre .entry)) radius axes) limit order keep (now (sources .entry)) (used keep refine (now (targets .entry)))) (length (now (work .entry))) (length (now (indices .entry))) (nodeRoom (length (now (key .entry))) (length (now (own .entry))) (length (now (begin .entry))))) (keyOf (asks (boxAt (now (centre .entry)) radius axes) limit order keep (now (sources .entry)) (used keep refine (now (targets .entry))))))) ⌝ }
+    ensures ended { λ r. ⌜ r ≡ told (builtEnd (buildAnswer (asksFor (boxAt (now (centre .entry)) radius axes) (now (sources .entry)) (now (targets .entry)) limit order keep refine)
+        (rooms (length (now (work .entry))) (length (now (indices .entry))) (length (now (key .entry))) (length (now (own .entry))) (length (now (begin .entry)))))) ⌝ }
     ensures work { λ _. ⌜ now (work .exit) ≡ replicate (length (now (work .entry))) 0 ⌝ }
-    ensures indices { λ _. ⌜ now (indices .exit) ≡ written (buildOutcome (asks (boxAt (now (centre .entry)) radius axes) limit order keep (now (sources .entry)) (used keep refine (now (targets .entry)))) (length (now (work .entry))) (length (now (indices .entry))) (nodeRoom (length (now (key .entry))) (length (now (own .entry))) (length (now (begin .entry))))) (length (now (indices .entry))) (orderOf (asks (boxAt (now (centre .entry)) radius axes) limit order keep (now (sources .entry)) (used keep refine (now (targets .entry))))) ⌝ }
-    ensures key { λ _. ⌜ now (key .exit) ≡ written (buildOutcome (asks (boxAt (now (centre .entry)) radius axes) limit order keep (now (sources .entry)) (used keep refine (now (targets .entry)))) (length (now (work .entry))) (length (now (indices .entry))) (nodeRoom (length (now (key .entry))) (length (now (own .entry))) (length (now (begin .entry))))) (length (now (key .entry))) (keyOf (asks (boxAt (now (centre .entry)) radius axes) limit order keep (now (sources .entry)) (used keep refine (now (targets .entry))))) ⌝ }
-    ensures own { λ _. ⌜ now (own .exit) ≡ written (buildOutcome (asks (boxAt (now (centre .entry)) radius axes) limit order keep (now (sources .entry)) (used keep refine (now (targets .entry)))) (length (now (work .entry))) (length (now (indices .entry))) (nodeRoom (length (now (key .entry))) (length (now (own .entry))) (length (now (begin .entry))))) (length (now (own .entry))) (ownOf (asks (boxAt (now (centre .entry)) radius axes) limit order keep (now (sources .entry)) (used keep refine (now (targets .entry))))) ⌝ }
-    ensures begin { λ _. ⌜ now (begin .exit) ≡ written (buildOutcome (asks (boxAt (now (centre .entry)) radius axes) limit order keep (now (sources .entry)) (used keep refine (now (targets .entry)))) (length (now (work .entry))) (length (now (indices .entry))) (nodeRoom (length (now (key .entry))) (length (now (own .entry))) (length (now (begin .entry))))) (length (now (begin .entry))) (beginOf (asks (boxAt (now (centre .entry)) radius axes) limit order keep (now (sources .entry)) (used keep refine (now (targets .entry))))) ⌝ }
-    ensures nodes { λ _. ⌜ now (nodes .exit) ≡ nodesIn (treeOr (buildOutcome (asks (boxAt (now (centre .entry)) radius axes) limit order keep (now (sources .entry)) (used keep refine (now (targets .entry)))) (length (now (work .entry))) (length (now (indices .entry))) (nodeRoom (length (now (key .entry))) (length (now (own .entry))) (length (now (begin .entry))))) (keyOf (asks (boxAt (now (centre .entry)) radius axes) limit order keep (now (sources .entry)) (used keep refine (now (targets .entry)))))) ⌝ }
-    ensures depth { λ _. ⌜ now (depth .exit) ≡ depthIn (treeOr (buildOutcome (asks (boxAt (now (centre .entry)) radius axes) limit order keep (now (sources .entry)) (used keep refine (now (targets .entry)))) (length (now (work .entry))) (length (now (indices .entry))) (nodeRoom (length (now (key .entry))) (length (now (own .entry))) (length (now (begin .entry))))) (keyOf (asks (boxAt (now (centre .entry)) radius axes) limit order keep (now (sources .entry)) (used keep refine (now (targets .entry)))))) ⌝ }
+    ensures indices { λ _. ⌜ now (indices .exit) ≡ orderLeft (asksFor (boxAt (now (centre .entry)) radius axes) (now (sources .entry)) (now (targets .entry)) limit order keep refine)
+        (rooms (length (now (work .entry))) (length (now (indices .entry))) (length (now (key .entry))) (length (now (own .entry))) (length (now (begin .entry)))) ⌝ }
+    ensures key { λ _. ⌜ now (key .exit) ≡ keysLeft (asksFor (boxAt (now (centre .entry)) radius axes) (now (sources .entry)) (now (targets .entry)) limit order keep refine)
+        (rooms (length (now (work .entry))) (length (now (indices .entry))) (length (now (key .entry))) (length (now (own .entry))) (length (now (begin .entry)))) ⌝ }
+    ensures own { λ _. ⌜ now (own .exit) ≡ ownLeft (asksFor (boxAt (now (centre .entry)) radius axes) (now (sources .entry)) (now (targets .entry)) limit order keep refine)
+        (rooms (length (now (work .entry))) (length (now (indices .entry))) (length (now (key .entry))) (length (now (own .entry))) (length (now (begin .entry)))) ⌝ }
+    ensures begin { λ _. ⌜ now (begin .exit) ≡ beginsLeft (asksFor (boxAt (now (centre .entry)) radius axes) (now (sources .entry)) (now (targets .entry)) limit order keep refine)
+        (rooms (length (now (work .entry))) (length (now (indices .entry))) (length (now (key .entry))) (length (now (own .entry))) (length (now (begin .entry)))) ⌝ }
+    ensures nodes { λ _. ⌜ now (nodes .exit) ≡ nodesIn (buildAnswer (asksFor (boxAt (now (centre .entry)) radius axes) (now (sources .entry)) (now (targets .entry)) limit order keep refine)
+        (rooms (length (now (work .entry))) (length (now (indices .entry))) (length (now (key .entry))) (length (now (own .entry))) (length (now (begin .entry))))) ⌝ }
+    ensures depth { λ _. ⌜ now (depth .exit) ≡ depthIn (buildAnswer (asksFor (boxAt (now (centre .entry)) radius axes) (now (sources .entry)) (now (targets .entry)) limit order keep refine)
+        (rooms (length (now (work .entry))) (length (now (indices .entry))) (length (now (key .entry))) (length (now (own .entry))) (length (now (begin .entry))))) ⌝ }
 {
     let b = exports_points::box_at(centre, radius, axes);
     let answer = build::build_tree(

@@ -5,10 +5,9 @@ use near_work::WorkAnswer;
 use refusal::Outcome;
 ghost use mathlib.Core.Path.{_≡_};
 ghost use lib.ListN.{length};
-ghost use Rattle.rows.specs.Lists.{uRow, vRow};
-ghost use Rattle.rows.specs.Written.{rowStarts, rowKeys};
-ghost use Rattle.interaction.specs.Answers.{listsAnswer, left};
-ghost use Rattle.near_work.specs.Answers.{workAnswer, left as leftBy};
+ghost use Rattle.tree.specs.Columns.{columns};
+ghost use Rattle.interaction.specs.Answers.{listsAnswer, uStartsLeft, uKeysLeft, vStartsLeft, vKeysLeft};
+ghost use Rattle.near_work.specs.Answers.{workAnswer, workStartsLeft, workKeysLeft};
 ghost use Rattle.exports_keys.specs.Told.{told};
 ghost use Rattle.exports_lists.specs.Told.{listsEnd, uIn, vIn, workEnd, workIn};
 
@@ -45,13 +44,20 @@ pub extern "C" fn lohandema_get_interaction_lists(
     u: &mut usize,
     v: &mut usize,
 ) -> Ended
-    ensures ended { λ r. ⌜ r ≡ told (listsEnd (listsAnswer axes (now (key .entry)) (now (own .entry)) (now (begin .entry)) (length (now («u_starts» .entry))) (length (now («u_keys» .entry))) (length (now («v_starts» .entry))) (length (now («v_keys» .entry))))) ⌝ }
-    ensures u_starts { λ _. ⌜ now («u_starts» .exit) ≡ left (listsAnswer axes (now (key .entry)) (now (own .entry)) (now (begin .entry)) (length (now («u_starts» .entry))) (length (now («u_keys» .entry))) (length (now («v_starts» .entry))) (length (now («v_keys» .entry)))) (length (now («u_starts» .entry))) (rowStarts (uRow axes (now (key .entry)) (now (own .entry))) (now (key .entry))) ⌝ }
-    ensures u_keys { λ _. ⌜ now («u_keys» .exit) ≡ left (listsAnswer axes (now (key .entry)) (now (own .entry)) (now (begin .entry)) (length (now («u_starts» .entry))) (length (now («u_keys» .entry))) (length (now («v_starts» .entry))) (length (now («v_keys» .entry)))) (length (now («u_keys» .entry))) (rowKeys (uRow axes (now (key .entry)) (now (own .entry))) (now (key .entry))) ⌝ }
-    ensures v_starts { λ _. ⌜ now («v_starts» .exit) ≡ left (listsAnswer axes (now (key .entry)) (now (own .entry)) (now (begin .entry)) (length (now («u_starts» .entry))) (length (now («u_keys» .entry))) (length (now («v_starts» .entry))) (length (now («v_keys» .entry)))) (length (now («v_starts» .entry))) (rowStarts (vRow axes (now (key .entry)) (now (own .entry))) (now (key .entry))) ⌝ }
-    ensures v_keys { λ _. ⌜ now («v_keys» .exit) ≡ left (listsAnswer axes (now (key .entry)) (now (own .entry)) (now (begin .entry)) (length (now («u_starts» .entry))) (length (now («u_keys» .entry))) (length (now («v_starts» .entry))) (length (now («v_keys» .entry)))) (length (now («v_keys» .entry))) (rowKeys (vRow axes (now (key .entry)) (now (own .entry))) (now (key .entry))) ⌝ }
-    ensures u { λ _. ⌜ now (u .exit) ≡ uIn (listsAnswer axes (now (key .entry)) (now (own .entry)) (now (begin .entry)) (length (now («u_starts» .entry))) (length (now («u_keys» .entry))) (length (now («v_starts» .entry))) (length (now («v_keys» .entry)))) ⌝ }
-    ensures v { λ _. ⌜ now (v .exit) ≡ vIn (listsAnswer axes (now (key .entry)) (now (own .entry)) (now (begin .entry)) (length (now («u_starts» .entry))) (length (now («u_keys» .entry))) (length (now («v_starts» .entry))) (length (now («v_keys» .entry)))) ⌝ }
+    ensures ended { λ r. ⌜ r ≡ told (listsEnd (listsAnswer axes (columns (now (key .entry)) (now (own .entry)) (now (begin .entry)))
+        (length (now («u_starts» .entry))) (length (now («u_keys» .entry))) (length (now («v_starts» .entry))) (length (now («v_keys» .entry))))) ⌝ }
+    ensures u_starts { λ _. ⌜ now («u_starts» .exit) ≡ uStartsLeft axes (columns (now (key .entry)) (now (own .entry)) (now (begin .entry)))
+        (length (now («u_starts» .entry))) (length (now («u_keys» .entry))) (length (now («v_starts» .entry))) (length (now («v_keys» .entry))) ⌝ }
+    ensures u_keys { λ _. ⌜ now («u_keys» .exit) ≡ uKeysLeft axes (columns (now (key .entry)) (now (own .entry)) (now (begin .entry)))
+        (length (now («u_starts» .entry))) (length (now («u_keys» .entry))) (length (now («v_starts» .entry))) (length (now («v_keys» .entry))) ⌝ }
+    ensures v_starts { λ _. ⌜ now («v_starts» .exit) ≡ vStartsLeft axes (columns (now (key .entry)) (now (own .entry)) (now (begin .entry)))
+        (length (now («u_starts» .entry))) (length (now («u_keys» .entry))) (length (now («v_starts» .entry))) (length (now («v_keys» .entry))) ⌝ }
+    ensures v_keys { λ _. ⌜ now («v_keys» .exit) ≡ vKeysLeft axes (columns (now (key .entry)) (now (own .entry)) (now (begin .entry)))
+        (length (now («u_starts» .entry))) (length (now («u_keys» .entry))) (length (now («v_starts» .entry))) (length (now («v_keys» .entry))) ⌝ }
+    ensures u { λ _. ⌜ now (u .exit) ≡ uIn (listsAnswer axes (columns (now (key .entry)) (now (own .entry)) (now (begin .entry)))
+        (length (now («u_starts» .entry))) (length (now («u_keys» .entry))) (length (now («v_starts» .entry))) (length (now («v_keys» .entry)))) ⌝ }
+    ensures v { λ _. ⌜ now (v .exit) ≡ vIn (listsAnswer axes (columns (now (key .entry)) (now (own .entry)) (now (begin .entry)))
+        (length (now («u_starts» .entry))) (length (now («u_keys» .entry))) (length (now («v_starts» .entry))) (length (now («v_keys» .entry)))) ⌝ }
 {
     let answer = interaction::get_interaction_lists(
         axes,
@@ -77,10 +83,13 @@ pub extern "C" fn lohandema_get_near_work(
     flat: &mut [u64],
     work: &mut u64,
 ) -> Ended
-    ensures ended { λ r. ⌜ r ≡ told (workEnd (workAnswer axes (now (key .entry)) (now (own .entry)) (now (begin .entry)) (length (now (starts .entry))) (length (now (flat .entry))))) ⌝ }
-    ensures starts { λ _. ⌜ now (starts .exit) ≡ leftBy (workAnswer axes (now (key .entry)) (now (own .entry)) (now (begin .entry)) (length (now (starts .entry))) (length (now (flat .entry)))) (length (now (starts .entry))) (rowStarts (uRow axes (now (key .entry)) (now (own .entry))) (now (key .entry))) ⌝ }
-    ensures flat { λ _. ⌜ now (flat .exit) ≡ leftBy (workAnswer axes (now (key .entry)) (now (own .entry)) (now (begin .entry)) (length (now (starts .entry))) (length (now (flat .entry)))) (length (now (flat .entry))) (rowKeys (uRow axes (now (key .entry)) (now (own .entry))) (now (key .entry))) ⌝ }
-    ensures work { λ _. ⌜ now (work .exit) ≡ workIn (workAnswer axes (now (key .entry)) (now (own .entry)) (now (begin .entry)) (length (now (starts .entry))) (length (now (flat .entry)))) ⌝ }
+    ensures ended { λ r. ⌜ r ≡ told (workEnd (workAnswer axes (columns (now (key .entry)) (now (own .entry)) (now (begin .entry)))
+        (length (now (starts .entry))) (length (now (flat .entry))))) ⌝ }
+    ensures starts { λ _. ⌜ now (starts .exit) ≡ workStartsLeft axes (columns (now (key .entry)) (now (own .entry)) (now (begin .entry)))
+        (length (now (starts .entry))) (length (now (flat .entry))) ⌝ }
+    ensures flat { λ _. ⌜ now (flat .exit) ≡ workKeysLeft axes (columns (now (key .entry)) (now (own .entry)) (now (begin .entry))) (length (now (starts .entry))) (length (now (flat .entry))) ⌝ }
+    ensures work { λ _. ⌜ now (work .exit) ≡ workIn (workAnswer axes (columns (now (key .entry)) (now (own .entry)) (now (begin .entry)))
+        (length (now (starts .entry))) (length (now (flat .entry)))) ⌝ }
 {
     let answer = near_work::get_near_work(axes, key, own, begin, starts, flat);
     match answer {

@@ -1,14 +1,14 @@
 -- What the C face tells of the answers on points: how the call ended, and what was answered, 0 or false after a refusal.
 use mathlib.Core.Bool.{Bool, true, false}
 use Prim.Native.Nat.{ℕ}
-use lib.IntN.{pos}
-use lib.Ieee.{Float, fin}
+use lib.Ieee.{Float}
 use Rattle.refusal.specs.declared.Refusal.the-variants.{Dims}
 use Rattle.refusal.specs.declared.Outcome.{Outcome}
 use Rattle.refusal.specs.declared.Outcome.the-variants.{Done, Refused}
 use Rattle.refusal.specs.Chain.{ask}
 use Rattle.morton.specs.Keys.{axesKnown}
 use Rattle.morton.specs.Depth.{referenceDepth}
+use Rattle.space.specs.Floats.{nought}
 use Rattle.points.specs.declared.PointKey.{PointKey}
 use Rattle.points.specs.declared.PointKey.the-variants as point
 use Rattle.centres.specs.declared.SideLength.{SideLength}
@@ -20,9 +20,9 @@ abbrev pub cellEnd : PointKey → Outcome
 cellEnd (point.Cell k) = Done
 cellEnd (point.Refused r) = Refused r
 
-abbrev pub cellIn : PointKey → ℕ
-cellIn (point.Cell k) = k
-cellIn (point.Refused r) = 0
+abbrev pub keyIn : PointKey → ℕ
+keyIn (point.Cell k) = k
+keyIn (point.Refused r) = 0
 
 abbrev pub sideEnd : SideLength → Outcome
 sideEnd (side.Side x) = Done
@@ -30,7 +30,7 @@ sideEnd (side.Refused r) = Refused r
 
 abbrev pub sideIn : SideLength → Float
 sideIn (side.Side x) = x
-sideIn (side.Refused r) = fin false 0 (pos 0)
+sideIn (side.Refused r) = nought
 
 abbrev pub adjacentEnd : Adjacent → Outcome
 adjacentEnd (adjacent.Is b) = Done
@@ -48,5 +48,5 @@ abbrev pub depthOr : Outcome → ℕ → ℕ
 depthOr Done depth = depth
 depthOr (Refused r) depth = 0
 
-abbrev pub depthIn : ℕ → ℕ → ℕ
-depthIn d sources = depthOr (depthEnd d) (referenceDepth d sources)
+abbrev pub referenceDepthIn : ℕ → ℕ → ℕ
+referenceDepthIn d sources = depthOr (depthEnd d) (referenceDepth d sources)

@@ -13,7 +13,7 @@ ghost use Rattle.points.specs.Calls.{pointToAnchor, pointToKey};
 ghost use Rattle.centres.specs.Centres.{sideLength, centreLength, areAdjacent};
 ghost use Rattle.extents.specs.Extents.{treeBox};
 ghost use Rattle.exports_points.specs.Boxes.{boxAt};
-ghost use Rattle.exports_points.specs.Told.{cellEnd, cellIn, sideEnd, sideIn, adjacentEnd, adjacentIn, depthEnd, depthIn};
+ghost use Rattle.exports_points.specs.Told.{cellEnd, keyIn, sideEnd, sideIn, adjacentEnd, adjacentIn, depthEnd, referenceDepthIn};
 
 pub fn box_at(centre: &[f64; 3], radius: f64, axes: usize) -> Box
     ensures { λ r. ⌜ r ≡ boxAt (now (centre .entry)) radius axes ⌝ }
@@ -66,7 +66,7 @@ pub extern "C" fn lohandema_point_to_key(
     key: &mut u64,
 ) -> Ended
     ensures ended { λ r. ⌜ r ≡ told (cellEnd (pointToKey (boxAt (now (centre .entry)) radius axes) (now (point .entry)) level)) ⌝ }
-    ensures key { λ _. ⌜ now (key .exit) ≡ cellIn (pointToKey (boxAt (now (centre .entry)) radius axes) (now (point .entry)) level) ⌝ }
+    ensures key { λ _. ⌜ now (key .exit) ≡ keyIn (pointToKey (boxAt (now (centre .entry)) radius axes) (now (point .entry)) level) ⌝ }
 {
     let b = box_at(centre, radius, axes);
     let place = *point;
@@ -180,7 +180,7 @@ pub extern "C" fn lohandema_calculate_tree_center_and_radius(
 #[no_mangle]
 pub extern "C" fn lohandema_reference_depth(axes: usize, sources: usize, depth: &mut u64) -> Ended
     ensures ended { λ r. ⌜ r ≡ told (depthEnd axes) ⌝ }
-    ensures depth { λ _. ⌜ now (depth .exit) ≡ depthIn axes sources ⌝ }
+    ensures depth { λ _. ⌜ now (depth .exit) ≡ referenceDepthIn axes sources ⌝ }
 {
     if !axes::axes_known(axes) {
         *depth = 0;

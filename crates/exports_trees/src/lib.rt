@@ -9,13 +9,13 @@ ghost use mathlib.Core.Bool.{_&&_};
 ghost use Prim.Native.Nat.{_*_, _≤_};
 ghost use lib.ListN.{length, take, drop};
 ghost use Rattle.morton.specs.Keys.{axesKnown};
+ghost use Rattle.tree.specs.Columns.{columns};
 ghost use Rattle.tree.specs.Nodes.{depthOf};
 ghost use Rattle.tree.specs.WellFormed.{wellFormed};
 ghost use Rattle.tree.specs.Sources.{leafSources};
-ghost use Rattle.grouping.specs.Groups.{grouped};
-ghost use Rattle.grouping.specs.Batches.{written};
-ghost use Rattle.leaf_points.specs.Grouping.{groupStarts, groupOutcome};
-ghost use Rattle.lookup.specs.Batch.{leafKeys, stepsSum, rowsOf, codesInside, lookupOutcome, foundOr};
+ghost use Rattle.leaf_points.specs.Grouping.{groupOutcome, groupStartsLeft, groupIndicesLeft};
+ghost use Rattle.space.specs.Rows.{rowsOf};
+ghost use Rattle.lookup.specs.Batch.{lookupOutcome, lookupAnswer, lookupLeft};
 ghost use Rattle.lookup.specs.Single.{pointToLeaf};
 ghost use Rattle.sourced.specs.Answers.{cellsAnswer, cellsLeft};
 ghost use Rattle.exports_keys.specs.Told.{told};
@@ -76,9 +76,12 @@ pub extern "C" fn lohandema_points_to_keys(
     output: &mut [u64],
     steps: &mut usize,
 ) -> Ended
-    ensures ended { λ r. ⌜ r ≡ told (lookupOutcome (boxAt (now (centre .entry)) radius axes) (now (key .entry)) (now (own .entry)) (now (begin .entry)) (now (points .entry)) (length (now (output .entry)))) ⌝ }
-    ensures output { λ _. ⌜ now (output .exit) ≡ written (lookupOutcome (boxAt (now (centre .entry)) radius axes) (now (key .entry)) (now (own .entry)) (now (begin .entry)) (now (points .entry)) (length (now (output .entry)))) (length (now (output .entry))) (leafKeys axes (now (key .entry)) (codesInside (boxAt (now (centre .entry)) radius axes) (now (points .entry)))) ⌝ }
-    ensures steps { λ _. ⌜ now (steps .exit) ≡ stepsIn (foundOr (lookupOutcome (boxAt (now (centre .entry)) radius axes) (now (key .entry)) (now (own .entry)) (now (begin .entry)) (now (points .entry)) (length (now (output .entry)))) (stepsSum axes (now (key .entry)) (codesInside (boxAt (now (centre .entry)) radius axes) (now (points .entry))))) ⌝ }
+    ensures ended { λ r. ⌜ r ≡ told (lookupOutcome (boxAt (now (centre .entry)) radius axes) (columns (now (key .entry)) (now (own .entry)) (now (begin .entry)))
+        (now (points .entry)) (length (now (output .entry)))) ⌝ }
+    ensures output { λ _. ⌜ now (output .exit) ≡ lookupLeft (boxAt (now (centre .entry)) radius axes) (columns (now (key .entry)) (now (own .entry)) (now (begin .entry)))
+        (now (points .entry)) (length (now (output .entry))) ⌝ }
+    ensures steps { λ _. ⌜ now (steps .exit) ≡ stepsIn (lookupAnswer (boxAt (now (centre .entry)) radius axes) (columns (now (key .entry)) (now (own .entry)) (now (begin .entry)))
+        (now (points .entry)) (length (now (output .entry)))) ⌝ }
     ensures few { λ _. ⌜ now (steps .exit) ≤ 15 * rowsOf (boxAt (now (centre .entry)) radius axes) (now (points .entry)) ⌝ }
 {
     let b = exports_points::box_at(centre, radius, axes);
@@ -108,9 +111,12 @@ pub extern "C" fn lohandema_point_to_leaf(
     leaf: &mut u64,
     steps: &mut u64,
 ) -> Ended
-    ensures ended { λ r. ⌜ r ≡ told (leafEnd (pointToLeaf (boxAt (now (centre .entry)) radius axes) (now (key .entry)) (now (own .entry)) (now (begin .entry)) (now (point .entry)))) ⌝ }
-    ensures leaf { λ _. ⌜ now (leaf .exit) ≡ leafIn (pointToLeaf (boxAt (now (centre .entry)) radius axes) (now (key .entry)) (now (own .entry)) (now (begin .entry)) (now (point .entry))) ⌝ }
-    ensures steps { λ _. ⌜ now (steps .exit) ≡ climbedIn (pointToLeaf (boxAt (now (centre .entry)) radius axes) (now (key .entry)) (now (own .entry)) (now (begin .entry)) (now (point .entry))) ⌝ }
+    ensures ended { λ r. ⌜ r ≡ told (leafEnd (pointToLeaf (boxAt (now (centre .entry)) radius axes)
+        (columns (now (key .entry)) (now (own .entry)) (now (begin .entry))) (now (point .entry)))) ⌝ }
+    ensures leaf { λ _. ⌜ now (leaf .exit) ≡ leafIn (pointToLeaf (boxAt (now (centre .entry)) radius axes)
+        (columns (now (key .entry)) (now (own .entry)) (now (begin .entry))) (now (point .entry))) ⌝ }
+    ensures steps { λ _. ⌜ now (steps .exit) ≡ climbedIn (pointToLeaf (boxAt (now (centre .entry)) radius axes)
+        (columns (now (key .entry)) (now (own .entry)) (now (begin .entry))) (now (point .entry))) ⌝ }
     ensures few { λ _. ⌜ now (steps .exit) ≤ 15 ⌝ }
 {
     let b = exports_points::box_at(centre, radius, axes);
@@ -140,9 +146,12 @@ pub extern "C" fn lohandema_get_points_to_leaves_map(
     starts: &mut [usize],
     indices: &mut [usize],
 ) -> Ended
-    ensures ended { λ r. ⌜ r ≡ told (groupOutcome axes (now (key .entry)) (now (own .entry)) (now (begin .entry)) (now (points .entry)) (length (now (starts .entry))) (length (now (indices .entry)))) ⌝ }
-    ensures starts { λ _. ⌜ now (starts .exit) ≡ written (groupOutcome axes (now (key .entry)) (now (own .entry)) (now (begin .entry)) (now (points .entry)) (length (now (starts .entry))) (length (now (indices .entry)))) (length (now (starts .entry))) (groupStarts (now (points .entry)) (now (key .entry))) ⌝ }
-    ensures indices { λ _. ⌜ now (indices .exit) ≡ written (groupOutcome axes (now (key .entry)) (now (own .entry)) (now (begin .entry)) (now (points .entry)) (length (now (starts .entry))) (length (now (indices .entry)))) (length (now (indices .entry))) (grouped (now (points .entry)) (now (key .entry))) ⌝ }
+    ensures ended { λ r. ⌜ r ≡ told (groupOutcome axes (columns (now (key .entry)) (now (own .entry)) (now (begin .entry)))
+        (now (points .entry)) (length (now (starts .entry))) (length (now (indices .entry)))) ⌝ }
+    ensures starts { λ _. ⌜ now (starts .exit) ≡ groupStartsLeft axes (columns (now (key .entry)) (now (own .entry)) (now (begin .entry)))
+        (now (points .entry)) (length (now (starts .entry))) (length (now (indices .entry))) ⌝ }
+    ensures indices { λ _. ⌜ now (indices .exit) ≡ groupIndicesLeft axes (columns (now (key .entry)) (now (own .entry)) (now (begin .entry)))
+        (now (points .entry)) (length (now (starts .entry))) (length (now (indices .entry))) ⌝ }
 {
     let end = leaf_points::get_points_to_leaves_map(axes, key, own, begin, points, starts, indices);
     exports_keys::end_of(end)
@@ -157,9 +166,9 @@ pub extern "C" fn lohandema_get_sourced_cells(
     cells: &mut [u64],
     count: &mut usize,
 ) -> Ended
-    ensures ended { λ r. ⌜ r ≡ told (cellsEnd (cellsAnswer axes (now (key .entry)) (now (own .entry)) (now (begin .entry)) (length (now (cells .entry))))) ⌝ }
-    ensures cells { λ _. ⌜ now (cells .exit) ≡ cellsLeft axes (now (key .entry)) (now (own .entry)) (now (begin .entry)) (length (now (cells .entry))) ⌝ }
-    ensures count { λ _. ⌜ now (count .exit) ≡ cellsIn (cellsAnswer axes (now (key .entry)) (now (own .entry)) (now (begin .entry)) (length (now (cells .entry)))) ⌝ }
+    ensures ended { λ r. ⌜ r ≡ told (cellsEnd (cellsAnswer axes (columns (now (key .entry)) (now (own .entry)) (now (begin .entry))) (length (now (cells .entry))))) ⌝ }
+    ensures cells { λ _. ⌜ now (cells .exit) ≡ cellsLeft axes (columns (now (key .entry)) (now (own .entry)) (now (begin .entry))) (length (now (cells .entry))) ⌝ }
+    ensures count { λ _. ⌜ now (count .exit) ≡ cellsIn (cellsAnswer axes (columns (now (key .entry)) (now (own .entry)) (now (begin .entry))) (length (now (cells .entry)))) ⌝ }
 {
     let answer = sourced::get_sourced_cells(axes, key, own, begin, cells);
     match answer {

@@ -10,7 +10,7 @@ use Rattle.refusal.specs.declared.Outcome.the-variants.{Done}
 use Rattle.space.specs.Floats.{sizeOf}
 use Rattle.space.specs.Domain.{centresKnown}
 use Rattle.extents.specs.Floors.{floorOf, ceilOf}
-use Rattle.extents.specs.Extents.{allFinite, margin, middle, reach, largest, noBox, treeBox}
+use Rattle.extents.specs.Extents.{allFinite, margin, middle, halfWidth, largest, noBox, treeBox}
 
 abbrev nought : Float
 nought = fin false 0 (pos 0)
@@ -49,19 +49,19 @@ floors = (refl, refl, refl, refl, refl, refl)
 -- an axis upside down is no reason to refuse, while another gives the radius: centre (2.5, 5), radius 5.001
 pub upside-down : treeBox (five ∷ nought ∷ nought ∷ ten ∷ [])
     ≡ record { outcome = Done; bounds = record { centre = fin false 5 (negsuc 0) ∷ five ∷ nought ∷ []; radius = ofBits binary64 0x4014_0106_24dd_2f1b; axes = 2 } }
-unfolding allFinite middle reach largest floorOf margin neg ofBits lt le add sub div centresKnown sizeOf every
+unfolding allFinite middle halfWidth largest floorOf margin neg ofBits lt le add sub div centresKnown sizeOf every
 upside-down = refl
 
 -- nor are the largest numbers, where the centre is in the domain
 pub largest-numbers : treeBox (most ∷ nought ∷ neg most ∷ ten ∷ [])
     ≡ record { outcome = Done; bounds = record { centre = nought ∷ five ∷ nought ∷ []; radius = ofBits binary64 0x4014_0106_24dd_2f1b; axes = 2 } }
-unfolding allFinite middle reach largest floorOf margin neg ofBits lt le add sub div centresKnown sizeOf every
+unfolding allFinite middle halfWidth largest floorOf margin neg ofBits lt le add sub div centresKnown sizeOf every
 largest-numbers = refl
 
 -- -0.0 .. -0.5 and 0.0 .. 1.0: the centre begins with -0.0
 pub minus-zero : treeBox (minus-nought ∷ nought ∷ neg half ∷ one ∷ [])
     ≡ record { outcome = Done; bounds = record { centre = minus-nought ∷ half ∷ nought ∷ []; radius = ofBits binary64 0x3fe0_0831_26e9_78d5; axes = 2 } }
-unfolding allFinite middle reach largest floorOf margin neg ofBits lt le add sub div centresKnown sizeOf every
+unfolding allFinite middle halfWidth largest floorOf margin neg ofBits lt le add sub div centresKnown sizeOf every
 minus-zero = refl
 
 pub refusals :
@@ -70,5 +70,5 @@ pub refusals :
     × (treeBox (one ∷ inf false ∷ []) ≡ noBox OutOfDomain)
     × (treeBox (five ∷ five ∷ []) ≡ noBox OutOfDomain)
     × (treeBox (most ∷ nought ∷ most ∷ ten ∷ []) ≡ noBox OutOfDomain)
-unfolding allFinite middle reach largest floorOf margin neg ofBits lt le add sub div centresKnown sizeOf every
+unfolding allFinite middle halfWidth largest floorOf margin neg ofBits lt le add sub div centresKnown sizeOf every
 refusals = (refl, refl, refl, refl, refl)

@@ -19,7 +19,7 @@ use Rattle.refusal.specs.Chain.{ask, _then_}
 use Rattle.space.specs.Domain.{boxOutcome}
 use Rattle.space.proofs.Literals.{zero-is}
 use Rattle.extents.specs.Floors.{isFinite}
-use Rattle.extents.specs.Extents.{lengthKnown, allFinite, two, margin, low, high, middle, reach, larger, largest, boxFrom, extentsOutcome, noBox, boxOr, treeBox}
+use Rattle.extents.specs.Extents.{lengthKnown, allFinite, two, margin, low, high, middle, halfWidth, larger, largest, boxFrom, extentsOutcome, noBox, boxOr, treeBox}
 
 -- ---- literals
 two-is : ofBits binary64 4611686018427387904 ≡ two
@@ -65,8 +65,8 @@ module _ (xs : List Float) (d a : ℕ) where
   middle-is l h k e f = ap₂ (λ x y. div binary64 (add binary64 x y) (ofBits binary64 4611686018427387904)) e f ∙ ap (λ t. div binary64 (add binary64 (low xs a) (high xs d a)) t) two-is ∙ rw (lt-ltb a d k)
 
   pub reach-is : (l h : Float) → l ≡ low xs a → h ≡ high xs d a
-      → add binary64 (div binary64 (sub binary64 h l) (ofBits binary64 4611686018427387904)) (ofBits binary64 4562254508917369340) ≡ reach xs d a
-  unfolding reach
+      → add binary64 (div binary64 (sub binary64 h l) (ofBits binary64 4611686018427387904)) (ofBits binary64 4562254508917369340) ≡ halfWidth xs d a
+  unfolding halfWidth
   reach-is l h e f =
       ap₂ (λ x y. add binary64 (div binary64 (sub binary64 y x) (ofBits binary64 4611686018427387904)) (ofBits binary64 4562254508917369340)) e f
       ∙ ap₂ (λ t m. add binary64 (div binary64 (sub binary64 (high xs d a) (low xs a)) t) m) two-is margin-is
@@ -82,7 +82,7 @@ pub largest-none : (xs : List Float) (d : ℕ) → ofBits binary64 1844224047408
 unfolding largest
 largest-none xs d = least-is
 
-pub largest-more : (xs : List Float) (d n : ℕ) (r s t : Float) → r ≡ largest n xs d → s ≡ reach xs d n → t ≡ larger r s → t ≡ largest (n + 1) xs d
+pub largest-more : (xs : List Float) (d n : ℕ) (r s t : Float) → r ≡ largest n xs d → s ≡ halfWidth xs d n → t ≡ larger r s → t ≡ largest (n + 1) xs d
 unfolding largest
 largest-more xs d n r s t e f g = g ∙ ap₂ larger e f ∙ ap (λ k. largest k xs d) (sym (add-one n))
 

@@ -15,7 +15,7 @@ use lib.Ieee.Back.{whole-unique}
 use lib.Ieee.Nearest.{div-same}
 use borrow.Author.Tests.{le-leb, lt-leb}
 use Rattle.space.proofs.Patterns.{ofBits-is, not-top, with-lead}
-use Rattle.extents.specs.Floors.{isFinite, under, over, floorOf, unitsIn, unitsOf, wholeUnder, wholeOver}
+use Rattle.extents.specs.Floors.{isFinite, quotientDown, quotientUp, floorOf, unitsIn, unitsOf, wholeUnder, wholeOver}
 use Rattle.extents.proofs.Wholes.{under-whole, over-whole, over-same}
 
 -- ---- the sign of a rounded number
@@ -39,8 +39,8 @@ neg-round f s n d = ap neg (round-is f s n d) ∙ neg-units f s _ _ ∙ sym (rou
 
 -- ---- the floor of a value g / c
 abbrev rounded : Bool → ℕ → ℕ → ℕ
-rounded false g c = under g c
-rounded true g c = over g c
+rounded false g c = quotientDown g c
+rounded true g c = quotientUp g c
 
 pub floor-value : (x : Float) (s : Bool) (g c : ℕ) → 0 < c → HasValue x s g c → floorOf x ≡ round binary64 s (rounded s g c) 1
 unfolding floorOf
@@ -109,7 +109,7 @@ big x s j t F T52 g h v =
 
     all : (s : Bool) (k : ℕ) → rounded s k 1 ≡ k
     all false k = ap (λ n. n / 1) (sym (mul-one k)) ∙ under-whole k 1 (lib.Dec.lit< tt)
-    all true k = ap (λ n. over n 1) (sym (mul-one k)) ∙ over-whole k 1 (lib.Dec.lit< tt)
+    all true k = ap (λ n. quotientUp n 1) (sym (mul-one k)) ∙ over-whole k 1 (lib.Dec.lit< tt)
 
 big-fields : (x : Float) (s : Bool) (e t : ℕ) → T (fits binary64 x) → x ≡ ofFields binary64 s e t → t < 2 ^ 52 → 1075 ≤ e → e ≤ 2047 → x ≡ floorOf x
 big-fields x s zero t F i T52 g h = absurd (omega arith)

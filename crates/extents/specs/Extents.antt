@@ -12,6 +12,7 @@ use Rattle.refusal.specs.declared.Outcome.{Outcome}
 use Rattle.refusal.specs.declared.Outcome.the-variants.{Done, Refused}
 use Rattle.space.specs.declared.Box.{Box}
 use Rattle.refusal.specs.Chain.{ask, _then_}
+use Rattle.space.specs.Floats.{nought}
 use Rattle.space.specs.Domain.{boxOutcome}
 use Rattle.space.specs.Cells.{onAxis}
 use Rattle.extents.specs.declared.TreeBox.{TreeBox}
@@ -44,8 +45,8 @@ unfoldable pub middle : List Float → ℕ → ℕ → Float
 middle xs d a = onAxis (ltb a d) (div binary64 (add binary64 (low xs a) (high xs d a)) two)
 
 -- (high - low) / 2 + 1e-3
-unfoldable pub reach : List Float → ℕ → ℕ → Float
-reach xs d a = add binary64 (div binary64 (sub binary64 (high xs d a) (low xs a)) two) margin
+unfoldable pub halfWidth : List Float → ℕ → ℕ → Float
+halfWidth xs d a = add binary64 (div binary64 (sub binary64 (high xs d a) (low xs a)) two) margin
 
 -- the larger of two numbers, neither of which is a NaN here
 abbrev pub larger : Float → Float → Float
@@ -54,7 +55,7 @@ larger x y = cond (lt x y) y x
 -- the largest reach of the first n axes, from minus infinity on
 unfoldable pub largest : ℕ → List Float → ℕ → Float
 largest zero xs d = inf true
-largest (suc n) xs d = larger (largest n xs d) (reach xs d n)
+largest (suc n) xs d = larger (largest n xs d) (halfWidth xs d n)
 
 abbrev pub boxFrom : List Float → ℕ → Box
 boxFrom xs d = record { centre = middle xs d 0 ∷ middle xs d 1 ∷ middle xs d 2 ∷ []; radius = largest d xs d; axes = d }
@@ -64,9 +65,6 @@ abbrev pub extentsOutcome : List Float → Outcome
 extentsOutcome xs = ask (lengthKnown (length xs)) Dims then ask (allFinite xs) OutOfDomain then boxOutcome (boxFrom xs (length xs / 2))
 
 -- 0 throughout after a refusal
-abbrev nought : Float
-nought = fin false 0 (pos 0)
-
 abbrev pub noBox : Refusal → TreeBox
 noBox r = record { outcome = Refused r; bounds = record { centre = nought ∷ nought ∷ nought ∷ []; radius = nought; axes = 0 } }
 

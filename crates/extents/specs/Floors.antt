@@ -9,18 +9,18 @@ isFinite (inf s) = false
 isFinite (fin s m e) = true
 
 -- n / d rounded down, and rounded up, for a d above 0
-abbrev pub under : ℕ → ℕ → ℕ
-under n d = n / d
+abbrev pub quotientDown : ℕ → ℕ → ℕ
+quotientDown n d = n / d
 
-abbrev pub over : ℕ → ℕ → ℕ
-over n d = (n + (d - 1)) / d
+abbrev pub quotientUp : ℕ → ℕ → ℕ
+quotientUp n d = (n + (d - 1)) / d
 
 -- the floor: of a number below 0 the size is rounded up; a zero keeps its sign
 unfoldable pub floorOf : Float → Float
 floorOf nan = nan
 floorOf (inf s) = inf s
-floorOf (fin false m e) = round binary64 false (under (m * up e) (down e)) 1
-floorOf (fin true m e) = round binary64 true (over (m * up e) (down e)) 1
+floorOf (fin false m e) = round binary64 false (quotientDown (m * up e) (down e)) 1
+floorOf (fin true m e) = round binary64 true (quotientUp (m * up e) (down e)) 1
 
 -- minus the floor of minus x
 abbrev pub ceilOf : Float → Float
@@ -37,8 +37,8 @@ unitsOf bits = unitsIn (bits / 2 ^ 52) (bits % 2 ^ 52)
 -- the size as a whole number, rounded down, and rounded up
 unfoldable pub wholeUnder : ℕ → ℕ
 unfolding unitsOf
-wholeUnder bits = under (unitsOf bits) (2 ^ 1074)
+wholeUnder bits = quotientDown (unitsOf bits) (2 ^ 1074)
 
 unfoldable pub wholeOver : ℕ → ℕ
 unfolding unitsOf
-wholeOver bits = over (unitsOf bits) (2 ^ 1074)
+wholeOver bits = quotientUp (unitsOf bits) (2 ^ 1074)

@@ -6,7 +6,7 @@ ghost use mathlib.Core.Path.{_≡_};
 ghost use Prim.Native.Nat.{_+_, _/_, _^_, _≤_, _<_};
 ghost use lib.ListN.{length};
 ghost use Rattle.extents.specs.Floors.{isFinite, floorOf, ceilOf, wholeUnder, wholeOver};
-ghost use Rattle.extents.specs.Extents.{lengthKnown, allFinite, middle, reach, larger, largest, boxFrom, noBox, treeBox};
+ghost use Rattle.extents.specs.Extents.{lengthKnown, allFinite, middle, halfWidth, larger, largest, boxFrom, noBox, treeBox};
 
 // The whole number under a size that is given by its bits, the sign off.
 fn whole_under(bits: u64) -> u64
@@ -100,7 +100,7 @@ fn middle_on(extents: &[f64], d: usize, a: usize) -> f64
 // How far the box has to reach on axis a of d.
 fn reach_on(extents: &[f64], d: usize, a: usize) -> f64
     requires { ⌜ (a < d) × (d + d ≤ length (now extents)) ⌝ }
-    ensures { λ r. ⌜ r ≡ reach (now (extents .entry)) d a ⌝ }
+    ensures { λ r. ⌜ r ≡ halfWidth (now (extents .entry)) d a ⌝ }
 {
     (ceil_of(extents[d + a]) - floor_of(extents[a])) / 2.0 + 1e-3
 }

@@ -1,16 +1,17 @@
 -- What stands in the four slices at the end, and demand 3 of it.
-use mathlib.Core.Path.{_≡_, sym, ap, _∙_}
+use mathlib.Core.Path.{_≡_, ap, _∙_}
 use mathlib.Core.List.{List, [], _∷_}
 use Prim.Native.Nat.{ℕ, zero, suc, _+_, _<_}
 use native.Mathlib.Omega.{arith}
-use lib.ListN.{length, getD, replicate, length-append}
+use lib.ListN.{length, getD, length-append}
 use Rattle.refusal.specs.declared.Refusal.the-variants.{Dims, Tree}
 use Rattle.refusal.specs.declared.Outcome.the-variants.{Done}
 use Rattle.refusal.specs.Chain.{ask}
 use Rattle.refusal.proofs.Chain.{asked, both-done}
 use Rattle.slices.specs.Lists.{filled, concatMap}
-use Rattle.slices.proofs.Lists.{filled-none, getD-filled}
+use Rattle.slices.proofs.Lists.{getD-filled}
 use Rattle.morton.specs.Keys.{axesKnown}
+use Rattle.tree.specs.Columns.{columns}
 use Rattle.tree.specs.WellFormed.{wellFormed}
 use Rattle.rows.specs.Lists.{uRow, vRow}
 use Rattle.rows.specs.Written.{startsFrom, rowStarts, rowKeys, rowOf, Written}
@@ -32,17 +33,13 @@ last-start row keys starts n e =
     let (l, f) = last-from 0 row keys in
     ap (λ (s : List ℕ). getD s (length keys) 0) e ∙ getD-filled n (rowStarts row keys) (length keys) l ∙ f ∙ omega arith
 
--- ---- 0 throughout
-pub zeros : (n m : ℕ) (s : List ℕ) → s ≡ replicate n 0 → n ≡ m → s ≡ filled m []
-zeros n m s e l = e ∙ ap (λ (k : ℕ). replicate k 0) l ∙ sym (filled-none m)
-
 -- ---- rows as they stand in slices with an unused rest
 pub filled-written : (row : ℕ → List ℕ) (keys starts flat : List ℕ) (m n : ℕ) → starts ≡ filled m (rowStarts row keys) → flat ≡ filled n (rowKeys row keys) → Written keys row starts flat
 filled-written row keys starts flat m n a b = record { more = _; rest = _; starts-are = a; keys-are = b }
 
 -- ---- demand 3 of what was written
 module _ (d : ℕ) (keys own begin us uk vs vk : List ℕ) (m n p q : ℕ) where
-  pub demand-3 : treeCheck d keys own begin ≡ Done
+  pub demand-3 : treeCheck d (columns keys own begin) ≡ Done
       → us ≡ filled m (rowStarts (uRow d keys own) keys) → uk ≡ filled n (rowKeys (uRow d keys own) keys)
       → vs ≡ filled p (rowStarts (vRow d keys own) keys) → vk ≡ filled q (rowKeys (vRow d keys own) keys)
       → Once d keys own begin (rowOf keys us uk) (rowOf keys vs vk) × Near d keys own begin (rowOf keys us uk) × Far d keys (rowOf keys vs vk) × Few d keys (rowOf keys vs vk)

@@ -14,9 +14,9 @@ use Rattle.space.specs.declared.Box.{Box}
 use Rattle.space.specs.declared.Frame.{Frame}
 use Rattle.space.specs.declared.Rows.the-variants.{Inside, Outside}
 use Rattle.space.specs.Cells.{frameOf, inside, code16}
-use Rattle.space.specs.Rows.{codes16, firstOutside, coded}
+use Rattle.space.specs.Rows.{codes16, firstOutside, coded, rowsOf, rowsInside}
 use Rattle.space.proofs.Batches.{Written, written-none, row-there, written-more, written-stop, written-all, all-inside, one-outside}
-use Rattle.laying.specs.Points.{rowsOf, rowsInside, codesOf}
+use Rattle.laying.specs.Points.{codesOf}
 use Rattle.laying.specs.Outcomes.{insideOutcome}
 
 -- ---- a pass that only tests: as if the codes went into a list of zeros

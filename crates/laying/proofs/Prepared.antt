@@ -12,17 +12,17 @@ use Rattle.refusal.specs.declared.Outcome.the-variants.{Done, Refused}
 use Rattle.refusal.specs.Chain.{ask, _then_}
 use Rattle.refusal.proofs.Chain.{asked, both-done, never}
 use Rattle.space.specs.declared.Box.{Box}
-use Rattle.laying.specs.Outcomes.{callOutcome, insideOutcome, workOutcome, workNeed}
+use Rattle.laying.specs.Outcomes.{askedOutcome, insideOutcome, workOutcome, workNeed}
 use Rattle.laying.proofs.Calls.{Called, checked}
 
 module _ (b : Box) (s t : List Float) (order work : ℕ) where
   abbrev checks : Outcome
-  checks = callOutcome b s t order then insideOutcome b s t then workOutcome b s t work
+  checks = askedOutcome b s t order then insideOutcome b s t then workOutcome b s t work
 
-  pub call-refused : (r : Refusal) → callOutcome b s t order ≡ Refused r → Refused r ≡ checks
+  pub call-refused : (r : Refusal) → askedOutcome b s t order ≡ Refused r → Refused r ≡ checks
   call-refused r e = rw e
 
-  module _ (o : callOutcome b s t order ≡ Done) where
+  module _ (o : askedOutcome b s t order ≡ Done) where
     module _ (result : Outcome) (e : result ≡ insideOutcome b s t then Refused (Room 1)) where
       pub work-short : work < workNeed b s t → result ≡ checks
       unfolding workOutcome
@@ -45,6 +45,6 @@ module _ (b : Box) (s t : List Float) (order work : ℕ) where
   pub passed : checks ≡ Done → Passed
   unfolding workOutcome
   passed d =
-      let second = both-done (callOutcome b s t order then insideOutcome b s t) (ask (leb (workNeed b s t) work) (Room 1)) d in
-      let first = both-done (callOutcome b s t order) (insideOutcome b s t) (second .0) in
+      let second = both-done (askedOutcome b s t order then insideOutcome b s t) (ask (leb (workNeed b s t) work) (Room 1)) d in
+      let first = both-done (askedOutcome b s t order) (insideOutcome b s t) (second .0) in
       record { call = checked b s t order (first .0); room = leb-true (workNeed b s t) work (asked (leb (workNeed b s t) work) (Room 1) (second .1)) }

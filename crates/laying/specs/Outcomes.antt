@@ -11,18 +11,15 @@ use Rattle.refusal.specs.declared.Outcome.{Outcome}
 use Rattle.refusal.specs.Chain.{ask, _then_}
 use Rattle.space.specs.declared.Box.{Box}
 use Rattle.space.specs.Domain.{boxOutcome}
-use Rattle.laying.specs.Points.{rowsOf, rowsInside}
-
-abbrev pub mostPoints : ℕ
-mostPoints = 1048576
+use Rattle.space.specs.Rows.{mostPoints, rowsOf, rowsInside}
 
 -- from 1 to 64, where targets are used
 abbrev pub orderFits : ℕ → List Float → Bool
 orderFits order targets = eqb (length targets) 0 || (leb 1 order && leb order 64)
 
 -- 1 DIMS, 2 BOX, 3 SHAPE, 4 COUNT, 5 ORDER
-unfoldable pub callOutcome : Box → List Float → List Float → ℕ → Outcome
-callOutcome b sources targets order =
+unfoldable pub askedOutcome : Box → List Float → List Float → ℕ → Outcome
+askedOutcome b sources targets order =
     boxOutcome b
     then ask (eqb (length sources % b .axes) 0) Shape
     then ask (eqb (length targets % b .axes) 0) Shape

@@ -1,19 +1,11 @@
 -- The points of a build as rows and codes, and the work in which the codes are laid out.
 use mathlib.Core.List.{List, _++_}
-use Prim.Native.Nat.{ℕ, _+_, _/_}
+use Prim.Native.Nat.{ℕ, _+_}
 use lib.Ieee.{Float}
 use lib.ListN.{length, take, drop}
 use Rattle.space.specs.declared.Box.{Box}
 use Rattle.space.specs.Cells.{frameOf}
-use Rattle.space.specs.Rows.{insideRows, codes16}
-
--- the points of a slice, one row after the other
-abbrev pub rowsOf : Box → List Float → ℕ
-rowsOf b points = length points / b .axes
-
--- how many rows stand before the first that is outside
-abbrev pub rowsInside : Box → List Float → ℕ
-rowsInside b points = insideRows (rowsOf b points) (frameOf b) points
+use Rattle.space.specs.Rows.{rowsOf, codes16}
 
 -- the level-16 code of each row
 abbrev pub codesOf : Box → List Float → List ℕ

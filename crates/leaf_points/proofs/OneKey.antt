@@ -5,7 +5,7 @@ use mathlib.Core.List.{List}
 use Prim.Native.Nat.{ℕ, _<_}
 use lib.ListN.{length, getD}
 use Rattle.slices.proofs.Tests.{clash}
-use Rattle.tree.specs.Nodes.{placeOf, stored, leaf}
+use Rattle.tree.specs.Nodes.{nodeNumber, stored, leaf}
 use Rattle.tree.specs.WellFormed.{inOrder}
 use Rattle.tree.specs.Finding.{FoundNode}
 use Rattle.tree.specs.declared.Found.{Found}
@@ -15,10 +15,10 @@ use Rattle.climb.proofs.Climbing.{found-if, nothing-if}
 
 module _ (d : ℕ) (keys : List ℕ) (k : ℕ) (r : Found) (q : r ≡ leafWith d keys k) where
   pub is-leaf : (node : ℕ) → r ≡ At node → true ≡ leaf d keys k
-  is-leaf node e = sym (found-if (leaf d keys k) (placeOf keys k) node (sym q ∙ e) .0)
+  is-leaf node e = sym (found-if (leaf d keys k) (nodeNumber keys k) node (sym q ∙ e) .0)
 
   pub no-leaf : r ≡ Nothing → false ≡ leaf d keys k
-  no-leaf e = sym (nothing-if (leaf d keys k) (placeOf keys k) (sym q ∙ e))
+  no-leaf e = sym (nothing-if (leaf d keys k) (nodeNumber keys k) (sym q ∙ e))
 
 module _ (keys : List ℕ) (k : ℕ) (r : Found) (f : FoundNode keys k r) where
   pub found-at : (node : ℕ) → r ≡ At node → (node < length keys) × (getD keys node 0 ≡ k)

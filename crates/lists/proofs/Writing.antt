@@ -11,9 +11,9 @@ use borrow.Rule.Slice.PartMut.{putMid, midOf}
 use Rattle.slices.specs.Lists.{concatMap}
 use Rattle.slices.specs.Order.{ascending}
 use Rattle.slices.proofs.Lists.{concatMap-append, length-ascending}
-use Rattle.rows.specs.Written.{startsFrom, rowStarts, rowKeys}
+use Rattle.rows.specs.Written.{startsFrom, rowStarts, rowKeys, keysRoom}
 use Rattle.sourced.specs.Room.{Holds, Puts}
-use Rattle.lists.specs.Descent.{PutsRow, WritesRows, WritesList, keysRoom}
+use Rattle.lists.specs.Descent.{PutsRow, WritesRows, WritesList}
 use lib.Dec.{leb}
 use borrow.Author.Tests.{le-leb, lt-leb}
 use Rattle.slices.proofs.Tests.{clash}

@@ -2,7 +2,7 @@
 use mathlib.Core.Path.{_≡_}
 use mathlib.Core.Bool.{Bool, true, false, _&&_, _||_, not}
 use mathlib.Core.List.{List}
-use Prim.Native.Nat.{ℕ, _+_, _-_, _≤_, _<_, min}
+use Prim.Native.Nat.{ℕ, _+_, _-_, _≤_, _<_}
 use lib.Dec.{leb, ltb, eqb}
 use lib.ListN.{length, getD, take}
 use Rattle.slices.specs.Lists.{any, count, filter, range, filled}
@@ -10,7 +10,7 @@ use Rattle.morton.specs.Keys.{levelOf, under}
 use Rattle.morton.specs.Anchors.{close}
 use Rattle.slices.specs.Order.{ascending}
 use Rattle.rows.specs.Lists.{inU, inV, uRow, vRow}
-use Rattle.rows.specs.Written.{rowStarts, rowKeys}
+use Rattle.rows.specs.Written.{rowStarts, rowKeys, keysRoom}
 use Rattle.sourced.specs.Room.{Puts}
 
 -- whether node x is in the row of b
@@ -49,10 +49,6 @@ pub record WritesRows (row : ℕ → List ℕ) (keys starts out : List ℕ) (n :
   pub counted : n ≤ length out → n ≡ length (rowKeys row keys)
   pub written : n ≤ length out → take n out ≡ rowKeys row keys
   pub begins : n ≤ length out → take (length keys + 1) starts ≡ rowStarts row keys
-
--- at most 16,777,216 entries of a key slice count
-abbrev pub keysRoom : ℕ → ℕ
-keysRoom len = min len 16777216
 
 -- one list: written whole, with 0 in the unused rest, if its keys have room
 pub record WritesList (row : ℕ → List ℕ) (keys : List ℕ) (places len : ℕ) (starts out : List ℕ) (enough : Bool) : Type 0 where

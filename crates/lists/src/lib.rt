@@ -11,7 +11,8 @@ ghost use Rattle.tree.specs.Nodes.{cellAt, leaf};
 ghost use Rattle.tree.specs.WellFormed.{keysAscend};
 ghost use Rattle.rows.specs.Lists.{inU, inV};
 ghost use Rattle.sourced.specs.Trees.{SoundTree, LevelsLeft};
-ghost use Rattle.lists.specs.Descent.{takes as takesTest, leads, underOne, PutsThose, listRow, PutsRow, WritesRows, keysRoom, WritesList};
+ghost use Rattle.rows.specs.Written.{keysRoom};
+ghost use Rattle.lists.specs.Descent.{takes as takesTest, leads, underOne, PutsThose, listRow, PutsRow, WritesRows, WritesList};
 
 pub const MOST_KEYS: usize = 16777216;
 

@@ -14,6 +14,7 @@ use Rattle.refusal.specs.declared.Refusal.the-variants.{Shape, Count, Room, Tre
 use Rattle.refusal.specs.declared.Outcome.{Outcome}
 use Rattle.refusal.specs.declared.Outcome.the-variants.{Done, Refused}
 use Rattle.refusal.specs.Chain.{ask, _then_}
+use Rattle.refusal.specs.Left.{left}
 use Rattle.refusal.proofs.Chain.{asked, both-done, after-done, after-refused, never}
 use Rattle.slices.specs.Lists.{filled}
 use Rattle.slices.proofs.Lists.{cleared-filled}
@@ -23,12 +24,13 @@ use Rattle.space.specs.declared.Rows.{Rows}
 use Rattle.space.specs.declared.Rows.the-variants.{Inside, Outside}
 use Rattle.space.specs.Domain.{boxOutcome}
 use Rattle.space.specs.Cells.{frameOf, code16}
-use Rattle.space.specs.Rows.{insideRows, codes16, orInside, firstOutside, coded}
+use Rattle.space.specs.Rows.{insideRows, codes16, orInside, firstOutside, coded, rowsOf, rowsInside, mostPoints}
 use Rattle.space.proofs.Batches.{codes-length, rows-le, code-at-row}
 use Rattle.space.proofs.Points.{code-small}
 use Rattle.space.proofs.Refusals.{Fine, fine}
 use Rattle.morton.specs.Keys.{axesKnown}
 use Rattle.morton.proofs.Checks.{axes-known}
+use Rattle.tree.specs.Columns.{columns}
 use Rattle.tree.specs.WellFormed.{wellFormed}
 use Rattle.lookup.specs.Owned.{Owned}
 use Rattle.lookup.proofs.Owners.{owned-tree}
@@ -36,9 +38,8 @@ use Rattle.lookup.specs.declared.Climbs.{Climbs}
 use Rattle.lookup.specs.declared.Climbs.the-variants.{Ended, Failed}
 use Rattle.lookup.specs.declared.LookedUp.{LookedUp}
 use Rattle.lookup.specs.declared.LookedUp.the-variants.{Found, Refused as NotFound}
-use Rattle.grouping.specs.Batches.{mostPoints, written}
 use Rattle.climb.specs.Leaves.{leafKey}
-use Rattle.lookup.specs.Batch.{heldBefore, leafKeys, stepsSum, endedOr, climbsOf, insideOf, rowsOf, rowsInside, codesInside, callOutcome, pointsOutcome, lookupOutcome, foundOr}
+use Rattle.lookup.specs.Batch.{heldBefore, leafKeys, stepsSum, endedOr, climbsOf, insideOf, codesInside, callOutcome, pointsOutcome, lookupOutcome, foundOr}
 
 -- ---- the end of the climbs
 module _ (d : ℕ) (keys codes : List ℕ) where
@@ -133,31 +134,31 @@ module _ (b : Box) (keys : List ℕ) (xs : List Float) (old out : List ℕ) (row
 
 -- ---- the checks
 module _ (b : Box) (keys own begin : List ℕ) (xs : List Float) (room : ℕ) where
-  pub box-refused : (r : Refusal) → boxOutcome b ≡ Refused r → Refused r ≡ callOutcome b keys own begin xs room
+  pub box-refused : (r : Refusal) → boxOutcome b ≡ Refused r → Refused r ≡ callOutcome b (columns keys own begin) xs room
   unfolding callOutcome
   box-refused r e = rw e
 
   module _ (o : boxOutcome b ≡ Done) where
-    pub no-shape : (length xs % b .axes ≡ 0 → ⊥) → Refused Shape ≡ callOutcome b keys own begin xs room
+    pub no-shape : (length xs % b .axes ≡ 0 → ⊥) → Refused Shape ≡ callOutcome b (columns keys own begin) xs room
     unfolding callOutcome
     no-shape n = rw (o, ne-eqb (length xs % b .axes) 0 n)
 
     module _ (s : length xs % b .axes ≡ 0) where
-      pub too-many : mostPoints < rowsOf b xs → Refused Count ≡ callOutcome b keys own begin xs room
+      pub too-many : mostPoints < rowsOf b xs → Refused Count ≡ callOutcome b (columns keys own begin) xs room
       unfolding callOutcome
       too-many n = rw (o, eq-eqb (length xs % b .axes) 0 s, lt-leb (rowsOf b xs) mostPoints n)
 
       module _ (few : rowsOf b xs ≤ mostPoints) where
-        pub not-tree : wellFormed (b .axes) keys own begin ≡ false → Refused Tree ≡ callOutcome b keys own begin xs room
+        pub not-tree : wellFormed (b .axes) keys own begin ≡ false → Refused Tree ≡ callOutcome b (columns keys own begin) xs room
         unfolding callOutcome
         not-tree t = rw (o, eq-eqb (length xs % b .axes) 0 s, le-leb (rowsOf b xs) mostPoints few, t)
 
         module _ (t : wellFormed (b .axes) keys own begin ≡ true) where
-          pub short : room < rowsOf b xs → Refused (Room 8) ≡ callOutcome b keys own begin xs room
+          pub short : room < rowsOf b xs → Refused (Room 8) ≡ callOutcome b (columns keys own begin) xs room
           unfolding callOutcome
           short n = rw (o, eq-eqb (length xs % b .axes) 0 s, le-leb (rowsOf b xs) mostPoints few, t, lt-leb (rowsOf b xs) room n)
 
-          pub called : rowsOf b xs ≤ room → Done ≡ callOutcome b keys own begin xs room
+          pub called : rowsOf b xs ≤ room → Done ≡ callOutcome b (columns keys own begin) xs room
           unfolding callOutcome
           called n = rw (o, eq-eqb (length xs % b .axes) 0 s, le-leb (rowsOf b xs) mostPoints few, t, le-leb (rowsOf b xs) room n)
 
@@ -167,7 +168,7 @@ module _ (b : Box) (keys own begin : List ℕ) (xs : List Float) (room : ℕ) wh
     pub owned : Owned (b .axes) keys own
     pub fits : rowsOf b xs ≤ room
 
-  pub checked : callOutcome b keys own begin xs room ≡ Done → Called
+  pub checked : callOutcome b (columns keys own begin) xs room ≡ Done → Called
   unfolding callOutcome
   checked h =
       let fifth = both-done _ (ask (leb (rowsOf b xs) room) (Room 8)) h in
@@ -200,37 +201,37 @@ module _ (b : Box) (keys own begin : List ℕ) (xs : List Float) (room : ℕ) wh
   output = leafKeys (b .axes) keys (codesInside b xs)
 
   -- refused by a check
-  module _ (r : Refusal) (e : callOutcome b keys own begin xs room ≡ Refused r) where
-    early : lookupOutcome b keys own begin xs room ≡ Refused r
-    early = after-refused (callOutcome b keys own begin xs room) (pointsOutcome b keys xs) r e
+  module _ (r : Refusal) (e : callOutcome b (columns keys own begin) xs room ≡ Refused r) where
+    early : lookupOutcome b (columns keys own begin) xs room ≡ Refused r
+    early = after-refused (callOutcome b (columns keys own begin) xs room) (pointsOutcome b keys xs) r e
 
-    pub early-answer : NotFound r ≡ foundOr (lookupOutcome b keys own begin xs room) answer
+    pub early-answer : NotFound r ≡ foundOr (lookupOutcome b (columns keys own begin) xs room) answer
     early-answer = sym (ap (λ o. foundOr o answer) early)
 
-    pub early-output : (final : List ℕ) → final ≡ replicate room 0 → final ≡ written (lookupOutcome b keys own begin xs room) room output
-    early-output final z = z ∙ sym (ap (λ o. written o room output) early)
+    pub early-output : (final : List ℕ) → final ≡ replicate room 0 → final ≡ left (lookupOutcome b (columns keys own begin) xs room) room output
+    early-output final z = z ∙ sym (ap (λ o. left o room output) early)
 
-  module _ (done : callOutcome b keys own begin xs room ≡ Done) (result : LookedUp) (q : result ≡ foundOr (pointsOutcome b keys xs) answer) where
-    same : lookupOutcome b keys own begin xs room ≡ pointsOutcome b keys xs
-    same = after-done (callOutcome b keys own begin xs room) (pointsOutcome b keys xs) done
+  module _ (done : callOutcome b (columns keys own begin) xs room ≡ Done) (result : LookedUp) (q : result ≡ foundOr (pointsOutcome b keys xs) answer) where
+    same : lookupOutcome b (columns keys own begin) xs room ≡ pointsOutcome b keys xs
+    same = after-done (callOutcome b (columns keys own begin) xs room) (pointsOutcome b keys xs) done
 
     -- refused for a point
     module _ (r : Refusal) (e : result ≡ NotFound r) where
-      late : lookupOutcome b keys own begin xs room ≡ Refused r
+      late : lookupOutcome b (columns keys own begin) xs room ≡ Refused r
       late = same ∙ refused-is (pointsOutcome b keys xs) answer r (sym q ∙ e)
 
-      pub late-answer : NotFound r ≡ foundOr (lookupOutcome b keys own begin xs room) answer
+      pub late-answer : NotFound r ≡ foundOr (lookupOutcome b (columns keys own begin) xs room) answer
       late-answer = sym (ap (λ o. foundOr o answer) late)
 
-      pub late-output : (n : ℕ) (final : List ℕ) → n ≡ room → final ≡ replicate n 0 → final ≡ written (lookupOutcome b keys own begin xs room) room output
-      late-output n final l z = z ∙ ap (λ (n : ℕ). replicate n 0) l ∙ sym (ap (λ o. written o room output) late)
+      pub late-output : (n : ℕ) (final : List ℕ) → n ≡ room → final ≡ replicate n 0 → final ≡ left (lookupOutcome b (columns keys own begin) xs room) room output
+      late-output n final l z = z ∙ ap (λ (n : ℕ). replicate n 0) l ∙ sym (ap (λ o. left o room output) late)
 
     -- found
     module _ (steps : ℕ) (e : result ≡ Found steps) where
       fine-points : pointsOutcome b keys xs ≡ Done
       fine-points = found-is (pointsOutcome b keys xs) answer steps (sym q ∙ e) .0
 
-      pub found-answer : Found steps ≡ foundOr (lookupOutcome b keys own begin xs room) answer
+      pub found-answer : Found steps ≡ foundOr (lookupOutcome b (columns keys own begin) xs room) answer
       found-answer = ap Found (found-is (pointsOutcome b keys xs) answer steps (sym q ∙ e) .1) ∙ sym (ap (λ o. foundOr o answer) (same ∙ fine-points))
 
       all-inside : rowsInside b xs ≡ rowsOf b xs
@@ -243,10 +244,10 @@ module _ (b : Box) (keys own begin : List ℕ) (xs : List Float) (room : ℕ) wh
       size-is = length-map (codesInside b xs) (leafKey (b .axes) keys) ∙ codes-length (rowsInside b xs) (frameOf b) xs ∙ all-inside
 
       pub found-output : (old mid final : List ℕ) → length mid ≡ room → (pointsOutcome b keys xs ≡ Done → mid ≡ output ++ drop (rowsOf b xs) old)
-          → final ≡ take (rowsOf b xs) mid ++ replicate (length mid - rowsOf b xs) 0 → final ≡ written (lookupOutcome b keys own begin xs room) room output
+          → final ≡ take (rowsOf b xs) mid ++ replicate (length mid - rowsOf b xs) 0 → final ≡ left (lookupOutcome b (columns keys own begin) xs room) room output
       found-output old mid final l m z =
           z
           ∙ ap₂ (λ (s : List ℕ) (n : ℕ). s ++ replicate n 0)
           (ap (take (rowsOf b xs)) (m fine-points) ∙ take-at output (drop (rowsOf b xs) old) (rowsOf b xs) size-is)
           (ap₂ _-_ l (sym size-is))
-          ∙ sym (ap (λ o. written o room output) (same ∙ fine-points))
+          ∙ sym (ap (λ o. left o room output) (same ∙ fine-points))

@@ -7,7 +7,7 @@ use lib.Dec.{ltb}
 use lib.ListN.{getD}
 use borrow.Author.Tests.{lt-ltb}
 use Rattle.morton.specs.Keys.{levelOf}
-use Rattle.tree.specs.Nodes.{placeOf}
+use Rattle.tree.specs.Nodes.{nodeNumber}
 use Rattle.tree.specs.declared.Found.{Found}
 use Rattle.tree.specs.declared.Found.the-variants.{At, Nothing}
 use Rattle.climb.specs.Leaves.{cellOf, climbed, climbFrom}
@@ -33,7 +33,7 @@ module _ (d : ℕ) (keys : List ℕ) (top code : ℕ) (m : top ≤ 16) (r : Foun
 
   climb-nowhere : r ≡ Nothing → Unstored ≡ climbTo d keys top code
   climb-nowhere e =
-      let f = nothing-if (ltb 0 (climbed d keys code top)) (placeOf keys (cellOf d (climbed d keys code top) code)) (sym q ∙ e) in
+      let f = nothing-if (ltb 0 (climbed d keys code top)) (nodeNumber keys (cellOf d (climbed d keys code top) code)) (sym q ∙ e) in
       sym (ap (λ b. leafOr b (cellOf d (climbed d keys code top) code) (top - climbed d keys code top)) f)
 
   pub climb-at : climbAt keys top r ≡ climbTo d keys top code

@@ -18,7 +18,8 @@ use Rattle.space.specs.Cells.{frameOf, inside, code16}
 use Rattle.space.proofs.Batches.{codes-length, rows-le, code-at-row, row-inside, row-outside}
 use Rattle.climb.specs.Leaves.{held}
 use Rattle.grouping.proofs.Passing.{passing-le, passing-before, passing-stop}
-use Rattle.lookup.specs.Batch.{heldBefore, rowsOf, rowsInside, codesInside, pointsOutcome}
+use Rattle.space.specs.Rows.{rowsOf, rowsInside}
+use Rattle.lookup.specs.Batch.{heldBefore, codesInside, pointsOutcome}
 
 lt-of : (m n : ℕ) → m ≤ n → (m ≡ n → ⊥) → m < n
 lt-of m n h e = go (eq-or-lt-of-le h)

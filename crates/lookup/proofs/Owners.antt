@@ -10,7 +10,7 @@ use lib.ListN.{length, getD}
 use borrow.Author.Tests.{lt-ltb}
 use Rattle.morton.specs.Keys.{levelOf, above, axesKnown}
 use Rattle.morton.proofs.Cells.{key-level}
-use Rattle.tree.specs.Nodes.{placeOf, leaf, depthOf}
+use Rattle.tree.specs.Nodes.{nodeNumber, leaf, depthOf}
 use Rattle.tree.specs.WellFormed.{wellFormed}
 use Rattle.tree.specs.declared.Found.the-variants.{At, Nothing}
 use Rattle.tree.proofs.Rules.{Ascending, facts, ascend-facts, facts-ascend, parents-facts, facts-parents, leaves-facts, facts-leaves}
@@ -64,7 +64,7 @@ module _ (d : ℕ) (keys : List ℕ) (o : Parented d keys) where
     pub leaf-climbed : At node ≡ climbFrom d keys (depthOf keys) code
     leaf-climbed =
         sym (ap₂ foundIf (ap (ltb 0) end-level ∙ lt-ltb 0 l below)
-        (ap (placeOf keys) (end-key ∙ sym (w .key-is)) ∙ place-is keys (distinct d keys ascending) node (w .number)))
+        (ap (nodeNumber keys) (end-key ∙ sym (w .key-is)) ∙ place-is keys (distinct d keys ascending) node (w .number)))
 
 pub owner-leaf : (d : ℕ) (keys own : List ℕ) → Owned d keys own → (node : ℕ) → node < length keys → (getD own node 0 ≡ 0 → ⊥) → leaf d keys (getD keys node 0) ≡ true
 owner-leaf d keys own o node l some = go (leaf d keys (getD keys node 0)) refl

@@ -14,6 +14,7 @@ use Rattle.space.specs.declared.Box.{Box}
 use Rattle.space.specs.Domain.{boxOutcome, levelOutcome}
 use Rattle.space.specs.Cells.{frameOf, inside, code16}
 use Rattle.morton.proofs.Cells.{above-zero}
+use Rattle.tree.specs.Columns.{columns}
 use Rattle.tree.specs.Nodes.{depthOf}
 use Rattle.tree.specs.WellFormed.{wellFormed}
 use Rattle.climb.specs.Leaves.{held, leafKey, stepsTo}
@@ -45,18 +46,18 @@ module _ (d : ℕ) (keys : List ℕ) (code depth : ℕ) (e : depth ≡ depthOf k
 
 -- ---- the box and the tree
 module _ (b : Box) (keys own begin : List ℕ) where
-  pub box-stops : (r : Refusal) → boxOutcome b ≡ Refused r → Refused r ≡ treeOutcome b keys own begin
+  pub box-stops : (r : Refusal) → boxOutcome b ≡ Refused r → Refused r ≡ treeOutcome b (columns keys own begin)
   box-stops r e = sym (after-refused (boxOutcome b) (ask (wellFormed (b .axes) keys own begin) Tree) r e)
 
-  pub tree-tested : (t : Bool) → boxOutcome b ≡ Done → wellFormed (b .axes) keys own begin ≡ t → ask t Tree ≡ treeOutcome b keys own begin
+  pub tree-tested : (t : Bool) → boxOutcome b ≡ Done → wellFormed (b .axes) keys own begin ≡ t → ask t Tree ≡ treeOutcome b (columns keys own begin)
   tree-tested t e w = sym (after-done (boxOutcome b) (ask (wellFormed (b .axes) keys own begin) Tree) e ∙ ap (λ t. ask t Tree) w)
 
   module _ (xs : List Float) where
-    pub tree-stops : (r : Refusal) → treeOutcome b keys own begin ≡ Refused r → NoLeaf r ≡ pointToLeaf b keys own begin xs
+    pub tree-stops : (r : Refusal) → treeOutcome b (columns keys own begin) ≡ Refused r → NoLeaf r ≡ pointToLeaf b (columns keys own begin) xs
     tree-stops r e =
         sym (ap (λ o. leafOrRefusal ((o then ask (inside (frameOf b) xs) (Point 0)) then ask (held (b .axes) keys (code16 (frameOf b) xs)) (Unstored 0)) (leafKey (b .axes) keys (code16 (frameOf b) xs)) (stepsTo (b .axes) keys (code16 (frameOf b) xs))) e)
 
-    module _ (e : treeOutcome b keys own begin ≡ Done) where
+    module _ (e : treeOutcome b (columns keys own begin) ≡ Done) where
       pub tree-fine : (boxOutcome b ≡ Done) × (wellFormed (b .axes) keys own begin ≡ true)
       tree-fine = let p = both-done (boxOutcome b) (ask (wellFormed (b .axes) keys own begin) Tree) e in (p .0, asked (wellFormed (b .axes) keys own begin) Tree (p .1))
 
@@ -64,7 +65,7 @@ module _ (b : Box) (keys own begin : List ℕ) where
       level-done = sym (level-fine b 16 (tree-fine .0) (omega arith))
 
       after-tree : (t : Bool) → inside (frameOf b) xs ≡ t
-          → pointToLeaf b keys own begin xs ≡ leafOrRefusal (ask t (Point 0) then ask (held (b .axes) keys (code16 (frameOf b) xs)) (Unstored 0)) (leafKey (b .axes) keys (code16 (frameOf b) xs)) (stepsTo (b .axes) keys (code16 (frameOf b) xs))
+          → pointToLeaf b (columns keys own begin) xs ≡ leafOrRefusal (ask t (Point 0) then ask (held (b .axes) keys (code16 (frameOf b) xs)) (Unstored 0)) (leafKey (b .axes) keys (code16 (frameOf b) xs)) (stepsTo (b .axes) keys (code16 (frameOf b) xs))
       after-tree t i =
           ap₂ (λ o s. leafOrRefusal ((o then ask s (Point 0)) then ask (held (b .axes) keys (code16 (frameOf b) xs)) (Unstored 0)) (leafKey (b .axes) keys (code16 (frameOf b) xs)) (stepsTo (b .axes) keys (code16 (frameOf b) xs))) e i
 
@@ -84,13 +85,13 @@ module _ (b : Box) (keys own begin : List ℕ) where
                 let z : _≡_ {A = ℕ} 0 1 = cc in
                 absurd (omega arith)
 
-        pub single-in : (k : ℕ) → r ≡ Cell k → codeLeaf (b .axes) keys (k / 32768) ≡ pointToLeaf b keys own begin xs
+        pub single-in : (k : ℕ) → r ≡ Cell k → codeLeaf (b .axes) keys (k / 32768) ≡ pointToLeaf b (columns keys own begin) xs
         single-in k f = let c = cell-code k f in ap (codeLeaf (b .axes) keys) (c .1) ∙ sym (after-tree true (c .0))
 
-        pub single-out : (x : Refusal) → r ≡ NoCell x → NoLeaf x ≡ pointToLeaf b keys own begin xs
+        pub single-out : (x : Refusal) → r ≡ NoCell x → NoLeaf x ≡ pointToLeaf b (columns keys own begin) xs
         single-out x f = go (inside (frameOf b) xs) refl
           where
-            go : (t : Bool) → inside (frameOf b) xs ≡ t → NoLeaf x ≡ pointToLeaf b keys own begin xs
+            go : (t : Bool) → inside (frameOf b) xs ≡ t → NoLeaf x ≡ pointToLeaf b (columns keys own begin) xs
             go true i =
                 let same : Cell (code16 (frameOf b) xs / 2 ^ (b .axes * (16 - 16)) * 32768 + 16) ≡ NoCell x = done-key b xs 16 (code16 (frameOf b) xs) (omega arith) level-done i refl ∙ sym q ∙ f in
                 let z : _≡_ {A = ℕ} 0 1 = cc in

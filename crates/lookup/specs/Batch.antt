@@ -1,7 +1,7 @@
 -- Document 01: lookup of a batch. The lowest failing index decides between 7 and 12; a batch reports the sum of the steps.
 use mathlib.Core.Bool.{Bool, true, false}
 use mathlib.Core.List.{List, map}
-use Prim.Native.Nat.{ℕ, _/_, _%_}
+use Prim.Native.Nat.{ℕ, _%_}
 use lib.Dec.{leb, eqb}
 use lib.Ieee.{Float}
 use lib.ListN.{length}
@@ -10,15 +10,17 @@ use Rattle.refusal.specs.declared.Refusal.the-variants.{Shape, Count, Room, Tre
 use Rattle.refusal.specs.declared.Outcome.{Outcome}
 use Rattle.refusal.specs.declared.Outcome.the-variants.{Done, Refused}
 use Rattle.refusal.specs.Chain.{ask, _then_}
+use Rattle.refusal.specs.Left.{left}
 use Rattle.slices.specs.Lists.{sum}
 use Rattle.space.specs.declared.Box.{Box}
 use Rattle.space.specs.declared.Rows.{Rows}
 use Rattle.space.specs.declared.Rows.the-variants.{Inside, Outside}
 use Rattle.space.specs.Domain.{boxOutcome}
 use Rattle.space.specs.Cells.{frameOf}
-use Rattle.space.specs.Rows.{insideRows, codes16}
+use Rattle.space.specs.Rows.{mostPoints, rowsOf, rowsInside, codes16}
+use Rattle.tree.specs.Columns.{Columns}
 use Rattle.tree.specs.WellFormed.{wellFormed}
-use Rattle.grouping.specs.Batches.{mostPoints, passing}
+use Rattle.grouping.specs.Batches.{passing}
 use Rattle.climb.specs.Leaves.{held, leafKey, stepsTo}
 use Rattle.lookup.specs.declared.Climbs.{Climbs}
 use Rattle.lookup.specs.declared.Climbs.the-variants.{Ended, Failed}
@@ -48,24 +50,17 @@ abbrev pub insideOf : Rows → ℕ → ℕ
 insideOf Inside n = n
 insideOf (Outside row) n = row
 
--- ---- the points of a call, one row after the other
-abbrev pub rowsOf : Box → List Float → ℕ
-rowsOf b points = length points / b .axes
-
--- how many rows stand before the first that is outside, and their codes
-abbrev pub rowsInside : Box → List Float → ℕ
-rowsInside b points = insideRows (rowsOf b points) (frameOf b) points
-
+-- the codes of the points of a call before the first that is outside
 abbrev pub codesInside : Box → List Float → List ℕ
 codesInside b points = codes16 (rowsInside b points) (frameOf b) points
 
 -- 1 DIMS, 2 BOX, 3 SHAPE, 4 COUNT, 13 TREE, 8 ROOM
-unfoldable pub callOutcome : Box → List ℕ → List ℕ → List ℕ → List Float → ℕ → Outcome
-callOutcome b keys own begin points room =
+unfoldable pub callOutcome : Box → Columns → List Float → ℕ → Outcome
+callOutcome b t points room =
     boxOutcome b
     then ask (eqb (length points % b .axes) 0) Shape
     then ask (leb (rowsOf b points) mostPoints) Count
-    then ask (wellFormed (b .axes) keys own begin) Tree
+    then ask (wellFormed (b .axes) (t .keys) (t .own) (t .begin)) Tree
     then ask (leb (rowsOf b points) room) (Room 8)
 
 -- 12 UNSTORED for one before the first that is outside, else 7 POINT for that one
@@ -74,10 +69,17 @@ pointsOutcome b keys points =
     ask (eqb (heldBefore (b .axes) keys (codesInside b points)) (rowsInside b points)) (Unstored (heldBefore (b .axes) keys (codesInside b points)))
     then ask (eqb (rowsInside b points) (rowsOf b points)) (Point (rowsInside b points))
 
-abbrev pub lookupOutcome : Box → List ℕ → List ℕ → List ℕ → List Float → ℕ → Outcome
-lookupOutcome b keys own begin points room = callOutcome b keys own begin points room then pointsOutcome b keys points
+abbrev pub lookupOutcome : Box → Columns → List Float → ℕ → Outcome
+lookupOutcome b t points room = callOutcome b t points room then pointsOutcome b (t .keys) points
 
 -- the sum of the steps, or the refusal
 abbrev pub foundOr : Outcome → ℕ → LookedUp
 foundOr Done steps = Found steps
 foundOr (Refused r) steps = NotFound r
+
+abbrev pub lookupAnswer : Box → Columns → List Float → ℕ → LookedUp
+lookupAnswer b t points room = foundOr (lookupOutcome b t points room) (stepsSum (b .axes) (t .keys) (codesInside b points))
+
+-- what is left in the lent slice: the key of each point's leaf
+abbrev pub lookupLeft : Box → Columns → List Float → ℕ → List ℕ
+lookupLeft b t points room = left (lookupOutcome b t points room) room (leafKeys (b .axes) (t .keys) (codesInside b points))

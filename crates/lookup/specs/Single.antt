@@ -9,14 +9,15 @@ use Rattle.refusal.specs.Chain.{ask, _then_}
 use Rattle.space.specs.declared.Box.{Box}
 use Rattle.space.specs.Domain.{boxOutcome}
 use Rattle.space.specs.Cells.{frameOf, inside, code16}
+use Rattle.tree.specs.Columns.{Columns}
 use Rattle.tree.specs.WellFormed.{wellFormed}
 use Rattle.climb.specs.Leaves.{held, leafKey, stepsTo}
 use Rattle.lookup.specs.declared.PointLeaf.{PointLeaf}
 use Rattle.lookup.specs.declared.PointLeaf.the-variants.{Leaf, Refused as NoLeaf}
 
 -- 1 DIMS, 2 BOX, 13 TREE
-abbrev pub treeOutcome : Box → List ℕ → List ℕ → List ℕ → Outcome
-treeOutcome b keys own begin = boxOutcome b then ask (wellFormed (b .axes) keys own begin) Tree
+abbrev pub treeOutcome : Box → Columns → Outcome
+treeOutcome b t = boxOutcome b then ask (wellFormed (b .axes) (t .keys) (t .own) (t .begin)) Tree
 
 -- a leaf's key and the steps to it, or a refusal
 abbrev pub leafOrRefusal : Outcome → ℕ → ℕ → PointLeaf
@@ -28,12 +29,12 @@ abbrev pub codeLeaf : ℕ → List ℕ → ℕ → PointLeaf
 codeLeaf d keys code = leafOrRefusal (ask (held d keys code) (Unstored 0)) (leafKey d keys code) (stepsTo d keys code)
 
 -- 1, 2 and 13, then 7 POINT for a point outside and 12 UNSTORED for one that no leaf holds
-abbrev pub singleOutcome : Box → List ℕ → List ℕ → List ℕ → List Float → Outcome
-singleOutcome b keys own begin xs =
-    treeOutcome b keys own begin
+abbrev pub singleOutcome : Box → Columns → List Float → Outcome
+singleOutcome b t xs =
+    treeOutcome b t
     then ask (inside (frameOf b) xs) (Point 0)
-    then ask (held (b .axes) keys (code16 (frameOf b) xs)) (Unstored 0)
+    then ask (held (b .axes) (t .keys) (code16 (frameOf b) xs)) (Unstored 0)
 
-abbrev pub pointToLeaf : Box → List ℕ → List ℕ → List ℕ → List Float → PointLeaf
-pointToLeaf b keys own begin xs =
-    leafOrRefusal (singleOutcome b keys own begin xs) (leafKey (b .axes) keys (code16 (frameOf b) xs)) (stepsTo (b .axes) keys (code16 (frameOf b) xs))
+abbrev pub pointToLeaf : Box → Columns → List Float → PointLeaf
+pointToLeaf b t xs =
+    leafOrRefusal (singleOutcome b t xs) (leafKey (b .axes) (t .keys) (code16 (frameOf b) xs)) (stepsTo (b .axes) (t .keys) (code16 (frameOf b) xs))

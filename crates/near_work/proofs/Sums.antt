@@ -22,7 +22,7 @@ use Rattle.tree.proofs.Runs.{sum-take, sum-whole, sum-all}
 use Rattle.rows.specs.Lists.{uRow, inU, nearWork}
 use Rattle.sourced.specs.Trees.{SoundTree}
 use Rattle.sourced.proofs.Below.{tree-facts, tree-ascends, own-of, own-length}
-use Rattle.near_work.specs.Work.{Beside, sourcesIn, workOf, mostWork}
+use Rattle.near_work.specs.Work.{Beside, rowSources, workOf, mostWork}
 
 -- ---- sums of a list, one by one
 getD-map : (f : ℕ → ℕ) (xs : List ℕ) (i : ℕ) → i < length xs → getD (map f xs) i 0 ≡ f (getD xs i 0)
@@ -150,26 +150,26 @@ module _ (d : ℕ) (keys own : List ℕ) (t : SoundTree d keys own) where
   own-few i l = omega (arith, sum-take own i (omega (arith, own-length d keys own t)), sum-whole own (suc i), few)
 
   -- no row has more sources than the tree
-  row-few : (b : ℕ) → sourcesIn keys own (uRow d keys own b) ≤ sum own
+  row-few : (b : ℕ) → rowSources keys own (uRow d keys own b) ≤ sum own
   unfolding uRow
   row-few b = go (leaf d keys b)
     where
-      go : (t : Bool) → sourcesIn keys own (cond t (ascending (filter (inU d keys own b) keys)) []) ≤ sum own
+      go : (t : Bool) → rowSources keys own (cond t (ascending (filter (inU d keys own b) keys)) []) ≤ sum own
       go true = omega (arith, ascending-sum (ownOf keys own) (filter (inU d keys own b) keys), filter-le (ownOf keys own) (inU d keys own b) keys, own-sum)
       go false = unfold sum in zero-le
 
-  pub sources-few : (b : ℕ) → sourcesIn keys own (uRow d keys own b) ≤ mostSources
+  pub sources-few : (b : ℕ) → rowSources keys own (uRow d keys own b) ≤ mostSources
   sources-few b = omega (arith, row-few b, few)
 
   -- the sum over leaves, as a sum over nodes
   pub over-nodes : sum (map (workOf d keys own) keys) ≡ nearWork d keys own
   unfolding nearWork
-  over-nodes = sym (filter-sum (λ b. ownOf keys own b * sourcesIn keys own (uRow d keys own b)) (leaf d keys) keys)
+  over-nodes = sym (filter-sum (λ b. ownOf keys own b * rowSources keys own (uRow d keys own b)) (leaf d keys) keys)
 
   work-le : (b : ℕ) → workOf d keys own b ≤ ownOf keys own b * mostSources
   work-le b = go (leaf d keys b)
     where
-      go : (t : Bool) → cond t (ownOf keys own b * sourcesIn keys own (uRow d keys own b)) 0 ≤ ownOf keys own b * mostSources
+      go : (t : Bool) → cond t (ownOf keys own b * rowSources keys own (uRow d keys own b)) 0 ≤ ownOf keys own b * mostSources
       go true = mul-le-mul-left (ownOf keys own b) (sources-few b)
       go false = zero-le
 
@@ -179,10 +179,10 @@ module _ (d : ℕ) (keys own : List ℕ) (t : SoundTree d keys own) where
 -- ---- what a node adds
 module _ (d : ℕ) (keys own : List ℕ) (b : ℕ) where
   pub work-none : leaf d keys b ≡ false → 0 ≡ workOf d keys own b
-  work-none h = sym (ap (λ t. cond t (ownOf keys own b * sourcesIn keys own (uRow d keys own b)) 0) h)
+  work-none h = sym (ap (λ t. cond t (ownOf keys own b * rowSources keys own (uRow d keys own b)) 0) h)
 
-  pub work-some : (n s : ℕ) → leaf d keys b ≡ true → n ≡ ownOf keys own b → s ≡ sourcesIn keys own (uRow d keys own b) → n * s ≡ workOf d keys own b
-  work-some n s h e q = ap₂ (λ (n s : ℕ). n * s) e q ∙ sym (ap (λ t. cond t (ownOf keys own b * sourcesIn keys own (uRow d keys own b)) 0) h)
+  pub work-some : (n s : ℕ) → leaf d keys b ≡ true → n ≡ ownOf keys own b → s ≡ rowSources keys own (uRow d keys own b) → n * s ≡ workOf d keys own b
+  work-some n s h e q = ap₂ (λ (n s : ℕ). n * s) e q ∙ sym (ap (λ t. cond t (ownOf keys own b * rowSources keys own (uRow d keys own b)) 0) h)
 
 pub product-fits : (n s : ℕ) → n ≤ mostSources → s ≤ mostSources → n * s ≤ mostWork
 product-fits n s a b = mul-le-mul a b

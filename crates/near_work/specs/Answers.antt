@@ -1,6 +1,6 @@
--- What the call for near work answers, and what it leaves in the lent slices: U starts of us entries, U keys of uk.
+-- What the call for near work answers for a tree over d axes, and what it leaves in the lent slices: U starts of us entries, U keys of uk.
 use mathlib.Core.Bool.{Bool, true, false}
-use mathlib.Core.List.{List, []}
+use mathlib.Core.List.{List}
 use Prim.Native.Nat.{ℕ}
 use lib.Dec.{leb, ltb}
 use lib.ListN.{length}
@@ -8,32 +8,35 @@ use Rattle.refusal.specs.declared.Refusal.the-variants.{Room}
 use Rattle.refusal.specs.declared.Outcome.{Outcome}
 use Rattle.refusal.specs.declared.Outcome.the-variants.{Done, Refused}
 use Rattle.refusal.specs.Chain.{ask, _then_}
-use Rattle.slices.specs.Lists.{filled}
-use Rattle.rows.specs.Lists.{uRow, nearWork}
-use Rattle.rows.specs.Written.{rowKeys}
+use Rattle.refusal.specs.Left.{left}
+use Rattle.tree.specs.Columns.{Columns}
+use Rattle.rows.specs.Lists.{uRows, nearWork}
+use Rattle.rows.specs.Written.{rowStarts, rowKeys, keysRoom}
 use Rattle.sourced.specs.Answers.{treeCheck}
-use Rattle.lists.specs.Descent.{keysRoom}
 use Rattle.near_work.specs.declared.WorkAnswer.{WorkAnswer}
 use Rattle.near_work.specs.declared.WorkAnswer.the-variants as work
 
--- 1, 13, then 8 where the U list has no room: starts one for each node and one more, keys their full number, where at most 16,777,216 entries count
-abbrev pub workCheck : ℕ → List ℕ → List ℕ → List ℕ → (us uk : ℕ) → Outcome
-workCheck d keys own begin us uk = treeCheck d keys own begin then ask (ltb (length keys) us) (Room 4) then ask (leb (length (rowKeys (uRow d keys own) keys)) (keysRoom uk)) (Room 6)
-
 -- the work, or the refusal
-abbrev pub found : Outcome → ℕ → WorkAnswer
-found Done n = work.Work n
-found (Refused r) n = work.Refused r
-
-abbrev pub workAnswer : ℕ → List ℕ → List ℕ → List ℕ → (us uk : ℕ) → WorkAnswer
-workAnswer d keys own begin us uk = found (workCheck d keys own begin us uk) (nearWork d keys own)
+abbrev pub workOr : Outcome → ℕ → WorkAnswer
+workOr Done n = work.Work n
+workOr (Refused r) n = work.Refused r
 
 -- whether the answer is not a refusal
 abbrev pub isWork : WorkAnswer → Bool
 isWork (work.Work w) = true
 isWork (work.Refused r) = false
 
--- a lent slice of n entries: its part of the U list and 0 in the unused rest, or 0 throughout after a refusal
-abbrev pub left : WorkAnswer → ℕ → List ℕ → List ℕ
-left (work.Work w) n xs = filled n xs
-left (work.Refused r) n xs = filled n []
+module _ (d : ℕ) (t : Columns) (us uk : ℕ) where
+  -- 1, 13, then 8 where the U list has no room: starts one for each node and one more, keys their full number, where at most 16,777,216 entries count
+  abbrev pub workCheck : Outcome
+  workCheck = treeCheck d t then ask (ltb (length (t .keys)) us) (Room 4) then ask (leb (length (rowKeys (uRows d t) (t .keys))) (keysRoom uk)) (Room 6)
+
+  abbrev pub workAnswer : WorkAnswer
+  workAnswer = workOr workCheck (nearWork d (t .keys) (t .own))
+
+  -- what is left in the two slices
+  abbrev pub workStartsLeft : List ℕ
+  workStartsLeft = left workCheck us (rowStarts (uRows d t) (t .keys))
+
+  abbrev pub workKeysLeft : List ℕ
+  workKeysLeft = left workCheck uk (rowKeys (uRows d t) (t .keys))

@@ -10,12 +10,12 @@ use Rattle.tree.specs.WellFormed.{inOrder}
 use Rattle.rows.specs.Lists.{uRow}
 
 -- the sources in a row: what its leaves own together
-abbrev pub sourcesIn : List ℕ → List ℕ → List ℕ → ℕ
-sourcesIn keys own row = sum (map (ownOf keys own) row)
+abbrev pub rowSources : List ℕ → List ℕ → List ℕ → ℕ
+rowSources keys own row = sum (map (ownOf keys own) row)
 
 -- what the node with key b adds: own sources times sources in the U row, if it is a leaf
 abbrev pub workOf : ℕ → List ℕ → List ℕ → ℕ → ℕ
-workOf d keys own b = cond (leaf d keys b) (ownOf keys own b * sourcesIn keys own (uRow d keys own b)) 0
+workOf d keys own b = cond (leaf d keys b) (ownOf keys own b * rowSources keys own (uRow d keys own b)) 0
 
 -- 1,048,576 sources, each with each: 2 ^ 40
 abbrev pub mostWork : ℕ

@@ -7,13 +7,14 @@ ghost use mathlib.Core.Bool.{true};
 ghost use Prim.Native.Nat.{_≤_, _<_};
 ghost use lib.ListN.{length, getD};
 ghost use Rattle.slices.specs.Lists.{filled};
+ghost use Rattle.tree.specs.Columns.{columns};
 ghost use Rattle.tree.specs.Nodes.{ownOf};
 ghost use Rattle.tree.specs.WellFormed.{mostSources};
 ghost use Rattle.rows.specs.Lists.{uRow, nearWork};
 ghost use Rattle.rows.specs.Written.{rowStarts, rowKeys, Written};
 ghost use Rattle.sourced.specs.Trees.{SoundTree};
-ghost use Rattle.near_work.specs.Work.{Beside, sourcesIn, workOf, mostWork};
-ghost use Rattle.near_work.specs.Answers.{workAnswer, isWork, left};
+ghost use Rattle.near_work.specs.Work.{Beside, rowSources, workOf, mostWork};
+ghost use Rattle.near_work.specs.Answers.{workAnswer, isWork, workStartsLeft, workKeysLeft};
 
 // Near work of a tree, or a refusal.
 pub enum WorkAnswer {
@@ -35,8 +36,8 @@ fn own_of(key: &[u64], own: &[usize], k: u64) -> usize
 
 // The sources in a row.
 fn row_sources(key: &[u64], own: &[usize], row: &[u64]) -> u64
-    requires { ⌜ Beside (now key) (now own) × (sourcesIn (now key) (now own) (now row) ≤ mostSources) ⌝ }
-    ensures { λ r. ⌜ r ≡ sourcesIn (now (key .entry)) (now (own .entry)) (now (row .entry)) ⌝ }
+    requires { ⌜ Beside (now key) (now own) × (rowSources (now key) (now own) (now row) ≤ mostSources) ⌝ }
+    ensures { λ r. ⌜ r ≡ rowSources (now (key .entry)) (now (own .entry)) (now (row .entry)) ⌝ }
 {
     let mut sources: u64 = 0;
     let mut i: usize = 0;
@@ -92,7 +93,7 @@ fn write_and_sum(
     starts: &mut [usize],
     flat: &mut [u64],
 ) -> WorkAnswer
-    ensures { λ r. ⌜ r ≡ workAnswer axes (now (key .entry)) (now (own .entry)) (now (begin .entry)) (length (now (starts .entry))) (length (now (flat .entry))) ⌝ }
+    ensures { λ r. ⌜ r ≡ workAnswer axes (columns (now (key .entry)) (now (own .entry)) (now (begin .entry))) (length (now (starts .entry))) (length (now (flat .entry))) ⌝ }
     ensures { λ r. ⌜ (isWork r ≡ true → now (starts .exit) ≡ filled (length (now (starts .entry))) (rowStarts (uRow axes (now (key .entry)) (now (own .entry))) (now (key .entry)))) ⌝ }
     ensures { λ r. ⌜ (isWork r ≡ true → now (flat .exit) ≡ filled (length (now (flat .entry))) (rowKeys (uRow axes (now (key .entry)) (now (own .entry))) (now (key .entry)))) ⌝ }
 {
@@ -118,9 +119,10 @@ pub fn get_near_work(
     starts: &mut [usize],
     flat: &mut [u64],
 ) -> WorkAnswer
-    ensures answer { λ r. ⌜ r ≡ workAnswer axes (now (key .entry)) (now (own .entry)) (now (begin .entry)) (length (now (starts .entry))) (length (now (flat .entry))) ⌝ }
-    ensures starts { λ r. ⌜ now (starts .exit) ≡ left r (length (now (starts .entry))) (rowStarts (uRow axes (now (key .entry)) (now (own .entry))) (now (key .entry))) ⌝ }
-    ensures flat { λ r. ⌜ now (flat .exit) ≡ left r (length (now (flat .entry))) (rowKeys (uRow axes (now (key .entry)) (now (own .entry))) (now (key .entry))) ⌝ }
+    ensures answer { λ r. ⌜ r ≡ workAnswer axes (columns (now (key .entry)) (now (own .entry)) (now (begin .entry))) (length (now (starts .entry))) (length (now (flat .entry))) ⌝ }
+    ensures starts { λ _. ⌜ now (starts .exit) ≡ workStartsLeft axes (columns (now (key .entry)) (now (own .entry)) (now (begin .entry)))
+        (length (now (starts .entry))) (length (now (flat .entry))) ⌝ }
+    ensures flat { λ _. ⌜ now (flat .exit) ≡ workKeysLeft axes (columns (now (key .entry)) (now (own .entry)) (now (begin .entry))) (length (now (starts .entry))) (length (now (flat .entry))) ⌝ }
 {
     let answer = write_and_sum(axes, key, own, begin, starts, flat);
     match answer {

@@ -14,7 +14,7 @@ use lib.Ieee.Exact.{HasValue, round-exact}
 use lib.Ieee.Scale.{round-same, finite}
 use lib.Ieee.Back.{round-whole}
 use lib.Ieee.Positive.{num, den, positive, den-pos, own-value, between, le→cross, positive-of-value, mul-at}
-use Rattle.space.specs.Floats.{Floor, none, whole, floor}
+use Rattle.space.specs.Floats.{Floor, noFloor, whole, floor}
 use Rattle.space.specs.Cells.{side, quotient, pick, cellIn}
 use Rattle.space.specs.declared.Place.the-variants.{At, Outside}
 use Rattle.slices.proofs.Tests.{and-l as and-left, and-r as and-right}
@@ -204,7 +204,7 @@ quotient-is r s m e l R L =
     div-at binary64 (fin s m e) (side r l) s (m * up e) (down e) (2 * num r) (den r * 2 ^ l) (down-pos e) (twice-pos r (radius-positive r R)) (mul-pos (den-pos r) (pow-pos l)) (refl, refl) (side-value r l R L)
     ∙ ap (λ (x : ℕ). round binary64 s x (down e * (2 * num r))) (sym (mul-assoc (m * up e) (den r) (2 ^ l)))
 
-never : (z : ℤ) → none ≡ whole z → ⊥
+never : (z : ℤ) → noFloor ≡ whole z → ⊥
 never z e = let k : _≡_ {A = ℕ} 0 1 = cc in omega arith
 
 no-nan : (y : Float) (z : ℤ) → floor (div binary64 nan y) ≡ whole z → ⊥
@@ -237,7 +237,7 @@ nesting r (fin s m e) l a R L h =
 
 -- ---- and so the cells of a coordinate
 named : (n : ℕ) (y : Floor) (a : ℕ) → cellIn n y ≡ At a → (y ≡ whole (pos a)) × (a < n)
-named n none a h = let k : _≡_ {A = ℕ} 0 1 = cc in absurd (omega arith)
+named n noFloor a h = let k : _≡_ {A = ℕ} 0 1 = cc in absurd (omega arith)
 named n (whole (negsuc k)) a h = let z : _≡_ {A = ℕ} 0 1 = cc in absurd (omega arith)
 named n (whole (pos k)) a h = go (ltb k n) (ltb→lt k n) h
   where
@@ -256,21 +256,21 @@ cells-nest r x d l a R L h =
     ∙ names (2 ^ l) k (shr-lt l (16 - l) (subst (λ (w : ℕ). a < 2 ^ w) (sym (rest l L)) (n .1)))
 
 -- ---- a coordinate that is not finite has no floor, whatever the displacement and the side are
-nan-none : (y : Float) → floor (div binary64 nan y) ≡ none
+nan-none : (y : Float) → floor (div binary64 nan y) ≡ noFloor
 unfolding div floor
 nan-none y = refl
 
-inf-none : (s : Bool) (y : Float) → floor (div binary64 (inf s) y) ≡ none
+inf-none : (s : Bool) (y : Float) → floor (div binary64 (inf s) y) ≡ noFloor
 unfolding div floor
 inf-none s nan = refl
 inf-none s (inf t) = refl
 inf-none s (fin t n d) = refl
 
-some-none : (b s : Bool) (y : Float) → floor (div binary64 (cond b (inf s) nan) y) ≡ none
+some-none : (b s : Bool) (y : Float) → floor (div binary64 (cond b (inf s) nan) y) ≡ noFloor
 some-none true s y = inf-none s y
 some-none false s y = nan-none y
 
-pub not-finite : (x d y : Float) → T (not (finite x)) → floor (quotient x d y) ≡ none
+pub not-finite : (x d y : Float) → T (not (finite x)) → floor (quotient x d y) ≡ noFloor
 unfolding sub add neg
 not-finite nan d y h = nan-none y
 not-finite (inf s) nan y h = nan-none y

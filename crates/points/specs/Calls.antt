@@ -12,7 +12,7 @@ use Rattle.points.specs.declared.PointKey.{PointKey}
 use Rattle.points.specs.declared.PointKey.the-variants.{Cell, Refused as NoCell}
 use Rattle.refusal.specs.Chain.{ask, _then_}
 use Rattle.space.specs.Domain.{levelOutcome}
-use Rattle.space.specs.Cells.{frameOf, inside, anchors}
+use Rattle.space.specs.Cells.{frameOf, inside, pointAnchors}
 
 -- 1 DIMS, 2 BOX, 9 KEY, and then 7 POINT
 abbrev pub pointOutcome : Box → List Float → ℕ → Outcome
@@ -25,7 +25,7 @@ anchorsOr (Refused r) l = record { outcome = Refused r; anchor = 0 ∷ 0 ∷ 0 �
 
 -- the anchors of a point at a level
 abbrev pub pointToAnchor : Box → List Float → ℕ → Anchored
-pointToAnchor b xs level = anchorsOr (pointOutcome b xs level) (anchors (frameOf b) xs level)
+pointToAnchor b xs level = anchorsOr (pointOutcome b xs level) (pointAnchors (frameOf b) xs level)
 
 abbrev pub cellOr : Outcome → ℕ → PointKey
 cellOr Done k = Cell k
@@ -33,4 +33,4 @@ cellOr (Refused r) k = NoCell r
 
 -- the key of the cell with these anchors
 abbrev pub pointToKey : Box → List Float → ℕ → PointKey
-pointToKey b xs level = cellOr (pointOutcome b xs level) (keyAt (b .axes) level (anchors (frameOf b) xs level))
+pointToKey b xs level = cellOr (pointOutcome b xs level) (keyAt (b .axes) level (pointAnchors (frameOf b) xs level))

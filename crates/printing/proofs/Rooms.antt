@@ -13,25 +13,28 @@ use Rattle.refusal.specs.declared.Refusal.{Refusal}
 use Rattle.refusal.specs.declared.Refusal.the-variants.{Room}
 use Rattle.refusal.specs.declared.Outcome.{Outcome}
 use Rattle.refusal.specs.declared.Outcome.the-variants.{Done, Refused}
+use Rattle.refusal.specs.Left.{left}
 use Rattle.refusal.specs.Chain.{ask, _then_}
 use Rattle.refusal.proofs.Chain.{asked, both-done}
 use Rattle.slices.specs.Lists.{filled, range, sum}
 use Rattle.slices.proofs.Lists.{length-range}
+use Rattle.tree.specs.Columns.{columns}
 use Rattle.growth.specs.Columns.{ownColumn, beginColumn}
-use Rattle.laying.specs.Outcomes.{callOutcome, insideOutcome, workOutcome}
-use Rattle.laying.specs.Points.{rowsOf}
+use Rattle.laying.specs.Outcomes.{askedOutcome, insideOutcome, workOutcome}
+use Rattle.space.specs.Rows.{rowsOf}
 use Rattle.build.specs.declared.Built.{Built}
 use Rattle.build.specs.declared.Built.the-variants.{Tree, Refused as NotBuilt}
-use Rattle.build.specs.Asked.{Asked, keyOf, ownOf, beginOf}
-use Rattle.build.specs.Outcomes.{columnOutcome, buildOutcome, treeOr, written}
+use Rattle.build.specs.Asked.{Asked, builtKeys, builtOwn, builtBegins}
+use Rattle.build.specs.Outcomes.{columnOutcome, buildOutcome, treeOr}
 use Rattle.survey.specs.declared.Survey.{Survey}
-use Rattle.survey.specs.File.{none, fileOutcome, surveyOr, survey, sourceRows, targetRows, filledWith}
+use Rattle.space.specs.Floats.{nought}
+use Rattle.survey.specs.File.{fileOutcome, surveyOr, survey, sourceRows, targetRows, filledWith}
 use Rattle.survey.proofs.Numbers.{f64s-length}
 use Rattle.survey.proofs.Surveys.{Reads, reads}
 use Rattle.text.specs.declared.Text.{Text}
 use Rattle.text.specs.declared.Text.the-variants.{Length, Short}
 use Rattle.text.specs.Listing.{lengthOr, refusalLine}
-use Rattle.text.specs.Listing.{written as writtenIn}
+use Rattle.text.specs.Listing.{textAnswer}
 use Rattle.report.specs.Report.{textOr}
 use Rattle.printing.specs.Printed.{askedBy, columnsText, surveyTextIn, surveyText, fileText}
 
@@ -45,22 +48,22 @@ was-not : (o : Outcome) (k : List ℕ) (r : Refusal) → NotBuilt r ≡ treeOr o
 was-not Done k r e = absurd (let z : _≡_ {A = ℕ} 0 1 = cc in omega arith)
 was-not (Refused s) k r e = cc
 
-own-length : (a : Asked) → length (ownOf a) ≡ length (keyOf a)
-unfolding ownOf ownColumn
-own-length a = length-map (keyOf a) _
+own-length : (a : Asked) → length (builtOwn a) ≡ length (builtKeys a)
+unfolding builtOwn ownColumn
+own-length a = length-map (builtKeys a) _
 
-begin-length : (a : Asked) → length (beginOf a) ≡ length (keyOf a)
-unfolding beginOf beginColumn
-begin-length a = length-map (range 0 (length (ownOf a))) (λ i. sum (take i (ownOf a))) ∙ length-range 0 (length (ownOf a)) ∙ own-length a
+begin-length : (a : Asked) → length (builtBegins a) ≡ length (builtKeys a)
+unfolding builtBegins beginColumn
+begin-length a = length-map (range 0 (length (builtOwn a))) (λ i. sum (take i (builtOwn a))) ∙ length-range 0 (length (builtOwn a)) ∙ own-length a
 
 -- a column that is left by a build: its first entries
-column-front : (o : Outcome) (s xs : List ℕ) (n room : ℕ) → s ≡ written o room xs → o ≡ Done → n ≡ length xs → take n s ≡ xs
-column-front o s xs n room e f k = ap (take n) (e ∙ ap (λ (o : Outcome). written o room xs) f) ∙ take-at xs (replicate (room - length xs) 0) n (sym k)
+column-front : (o : Outcome) (s xs : List ℕ) (n room : ℕ) → s ≡ left o room xs → o ≡ Done → n ≡ length xs → take n s ≡ xs
+column-front o s xs n room e f k = ap (take n) (e ∙ ap (λ (o : Outcome). left o room xs) f) ∙ take-at xs (replicate (room - length xs) 0) n (sym k)
 
-column-long : (o : Outcome) (s xs : List ℕ) (n room : ℕ) → s ≡ written o room xs → o ≡ Done → n ≡ length xs → n ≤ length s
-column-long o s xs n room e f k = omega (arith, ap length (e ∙ ap (λ (o : Outcome). written o room xs) f) ∙ length-append xs (replicate (room - length xs) 0))
+column-long : (o : Outcome) (s xs : List ℕ) (n room : ℕ) → s ≡ left o room xs → o ≡ Done → n ≡ length xs → n ≤ length s
+column-long o s xs n room e f k = omega (arith, ap length (e ∙ ap (λ (o : Outcome). left o room xs) f) ∙ length-append xs (replicate (room - length xs) 0))
 
-module _ (s : Survey) (sources targets : List Float) (work order nodes : ℕ) (r : Built) (e : r ≡ treeOr (buildOutcome (askedBy s sources targets) work order nodes) (keyOf (askedBy s sources targets))) where
+module _ (s : Survey) (sources targets : List Float) (work order nodes : ℕ) (r : Built) (e : r ≡ treeOr (buildOutcome (askedBy s sources targets) work order nodes) (builtKeys (askedBy s sources targets))) where
   abbrev a : Asked
   a = askedBy s sources targets
 
@@ -69,30 +72,30 @@ module _ (s : Survey) (sources targets : List Float) (work order nodes : ℕ) (r
 
   pub built-refused : (x : Refusal) → r ≡ NotBuilt x → refusalLine x ≡ surveyTextIn work order nodes s sources targets
   built-refused x f =
-      sym (ap (λ (o : Outcome). textOr o (columnsText (s .b .axes) (keyOf a) (ownOf a) (beginOf a) (s .sources))) (was-not o (keyOf a) x (sym f ∙ e)))
+      sym (ap (λ (o : Outcome). textOr o (columnsText (s .b .axes) (columns (builtKeys a) (builtOwn a) (builtBegins a)) (s .sources))) (was-not o (builtKeys a) x (sym f ∙ e)))
 
   module _ (n d : ℕ) (f : r ≡ Tree n d) where
     done : o ≡ Done
-    done = was-built o (keyOf a) n d (sym f ∙ e) .0
+    done = was-built o (builtKeys a) n d (sym f ∙ e) .0
 
-    count : n ≡ length (keyOf a)
-    count = was-built o (keyOf a) n d (sym f ∙ e) .1
+    count : n ≡ length (builtKeys a)
+    count = was-built o (builtKeys a) n d (sym f ∙ e) .1
 
-    pub key-long : (key : List ℕ) (room : ℕ) → key ≡ written o room (keyOf a) → n ≤ length key
-    key-long key room g = column-long o key (keyOf a) n room g done count
+    pub key-long : (key : List ℕ) (room : ℕ) → key ≡ left o room (builtKeys a) → n ≤ length key
+    key-long key room g = column-long o key (builtKeys a) n room g done count
 
-    pub own-long : (own : List ℕ) (room : ℕ) → own ≡ written o room (ownOf a) → n ≤ length own
-    own-long own room g = column-long o own (ownOf a) n room g done (count ∙ sym (own-length a))
+    pub own-long : (own : List ℕ) (room : ℕ) → own ≡ left o room (builtOwn a) → n ≤ length own
+    own-long own room g = column-long o own (builtOwn a) n room g done (count ∙ sym (own-length a))
 
-    pub begin-long : (begin : List ℕ) (room : ℕ) → begin ≡ written o room (beginOf a) → n ≤ length begin
-    begin-long begin room g = column-long o begin (beginOf a) n room g done (count ∙ sym (begin-length a))
+    pub begin-long : (begin : List ℕ) (room : ℕ) → begin ≡ left o room (builtBegins a) → n ≤ length begin
+    begin-long begin room g = column-long o begin (builtBegins a) n room g done (count ∙ sym (begin-length a))
 
-    pub built-text : (key own begin : List ℕ) (keys owns begins : ℕ) → key ≡ written o keys (keyOf a) → own ≡ written o owns (ownOf a) → begin ≡ written o begins (beginOf a)
-        → columnsText (s .b .axes) (take n key) (take n own) (take n begin) (s .sources) ≡ surveyTextIn work order nodes s sources targets
+    pub built-text : (key own begin : List ℕ) (keys owns begins : ℕ) → key ≡ left o keys (builtKeys a) → own ≡ left o owns (builtOwn a) → begin ≡ left o begins (builtBegins a)
+        → columnsText (s .b .axes) (columns (take n key) (take n own) (take n begin)) (s .sources) ≡ surveyTextIn work order nodes s sources targets
     built-text key own begin keys owns begins g h i =
-        ap₂ (λ (k w : List ℕ). columnsText (s .b .axes) k w (take n begin) (s .sources)) (column-front o key (keyOf a) n keys g done count) (column-front o own (ownOf a) n owns h done (count ∙ sym (own-length a)))
-        ∙ ap (λ (b : List ℕ). columnsText (s .b .axes) (keyOf a) (ownOf a) b (s .sources)) (column-front o begin (beginOf a) n begins i done (count ∙ sym (begin-length a)))
-        ∙ sym (ap (λ (o : Outcome). textOr o (columnsText (s .b .axes) (keyOf a) (ownOf a) (beginOf a) (s .sources))) done)
+        ap₂ (λ (k w : List ℕ). columnsText (s .b .axes) (columns k w (take n begin)) (s .sources)) (column-front o key (builtKeys a) n keys g done count) (column-front o own (builtOwn a) n owns h done (count ∙ sym (own-length a)))
+        ∙ ap (λ (b : List ℕ). columnsText (s .b .axes) (columns (builtKeys a) (builtOwn a) b) (s .sources)) (column-front o begin (builtBegins a) n begins i done (count ∙ sym (begin-length a)))
+        ∙ sym (ap (λ (o : Outcome). textOr o (columnsText (s .b .axes) (columns (builtKeys a) (builtOwn a) (builtBegins a)) (s .sources))) done)
 
 -- ---- a file's answer
 
@@ -108,7 +111,7 @@ module _ (file : List ℕ) (s : Survey) (e : s ≡ survey file) where
   file-refused x f = sym (ap (λ (o : Outcome). textOr o (surveyText (survey file) (sourceRows file) (targetRows file))) (file-is (Refused x) f))
 
   long : (m : ℕ) (column rows : List Float) → column ≡ filledWith 4088 rows → m ≡ length rows → m ≤ length column
-  long m column rows g k = omega (arith, ap length g ∙ length-append rows (replicate (4088 - length rows) none))
+  long m column rows g k = omega (arith, ap length g ∙ length-append rows (replicate (4088 - length rows) nought))
 
   sources-count : s .sources * s .b .axes ≡ length (sourceRows file)
   sources-count = sym (ap length (sym (reads file s e .sources-are)) ∙ f64s-length file (s .sources * s .b .axes) 0)
@@ -126,8 +129,8 @@ module _ (file : List ℕ) (s : Survey) (e : s ≡ survey file) where
       → surveyText s (take (s .sources * s .b .axes) xs) (take (s .targets * s .b .axes) ts) ≡ fileText file
   file-text xs ts g h f =
       ap₂ (λ (x t : List Float). surveyText s x t)
-      (ap (take (s .sources * s .b .axes)) g ∙ take-at (sourceRows file) (replicate (4088 - length (sourceRows file)) none) (s .sources * s .b .axes) (sym sources-count))
-      (ap (take (s .targets * s .b .axes)) h ∙ take-at (targetRows file) (replicate (4088 - length (targetRows file)) none) (s .targets * s .b .axes) (sym targets-count))
+      (ap (take (s .sources * s .b .axes)) g ∙ take-at (sourceRows file) (replicate (4088 - length (sourceRows file)) nought) (s .sources * s .b .axes) (sym sources-count))
+      (ap (take (s .targets * s .b .axes)) h ∙ take-at (targetRows file) (replicate (4088 - length (targetRows file)) nought) (s .targets * s .b .axes) (sym targets-count))
       ∙ ap (λ (s : Survey). surveyText s (sourceRows file) (targetRows file)) e
       ∙ sym (ap (λ (o : Outcome). textOr o (surveyText (survey file) (sourceRows file) (targetRows file))) (file-is Done f))
 
@@ -137,7 +140,7 @@ told : (b : Bool) (k n : ℕ) → Length n ≡ lengthOr b k → (b ≡ true) × 
 told true k n e = (refl, cc)
 told false k n e = absurd (let z : _≡_ {A = ℕ} 0 1 = cc in omega arith)
 
-pub written-within : (room : ℕ) (text : List ℕ) (n : ℕ) → Length n ≡ writtenIn room text → n ≤ room
+pub written-within : (room : ℕ) (text : List ℕ) (n : ℕ) → Length n ≡ textAnswer room text → n ≤ room
 written-within room text n e =
     let (b, k) = told (leb (length text) room) (length text) n e in
     omega (arith, leb-true (length text) room b)

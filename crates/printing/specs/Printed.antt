@@ -3,7 +3,8 @@ use mathlib.Core.Bool.{true}
 use mathlib.Core.List.{List}
 use Prim.Native.Nat.{ℕ}
 use lib.Ieee.{Float}
-use Rattle.build.specs.Asked.{Asked, asks, used, keyOf, ownOf, beginOf}
+use Rattle.tree.specs.Columns.{Columns}
+use Rattle.build.specs.Asked.{Asked, asksFor, builtColumns}
 use Rattle.build.specs.Outcomes.{buildOutcome}
 use Rattle.survey.specs.declared.Survey.{Survey}
 use Rattle.survey.specs.File.{fileOutcome, survey, sourceRows, targetRows}
@@ -11,17 +12,17 @@ use Rattle.report.specs.Report.{textOr, treeText}
 
 -- the build of a survey, with the refinement flag set
 abbrev pub askedBy : Survey → List Float → List Float → Asked
-askedBy s sources targets = asks (s .b) (s .limit) (s .order) (s .keep) sources (used (s .keep) true targets)
+askedBy s sources targets = asksFor (s .b) sources targets (s .limit) (s .order) (s .keep) true
 
 -- room for 8,192 entries a list, and starts for 2,048 nodes
-abbrev pub columnsText : ℕ → List ℕ → List ℕ → List ℕ → ℕ → List ℕ
-columnsText d key own begin sources = treeText d key own begin 2049 8192 2049 8192 sources
+abbrev pub columnsText : ℕ → Columns → ℕ → List ℕ
+columnsText d t sources = treeText d t 2049 8192 2049 8192 sources
 
 -- the listing of a survey with so much work, room in the order column and room in the node columns, or the first refusal
 abbrev pub surveyTextIn : (work order nodes : ℕ) → Survey → List Float → List Float → List ℕ
 surveyTextIn work order nodes s sources targets =
     textOr (buildOutcome (askedBy s sources targets) work order nodes)
-    (columnsText (s .b .axes) (keyOf (askedBy s sources targets)) (ownOf (askedBy s sources targets)) (beginOf (askedBy s sources targets)) (s .sources))
+    (columnsText (s .b .axes) (builtColumns (askedBy s sources targets)) (s .sources))
 
 -- room for 2,048 nodes, and work and order for the largest file
 abbrev pub surveyText : Survey → List Float → List Float → List ℕ

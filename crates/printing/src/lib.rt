@@ -6,7 +6,8 @@ use survey::Survey;
 use text::Text;
 ghost use mathlib.Core.Path.{_≡_};
 ghost use lib.ListN.{length};
-ghost use Rattle.text.specs.Listing.{written, left};
+ghost use Rattle.tree.specs.Columns.{columns};
+ghost use Rattle.text.specs.Listing.{textAnswer, textLeft};
 ghost use Rattle.build.specs.Outcomes.{nodeRoom};
 ghost use Rattle.printing.specs.Printed.{columnsText, surveyTextIn, surveyText, fileText};
 
@@ -19,8 +20,8 @@ fn list_columns(
     begin: &[usize],
     out: &mut [u8],
 ) -> Text
-    ensures answer { λ r. ⌜ r ≡ written (length (now (out .entry))) (columnsText axes (now (key .entry)) (now (own .entry)) (now (begin .entry)) sources) ⌝ }
-    ensures text { λ _. ⌜ now (out .exit) ≡ left (length (now (out .entry))) (columnsText axes (now (key .entry)) (now (own .entry)) (now (begin .entry)) sources) ⌝ }
+    ensures answer { λ r. ⌜ r ≡ textAnswer (length (now (out .entry))) (columnsText axes (columns (now (key .entry)) (now (own .entry)) (now (begin .entry))) sources) ⌝ }
+    ensures text { λ _. ⌜ now (out .exit) ≡ textLeft (length (now (out .entry))) (columnsText axes (columns (now (key .entry)) (now (own .entry)) (now (begin .entry))) sources) ⌝ }
 {
     let mut u_starts = [0usize; 2049];
     let mut u_keys = [0u64; 8192];
@@ -52,8 +53,10 @@ fn list_built(
     begin: &mut [usize],
     out: &mut [u8],
 ) -> Text
-    ensures answer { λ r. ⌜ r ≡ written (length (now (out .entry))) (surveyTextIn (length (now (work .entry))) (length (now (indices .entry))) (nodeRoom (length (now (key .entry))) (length (now (own .entry))) (length (now (begin .entry)))) survey (now (sources .entry)) (now (targets .entry))) ⌝ }
-    ensures text { λ _. ⌜ now (out .exit) ≡ left (length (now (out .entry))) (surveyTextIn (length (now (work .entry))) (length (now (indices .entry))) (nodeRoom (length (now (key .entry))) (length (now (own .entry))) (length (now (begin .entry)))) survey (now (sources .entry)) (now (targets .entry))) ⌝ }
+    ensures answer { λ r. ⌜ r ≡ textAnswer (length (now (out .entry))) (surveyTextIn (length (now (work .entry))) (length (now (indices .entry)))
+        (nodeRoom (length (now (key .entry))) (length (now (own .entry))) (length (now (begin .entry)))) survey (now (sources .entry)) (now (targets .entry))) ⌝ }
+    ensures text { λ _. ⌜ now (out .exit) ≡ textLeft (length (now (out .entry))) (surveyTextIn (length (now (work .entry))) (length (now (indices .entry)))
+        (nodeRoom (length (now (key .entry))) (length (now (own .entry))) (length (now (begin .entry)))) survey (now (sources .entry)) (now (targets .entry))) ⌝ }
 {
     let b = survey.b;
     let built = build::build_tree(
@@ -85,8 +88,8 @@ fn list_built(
 
 // The same with room for 2,048 nodes.
 fn list_survey(survey: Survey, sources: &[f64], targets: &[f64], out: &mut [u8]) -> Text
-    ensures answer { λ r. ⌜ r ≡ written (length (now (out .entry))) (surveyText survey (now (sources .entry)) (now (targets .entry))) ⌝ }
-    ensures text { λ _. ⌜ now (out .exit) ≡ left (length (now (out .entry))) (surveyText survey (now (sources .entry)) (now (targets .entry))) ⌝ }
+    ensures answer { λ r. ⌜ r ≡ textAnswer (length (now (out .entry))) (surveyText survey (now (sources .entry)) (now (targets .entry))) ⌝ }
+    ensures text { λ _. ⌜ now (out .exit) ≡ textLeft (length (now (out .entry))) (surveyText survey (now (sources .entry)) (now (targets .entry))) ⌝ }
 {
     let mut work = [0u64; 8176];
     let mut indices = [0usize; 4088];
@@ -108,8 +111,8 @@ fn list_survey(survey: Survey, sources: &[f64], targets: &[f64], out: &mut [u8])
 
 // Reads a survey file, and writes its listing or the first refusal.
 pub fn list_file(file: &[u8], out: &mut [u8]) -> Text
-    ensures answer { λ r. ⌜ r ≡ written (length (now (out .entry))) (fileText (now (file .entry))) ⌝ }
-    ensures text { λ _. ⌜ now (out .exit) ≡ left (length (now (out .entry))) (fileText (now (file .entry))) ⌝ }
+    ensures answer { λ r. ⌜ r ≡ textAnswer (length (now (out .entry))) (fileText (now (file .entry))) ⌝ }
+    ensures text { λ _. ⌜ now (out .exit) ≡ textLeft (length (now (out .entry))) (fileText (now (file .entry))) ⌝ }
 {
     let mut sources = [0.0f64; 4088];
     let mut targets = [0.0f64; 4088];

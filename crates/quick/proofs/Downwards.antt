@@ -23,7 +23,7 @@ use Rattle.lists.specs.Descent.{underOne, PutsThose}
 use Rattle.lists.proofs.Those.{those-none, those-join, those-same}
 use Rattle.around.proofs.Split.{same-level, kids-split}
 use Rattle.quick.specs.Marks.{owns}
-use Rattle.quick.specs.Runs.{among, isNode, inRun, underRun, belowRuns, Runs, Lowers}
+use Rattle.quick.specs.Runs.{among, isNode, inRun, underRun, belowRuns, NodeRuns, Lowers}
 use Rattle.quick.proofs.EachOne.{among-elim, among-intro}
 
 last : (b : Bool) → (b && false) ≡ false
@@ -61,7 +61,7 @@ module _ (d : ℕ) (keys own first : List ℕ) (t : SoundTree d keys own) (f : F
       go (yes s) (yes r) more = let (i, u, v, w) = more s r in (i, u, omega (arith, v), w)
       go (yes s) (no r) more = (e, omega arith, omega arith, f .children e l .are k (omega (arith, q, f .children e l .within)) ∙ both (le-leb (firstOf first e) k (omega arith)) (lt-ltb k (firstOf first (suc e)) q))
 
-  module _ (from to : List ℕ) (c left : ℕ) (r : Runs keys from to c left) where
+  module _ (from to : List ℕ) (c left : ℕ) (r : NodeRuns keys from to c left) where
     -- the node that x lies at or under
     upper : (x : ℕ) → among (underRun d keys from to) 0 c x ≡ true → (j : ℕ) × (j < c) × (i : ℕ) × (getD from j 0 ≤ i) × (i < getD to j 0) × (under d (getD keys i 0) x ≡ true)
     upper x h =
@@ -130,7 +130,7 @@ module _ (d : ℕ) (keys own first : List ℕ) (t : SoundTree d keys own) (f : F
       above : (j i : ℕ) → j < c → getD from' j 0 ≤ i → i < getD to' j 0 → (p : ℕ) × (getD from j 0 ≤ p) × (p < getD to j 0) × (childOf d (getD keys p 0) (getD keys i 0) ≡ true)
       above j i l a b = parent-in (getD from j 0) (getD to j 0) i (r .rise j l) (r .inside j l) (omega (arith, a, begins .at j l)) (omega (arith, b, stops .at j l))
 
-      pub runs-next : 0 < left → length from' ≡ length from → length to' ≡ length to → Runs keys from' to' c (left - 1)
+      pub runs-next : 0 < left → length from' ≡ length from → length to' ≡ length to → NodeRuns keys from' to' c (left - 1)
       runs-next h k m = record {
         fits = omega (arith, r .fits, k);
         room = m ∙ r .room ∙ sym k;

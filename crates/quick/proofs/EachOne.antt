@@ -17,7 +17,7 @@ use Rattle.sourced.proofs.Below.{tree-facts, own-of, range-between, between-ran
 use Rattle.lists.specs.Descent.{PutsThose}
 use Rattle.lists.proofs.Those.{those-none, those-join, those-one}
 use Rattle.quick.specs.Marks.{owns}
-use Rattle.quick.specs.Runs.{among, isNode, inRun, Runs}
+use Rattle.quick.specs.Runs.{among, isNode, inRun, NodeRuns}
 
 module _ (p : ℕ → ℕ → Bool) (from to x : ℕ) where
   pub among-elim : among p from to x ≡ true → (i : ℕ) × (from ≤ i) × (i < to) × (p i x ≡ true)
@@ -71,7 +71,7 @@ module _ (d : ℕ) (keys own : List ℕ) (s : SoundTree d keys own) where
   nodes-apart to l j x i h k a b =
       omega (arith, h, distinct d keys (tree-facts d keys own s .ascending) j i (omega arith) (omega arith) (eqb-true (getD keys j 0) x a ∙ sym (eqb-true (getD keys i 0) x b)))
 
-  pub runs-apart : (from to : List ℕ) (c left : ℕ) → Runs keys from to c left → (j x i : ℕ) → j < i → i < c → inRun keys from to j x ≡ true → inRun keys from to i x ≡ true → ⊥
+  pub runs-apart : (from to : List ℕ) (c left : ℕ) → NodeRuns keys from to c left → (j x i : ℕ) → j < i → i < c → inRun keys from to j x ≡ true → inRun keys from to i x ≡ true → ⊥
   runs-apart from to c left r j x i h k a b =
       let (m, ma, mb, mx) = among-elim (isNode keys) (getD from j 0) (getD to j 0) x a in
       let (n, na, nb, nx) = among-elim (isNode keys) (getD from i 0) (getD to i 0) x b in

@@ -31,7 +31,7 @@ use Rattle.around.specs.Around.{around, nearTo, owner}
 use Rattle.around.specs.Candidates.{Found, Prepared, Child, touches}
 use Rattle.around.proofs.Counting.{count-numbers, count-found, found-distinct, found-test}
 use Rattle.spread.proofs.FewNear.{near-few}
-use Rattle.quick.specs.Marks.{Numbered, Marks, PutsUnmarked, ownsUnder, PutsOwners}
+use Rattle.quick.specs.Marks.{NodesWithMasks, Marks, PutsUnmarked, ownsUnder, PutsOwners}
 use Rattle.quick.specs.Runs.{FewMarked}
 use Rattle.quick.proofs.FarRow.{up-level, touch-near, far-row}
 use Rattle.quick.proofs.NearRow.{near-split}
@@ -68,7 +68,7 @@ root-row d keys own true b e out n = row-put d keys own true b refl out out n n 
 root-row d keys own false b e out n = row-none d keys own false b (root-no-leaf d keys b e) out n
 
 module _ (d : ℕ) (keys own first : List ℕ) (p : ℕ) (nodes masks held : List ℕ) (c h : ℕ) (q : Prepared d keys own first p nodes masks held c h) where
-  pub numbered : Numbered keys nodes masks c
+  pub numbered : NodesWithMasks keys nodes masks c
   numbered = record { fits = q .masked .fits; room = q .masked .room; inside = q .masked .inside }
 
   abbrev places : List ℕ

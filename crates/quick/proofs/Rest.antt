@@ -12,7 +12,7 @@ use Rattle.slices.specs.Lists.{filter}
 use Rattle.sourced.specs.Room.{Holds, Puts}
 use Rattle.sourced.proofs.Putting.{put-room}
 use Rattle.around.specs.Candidates.{bitOf}
-use Rattle.quick.specs.Marks.{Numbered, Marks, unmarked, PutsUnmarked}
+use Rattle.quick.specs.Marks.{NodesWithMasks, Marks, unmarked, PutsUnmarked}
 
 pub puts-none : (out : List ℕ) (n : ℕ) → Puts out n [] out n
 puts-none out n done h = rw (append-nil done) h
@@ -61,7 +61,7 @@ module _ (keys : List ℕ) (t : ℕ → Bool) where
 abbrev pub AwaitsFar : List ℕ → List ℕ → List ℕ → ℕ → ℕ → List ℕ → ℕ → ℕ → List ℕ → ℕ → Type 0
 AwaitsFar keys nodes masks c s out₀ n₀ j out n = (t : ℕ → Bool) → Marks nodes masks c s t → Awaits (unmarked keys t) (take c nodes) out₀ n₀ j out n
 
-module _ (keys nodes masks : List ℕ) (c s : ℕ) (l : Numbered keys nodes masks c) (out₀ : List ℕ) (n₀ : ℕ) where
+module _ (keys nodes masks : List ℕ) (c s : ℕ) (l : NodesWithMasks keys nodes masks c) (out₀ : List ℕ) (n₀ : ℕ) where
   pub far-start : AwaitsFar keys nodes masks c s out₀ n₀ 0 out₀ n₀
   far-start t k out' n' p = p
 

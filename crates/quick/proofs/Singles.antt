@@ -18,8 +18,8 @@ use Rattle.sourced.proofs.Putting.{filter-yes, filter-no}
 use Rattle.lists.specs.Descent.{PutsThose}
 use Rattle.lists.proofs.Those.{those-same}
 use Rattle.around.specs.Candidates.{bitOf}
-use Rattle.quick.specs.Marks.{Numbered, Marks, owns, ownsUnder, PutsOwners}
-use Rattle.quick.specs.Runs.{among, underRun, Runs, Collected, CollectsMarked, FewMarked}
+use Rattle.quick.specs.Marks.{NodesWithMasks, Marks, owns, ownsUnder, PutsOwners}
+use Rattle.quick.specs.Runs.{among, underRun, NodeRuns, Collected, CollectsMarked, FewMarked}
 use Rattle.quick.proofs.EachOne.{among-elim, among-intro}
 
 count-take : (p : ℕ → Bool) (xs : List ℕ) (i c : ℕ) → i ≤ c → count p (take i xs) ≤ count p (take c xs)
@@ -71,7 +71,7 @@ module _ (nodes masks : List ℕ) (c s : ℕ) (l : c ≤ length nodes) where
   collect-all j a b from to k w t m = let e : j ≡ c = omega arith in subst (λ (n : ℕ). Collected (filter t (take n nodes)) from to k) e (w t m)
 
 -- ---- what lies under those runs
-module _ (d : ℕ) (keys own nodes masks : List ℕ) (c s left : ℕ) (l : Numbered keys nodes masks c) (dist : Distinct (take c nodes)) (levels : (i : ℕ) → i < c → levelOf (getD keys (getD nodes i 0) 0) + left ≡ 17)
+module _ (d : ℕ) (keys own nodes masks : List ℕ) (c s left : ℕ) (l : NodesWithMasks keys nodes masks c) (dist : Distinct (take c nodes)) (levels : (i : ℕ) → i < c → levelOf (getD keys (getD nodes i 0) 0) + left ≡ 17)
     (from to : List ℕ) (k : ℕ) (all : CollectsMarked nodes masks c s from to k) where
   module _ (t : ℕ → Bool) (m : Marks nodes masks c s t) where
     at : (i : ℕ) → i < k → getD (filter t (take c nodes)) i 0 ≡ getD from i 0
@@ -92,7 +92,7 @@ module _ (d : ℕ) (keys own nodes masks : List ℕ) (c s left : ℕ) (l : Numbe
         let lt : q < c = omega (arith, lq, length-take-le c nodes (l .fits)) in
         (q, lt, sym (getD-take c nodes q 0 lt) ∙ e)
 
-    runs-of : length to ≡ length from → Runs keys from to k left
+    runs-of : length to ≡ length from → NodeRuns keys from to k left
     runs-of z = record {
       fits = all t m .fits;
       room = z;
@@ -122,7 +122,7 @@ module _ (d : ℕ) (keys own nodes masks : List ℕ) (c s left : ℕ) (l : Numbe
             among-intro (underRun d keys from to) 0 k x i (omega arith) lk
             (among-intro (λ i. under d (getD keys i 0)) (getD from i 0) (getD to i 0) x n (omega (arith, z)) (omega (arith, z, all t m .ends i lk)) (and-r (t n) _ v))
 
-  pub near-runs : FewMarked nodes masks c s → length to ≡ length from → Runs keys from to k left
+  pub near-runs : FewMarked nodes masks c s → length to ≡ length from → NodeRuns keys from to k left
   near-runs (t, m, few) z = runs-of t m z
 
   pub near-put : (out out' : List ℕ) (n n' : ℕ) → PutsThose keys (λ x. among (underRun d keys from to) 0 k x && owns keys own x) out n out' n' → PutsOwners d keys own nodes masks c s out n out' n'

@@ -13,7 +13,7 @@ use Rattle.lists.specs.Descent.{PutsThose}
 use Rattle.around.specs.Candidates.{bitOf}
 
 -- the first c of `nodes` are numbers of nodes, and each has a mask
-pub record Numbered (keys nodes masks : List ℕ) (c : ℕ) : Type 0 where
+pub record NodesWithMasks (keys nodes masks : List ℕ) (c : ℕ) : Type 0 where
   pub fits : c ≤ length nodes
   pub room : length masks ≡ length nodes
   pub inside : (i : ℕ) → i < c → getD nodes i 0 < length keys

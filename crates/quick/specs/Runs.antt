@@ -33,7 +33,7 @@ abbrev pub belowRuns : ℕ → List ℕ → List ℕ → List ℕ → ℕ → �
 belowRuns d keys from to c left x = among (underRun d keys from to) 0 c x && ltb (17 - left) (levelOf x)
 
 -- the first c runs are of nodes with so many levels left, no node in two of them
-pub record Runs (keys from to : List ℕ) (c left : ℕ) : Type 0 where
+pub record NodeRuns (keys from to : List ℕ) (c left : ℕ) : Type 0 where
   pub fits : c ≤ length from
   pub room : length to ≡ length from
   pub rise : (j : ℕ) → j < c → getD from j 0 ≤ getD to j 0

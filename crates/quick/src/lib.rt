@@ -11,8 +11,8 @@ ghost use Rattle.sourced.specs.Room.{Puts};
 ghost use Rattle.firsts.specs.Firsts.{FirstChildren};
 ghost use Rattle.lists.specs.Descent.{PutsThose, PutsRow, listRow};
 ghost use Rattle.around.specs.Candidates.{Prepared};
-ghost use Rattle.quick.specs.Marks.{Numbered, PutsUnmarked, owns, PutsOwners};
-ghost use Rattle.quick.specs.Runs.{among, isNode, inRun, underRun, belowRuns, Runs, Lowers, CollectsMarked, FewMarked};
+ghost use Rattle.quick.specs.Marks.{NodesWithMasks, PutsUnmarked, owns, PutsOwners};
+ghost use Rattle.quick.specs.Runs.{among, isNode, inRun, underRun, belowRuns, NodeRuns, Lowers, CollectsMarked, FewMarked};
 
 // Puts the keys of the nodes that bit s does not mark, where there is room for all of them: each key is stored, and the next one takes its place unless it counts.
 fn store_far(
@@ -24,7 +24,7 @@ fn store_far(
     out: &mut [u64],
     n: usize,
 ) -> usize
-    requires { ⌜ Numbered (now key) (now nodes) (now masks) c × (s < 64) × (n + c ≤ length (now out)) ⌝ }
+    requires { ⌜ NodesWithMasks (now key) (now nodes) (now masks) c × (s < 64) × (n + c ≤ length (now out)) ⌝ }
     ensures { λ r. ⌜ PutsUnmarked (now (key .entry)) (now (nodes .entry)) (now (masks .entry)) c s (now (out .entry)) n (now (out .exit)) r ⌝ }
 {
     let mut m = n;
@@ -47,7 +47,7 @@ fn try_far(
     out: &mut [u64],
     n: usize,
 ) -> usize
-    requires { ⌜ Numbered (now key) (now nodes) (now masks) c × (s < 64) ⌝ }
+    requires { ⌜ NodesWithMasks (now key) (now nodes) (now masks) c × (s < 64) ⌝ }
     ensures { λ r. ⌜ PutsUnmarked (now (key .entry)) (now (nodes .entry)) (now (masks .entry)) c s (now (out .entry)) n (now (out .exit)) r ⌝ }
 {
     let mut m = n;
@@ -73,7 +73,7 @@ fn put_far(
     out: &mut [u64],
     n: usize,
 ) -> usize
-    requires { ⌜ Numbered (now key) (now nodes) (now masks) c × (s < 64) ⌝ }
+    requires { ⌜ NodesWithMasks (now key) (now nodes) (now masks) c × (s < 64) ⌝ }
     ensures { λ r. ⌜ PutsUnmarked (now (key .entry)) (now (nodes .entry)) (now (masks .entry)) c s (now (out .entry)) n (now (out .exit)) r ⌝ }
 {
     if n < out.len() {
@@ -112,7 +112,7 @@ fn put_runs(
     out: &mut [u64],
     n: usize,
 ) -> usize
-    requires { ⌜ ((d : ℕ) × SoundTree d (now key) (now own)) × ((left : ℕ) × Runs (now key) (now from) (now to) c left) ⌝ }
+    requires { ⌜ ((d : ℕ) × SoundTree d (now key) (now own)) × ((left : ℕ) × NodeRuns (now key) (now from) (now to) c left) ⌝ }
     ensures { λ r. ⌜ PutsThose (now (key .entry)) (λ x. among (inRun (now (key .entry)) (now (from .entry)) (now (to .entry))) 0 c x && owns (now (key .entry)) (now (own .entry)) x) (now (out .entry)) n (now (out .exit)) r ⌝ }
 {
     let mut m = n;
@@ -165,7 +165,7 @@ fn cells_step(
     out: &mut [u64],
     n: usize,
 ) -> usize
-    requires { ⌜ SoundTree axes (now key) (now own) × FirstChildren axes (now key) (now own) (now first) × Runs (now key) (now from) (now to) c left ⌝ }
+    requires { ⌜ SoundTree axes (now key) (now own) × FirstChildren axes (now key) (now own) (now first) × NodeRuns (now key) (now from) (now to) c left ⌝ }
     ensures { λ r. ⌜ PutsThose (now (key .entry)) (λ x. among (underRun axes (now (key .entry)) (now (from .entry)) (now (to .entry))) 0 c x && owns (now (key .entry)) (now (own .entry)) x) (now (out .entry)) n (now (out .exit)) r ⌝ }
 {
     let m = put_runs(key, own, from, to, c, out, n);
@@ -185,7 +185,7 @@ fn children_step(
     out: &mut [u64],
     n: usize,
 ) -> usize
-    requires { ⌜ SoundTree axes (now key) (now own) × FirstChildren axes (now key) (now own) (now first) × Runs (now key) (now from) (now to) c left ⌝ }
+    requires { ⌜ SoundTree axes (now key) (now own) × FirstChildren axes (now key) (now own) (now first) × NodeRuns (now key) (now from) (now to) c left ⌝ }
     ensures { λ r. ⌜ PutsThose (now (key .entry)) (λ x. belowRuns axes (now (key .entry)) (now (from .entry)) (now (to .entry)) c left x && owns (now (key .entry)) (now (own .entry)) x) (now (out .entry)) n (now (out .exit)) r ⌝ }
 {
     if left < 2 {
@@ -240,7 +240,7 @@ fn put_near(
     out: &mut [u64],
     n: usize,
 ) -> usize
-    requires { ⌜ SoundTree axes (now key) (now own) × FirstChildren axes (now key) (now own) (now first) × Numbered (now key) (now nodes) (now masks) c × (s < 64) × Distinct (take c (now nodes)) × ((i : ℕ) → i < c → levelOf (getD (now key) (getD (now nodes) i 0) 0) + left ≡ 17) × FewMarked (now nodes) (now masks) c s ⌝ }
+    requires { ⌜ SoundTree axes (now key) (now own) × FirstChildren axes (now key) (now own) (now first) × NodesWithMasks (now key) (now nodes) (now masks) c × (s < 64) × Distinct (take c (now nodes)) × ((i : ℕ) → i < c → levelOf (getD (now key) (getD (now nodes) i 0) 0) + left ≡ 17) × FewMarked (now nodes) (now masks) c s ⌝ }
     ensures { λ r. ⌜ PutsOwners axes (now (key .entry)) (now (own .entry)) (now (nodes .entry)) (now (masks .entry)) c s (now (out .entry)) n (now (out .exit)) r ⌝ }
 {
     let mut from = [0usize; NEAR_ROOM];

@@ -8,8 +8,8 @@ use lib.ListN.{length, take, replicate, length-append}
 use lib.Seq.{take-append-le, length-take-le}
 use borrow.Author.Tests.{le-leb, lt-leb}
 use Rattle.slices.proofs.Tests.{clash}
-use Rattle.rows.specs.Written.{rowStarts, rowKeys}
-use Rattle.lists.specs.Descent.{keysRoom, WritesRows, WritesList}
+use Rattle.rows.specs.Written.{rowStarts, rowKeys, keysRoom}
+use Rattle.lists.specs.Descent.{WritesRows, WritesList}
 use Rattle.lists.proofs.Writing.{starts-length}
 use Rattle.quick_lists.specs.Halves.{upper, lower, hasRoom, WritesTwo, WritesBoth}
 

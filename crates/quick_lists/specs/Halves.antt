@@ -5,8 +5,8 @@ use mathlib.Core.List.{List, map}
 use Prim.Native.Nat.{ℕ, _/_, _%_, _≤_}
 use lib.Dec.{leb}
 use lib.ListN.{length}
-use Rattle.rows.specs.Written.{rowKeys}
-use Rattle.lists.specs.Descent.{keysRoom, WritesRows, WritesList}
+use Rattle.rows.specs.Written.{rowKeys, keysRoom}
+use Rattle.lists.specs.Descent.{WritesRows, WritesList}
 
 -- U's start in an entry
 abbrev pub upper : ℕ → ℕ

@@ -8,7 +8,8 @@ ghost use Prim.Native.Nat.{_-_, _≤_, _<_};
 ghost use lib.ListN.{length, take, replicate};
 ghost use Rattle.sourced.specs.Trees.{SoundTree};
 ghost use Rattle.firsts.specs.Firsts.{FirstChildren};
-ghost use Rattle.lists.specs.Descent.{listRow, keysRoom};
+ghost use Rattle.rows.specs.Written.{keysRoom};
+ghost use Rattle.lists.specs.Descent.{listRow};
 ghost use Rattle.quick_lists.specs.Halves.{upper, lower, WritesTwo, WritesBoth};
 
 // A column's entries hold two starts: V's in the lower half, U's in the upper one.

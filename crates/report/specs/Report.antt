@@ -4,8 +4,9 @@ use Prim.Native.Nat.{ℕ}
 use lib.ListN.{getD}
 use Rattle.refusal.specs.declared.Outcome.{Outcome}
 use Rattle.refusal.specs.declared.Outcome.the-variants.{Done, Refused}
+use Rattle.tree.specs.Columns.{Columns}
 use Rattle.tree.specs.Nodes.{depthOf}
-use Rattle.rows.specs.Lists.{uRow, vRow, nearWork}
+use Rattle.rows.specs.Lists.{uRows, vRows, nearWork}
 use Rattle.interaction.specs.Answers.{listsCheck}
 use Rattle.text.specs.Listing.{listing, refusalLine}
 
@@ -14,11 +15,12 @@ abbrev pub textOr : Outcome → List ℕ → List ℕ
 textOr Done text = text
 textOr (Refused r) text = refusalLine r
 
-module _ (d : ℕ) (keys own begin : List ℕ) where
+module _ (d : ℕ) (t : Columns) where
   -- the listing of a tree: the U and V row of each node, the depth, the sources, near work
   abbrev pub treeListing : ℕ → List ℕ
-  treeListing sources = listing keys own (λ i. uRow d keys own (getD keys i 0)) (λ i. vRow d keys own (getD keys i 0)) d (depthOf keys) sources (nearWork d keys own)
+  treeListing sources =
+      listing (t .keys) (t .own) (λ i. uRows d t (getD (t .keys) i 0)) (λ i. vRows d t (getD (t .keys) i 0)) d (depthOf (t .keys)) sources (nearWork d (t .keys) (t .own))
 
   -- with so much room for U and V starts and keys
   abbrev pub treeText : (us uk vs vk sources : ℕ) → List ℕ
-  treeText us uk vs vk sources = textOr (listsCheck d keys own begin us uk vs vk) (treeListing sources)
+  treeText us uk vs vk sources = textOr (listsCheck d t us uk vs vk) (treeListing sources)

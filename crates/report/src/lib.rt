@@ -3,10 +3,9 @@ use interaction::ListsAnswer;
 use text::Text;
 ghost use mathlib.Core.Path.{_≡_};
 ghost use lib.ListN.{length};
-ghost use Rattle.rows.specs.Lists.{uRow, vRow};
-ghost use Rattle.rows.specs.Written.{rowStarts, rowKeys};
-ghost use Rattle.interaction.specs.Answers.{listsAnswer, left as leftIn};
-ghost use Rattle.text.specs.Listing.{written, left};
+ghost use Rattle.tree.specs.Columns.{columns};
+ghost use Rattle.interaction.specs.Answers.{uStartsLeft, uKeysLeft, vStartsLeft, vKeysLeft};
+ghost use Rattle.text.specs.Listing.{textAnswer, textLeft};
 ghost use Rattle.report.specs.Report.{treeText};
 
 // Writes the text of a tree grown from so many sources, over its lists, which are left in the other slices.
@@ -22,12 +21,18 @@ pub fn list_tree(
     v_keys: &mut [u64],
     out: &mut [u8],
 ) -> Text
-    ensures answer { λ r. ⌜ r ≡ written (length (now (out .entry))) (treeText axes (now (key .entry)) (now (own .entry)) (now (begin .entry)) (length (now («u_starts» .entry))) (length (now («u_keys» .entry))) (length (now («v_starts» .entry))) (length (now («v_keys» .entry))) sources) ⌝ }
-    ensures text { λ _. ⌜ now (out .exit) ≡ left (length (now (out .entry))) (treeText axes (now (key .entry)) (now (own .entry)) (now (begin .entry)) (length (now («u_starts» .entry))) (length (now («u_keys» .entry))) (length (now («v_starts» .entry))) (length (now («v_keys» .entry))) sources) ⌝ }
-    ensures u_starts { λ _. ⌜ now («u_starts» .exit) ≡ leftIn (listsAnswer axes (now (key .entry)) (now (own .entry)) (now (begin .entry)) (length (now («u_starts» .entry))) (length (now («u_keys» .entry))) (length (now («v_starts» .entry))) (length (now («v_keys» .entry)))) (length (now («u_starts» .entry))) (rowStarts (uRow axes (now (key .entry)) (now (own .entry))) (now (key .entry))) ⌝ }
-    ensures u_keys { λ _. ⌜ now («u_keys» .exit) ≡ leftIn (listsAnswer axes (now (key .entry)) (now (own .entry)) (now (begin .entry)) (length (now («u_starts» .entry))) (length (now («u_keys» .entry))) (length (now («v_starts» .entry))) (length (now («v_keys» .entry)))) (length (now («u_keys» .entry))) (rowKeys (uRow axes (now (key .entry)) (now (own .entry))) (now (key .entry))) ⌝ }
-    ensures v_starts { λ _. ⌜ now («v_starts» .exit) ≡ leftIn (listsAnswer axes (now (key .entry)) (now (own .entry)) (now (begin .entry)) (length (now («u_starts» .entry))) (length (now («u_keys» .entry))) (length (now («v_starts» .entry))) (length (now («v_keys» .entry)))) (length (now («v_starts» .entry))) (rowStarts (vRow axes (now (key .entry)) (now (own .entry))) (now (key .entry))) ⌝ }
-    ensures v_keys { λ _. ⌜ now («v_keys» .exit) ≡ leftIn (listsAnswer axes (now (key .entry)) (now (own .entry)) (now (begin .entry)) (length (now («u_starts» .entry))) (length (now («u_keys» .entry))) (length (now («v_starts» .entry))) (length (now («v_keys» .entry)))) (length (now («v_keys» .entry))) (rowKeys (vRow axes (now (key .entry)) (now (own .entry))) (now (key .entry))) ⌝ }
+    ensures answer { λ r. ⌜ r ≡ textAnswer (length (now (out .entry))) (treeText axes (columns (now (key .entry)) (now (own .entry)) (now (begin .entry)))
+        (length (now («u_starts» .entry))) (length (now («u_keys» .entry))) (length (now («v_starts» .entry))) (length (now («v_keys» .entry))) sources) ⌝ }
+    ensures text { λ _. ⌜ now (out .exit) ≡ textLeft (length (now (out .entry))) (treeText axes (columns (now (key .entry)) (now (own .entry)) (now (begin .entry)))
+        (length (now («u_starts» .entry))) (length (now («u_keys» .entry))) (length (now («v_starts» .entry))) (length (now («v_keys» .entry))) sources) ⌝ }
+    ensures u_starts { λ _. ⌜ now («u_starts» .exit) ≡ uStartsLeft axes (columns (now (key .entry)) (now (own .entry)) (now (begin .entry)))
+        (length (now («u_starts» .entry))) (length (now («u_keys» .entry))) (length (now («v_starts» .entry))) (length (now («v_keys» .entry))) ⌝ }
+    ensures u_keys { λ _. ⌜ now («u_keys» .exit) ≡ uKeysLeft axes (columns (now (key .entry)) (now (own .entry)) (now (begin .entry)))
+        (length (now («u_starts» .entry))) (length (now («u_keys» .entry))) (length (now («v_starts» .entry))) (length (now («v_keys» .entry))) ⌝ }
+    ensures v_starts { λ _. ⌜ now («v_starts» .exit) ≡ vStartsLeft axes (columns (now (key .entry)) (now (own .entry)) (now (begin .entry)))
+        (length (now («u_starts» .entry))) (length (now («u_keys» .entry))) (length (now («v_starts» .entry))) (length (now («v_keys» .entry))) ⌝ }
+    ensures v_keys { λ _. ⌜ now («v_keys» .exit) ≡ vKeysLeft axes (columns (now (key .entry)) (now (own .entry)) (now (begin .entry)))
+        (length (now («u_starts» .entry))) (length (now («u_keys» .entry))) (length (now («v_starts» .entry))) (length (now («v_keys» .entry))) ⌝ }
 {
     let listed = interaction::get_interaction_lists(
         axes,

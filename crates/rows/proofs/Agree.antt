@@ -13,20 +13,20 @@ use Rattle.slices.specs.Lists.{concatMap, sum, Mem}
 use Rattle.slices.proofs.Counts.{there}
 use Rattle.morton.specs.Keys.{levelOf, parent, upwards, ancestors}
 use Rattle.morton.proofs.Cells.{level-parent}
-use Rattle.tree.specs.Nodes.{placeOf, stored}
+use Rattle.tree.specs.Nodes.{nodeNumber, stored}
 use Rattle.tree.proofs.Rules.{Ascending}
 use Rattle.tree.proofs.Stored.{parent-mem}
 use Rattle.rows.specs.Written.{startsFrom, rowStarts, rowKeys, rowAt, rowOf, Gives, Written}
 use Rattle.rows.specs.Demand3.{brings, meetings}
 
-place-of : (keys : List ℕ) (k i : ℕ) → i < length keys → getD keys i 0 ≡ k → (placeOf keys k < length keys) × (getD keys (placeOf keys k) 0 ≡ k)
-unfolding placeOf
+place-of : (keys : List ℕ) (k i : ℕ) → i < length keys → getD keys i 0 ≡ k → (nodeNumber keys k < length keys) × (getD keys (nodeNumber keys k) 0 ≡ k)
+unfolding nodeNumber
 place-of [] k i l e = absurd (not-suc-le-zero l)
 place-of (x ∷ xs) k i l e = go (eqb x k) refl i l e (place-of xs k)
   where
     go : (b : Bool) → eqb x k ≡ b → (i : ℕ) → i < length (x ∷ xs) → getD (x ∷ xs) i 0 ≡ k
-        → ((i : ℕ) → i < length xs → getD xs i 0 ≡ k → (placeOf xs k < length xs) × (getD xs (placeOf xs k) 0 ≡ k))
-        → (cond b 0 (suc (placeOf xs k)) < length (x ∷ xs)) × (getD (x ∷ xs) (cond b 0 (suc (placeOf xs k))) 0 ≡ k)
+        → ((i : ℕ) → i < length xs → getD xs i 0 ≡ k → (nodeNumber xs k < length xs) × (getD xs (nodeNumber xs k) 0 ≡ k))
+        → (cond b 0 (suc (nodeNumber xs k)) < length (x ∷ xs)) × (getD (x ∷ xs) (cond b 0 (suc (nodeNumber xs k))) 0 ≡ k)
     go true h i l e ih = (suc-le-suc zero-le, eqb-true x k h)
     go false h zero l e ih = absurd (eqb-false x k h e)
     go false h (suc i) l e ih = let r = ih i (le-of-suc-le-suc l) e in (suc-le-suc (r .0), r .1)
@@ -53,7 +53,7 @@ row-at row (k ∷ ks) pre rest more (suc i) l =
 pub gives-written : (row : ℕ → List ℕ) (keys starts flat : List ℕ) → Written keys row starts flat → Gives keys row (rowOf keys starts flat)
 gives-written row keys starts flat w k m =
     let (l, e) = place-of keys k (m .0) (m .1) (m .2) in
-    rw (w .starts-are, w .keys-are) (row-at row keys [] (w .rest) (w .more) (placeOf keys k) l ∙ ap row e)
+    rw (w .starts-are, w .keys-are) (row-at row keys [] (w .rest) (w .more) (nodeNumber keys k) l ∙ ap row e)
 
 -- sums over a node and its ancestors
 module _ (d : ℕ) (keys : List ℕ) (asc : Ascending d keys) (parents : (i : ℕ) → 0 < i → i < length keys → stored keys (parent d (getD keys i 0)) ≡ true) where

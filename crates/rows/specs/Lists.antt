@@ -7,6 +7,7 @@ use Rattle.slices.specs.Lists.{filter, any, sum}
 use Rattle.slices.specs.Order.{ascending}
 use Rattle.morton.specs.Keys.{levelOf, parent, ancestors}
 use Rattle.morton.specs.Anchors.{touching}
+use Rattle.tree.specs.Columns.{Columns}
 use Rattle.tree.specs.Nodes.{cellAt, leaf, ownOf, sourced}
 
 -- s lies at or under b or a neighbour of b: its cell at b's level is b or touches it
@@ -45,3 +46,10 @@ module _ (d : ℕ) (keys own : List ℕ) where
   -- near work: the sum over leaves of own sources times sources in the U row
   unfoldable pub nearWork : ℕ
   nearWork = sum (map (λ b. ownOf keys own b * sum (map (ownOf keys own) (uRow b))) (filter (leaf d keys) keys))
+
+-- the rows of a tree that is handed in
+abbrev pub uRows : ℕ → Columns → ℕ → List ℕ
+uRows d t = uRow d (t .keys) (t .own)
+
+abbrev pub vRows : ℕ → Columns → ℕ → List ℕ
+vRows d t = vRow d (t .keys) (t .own)

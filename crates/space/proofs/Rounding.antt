@@ -16,7 +16,7 @@ use lib.Ieee.Nearest.{div-same}
 use lib.Ieee.Order.{drop, kept, round-mono}
 use lib.Ieee.Scale.{grid, overflow, grid-scale, normal-of-rounded}
 use lib.Ieee.Positive.{above, positive-of-value, above-of-le}
-use Rattle.space.specs.Floats.{none, whole, floor}
+use Rattle.space.specs.Floats.{noFloor, whole, floor}
 
 -- ---- which fractions are in the normal range
 by-size : (p z : ℕ) → (p ≤ z) ⊎ (z < p)
@@ -105,7 +105,7 @@ pub round-value : (f : Format) (s : Bool) (a c : ℕ) → grid f a c < overflow 
 round-value f s a c h =
     subst (λ (z : Float). HasValue z s (grid f a c) (2 ^ low f)) (sym (round-is f s a c)) (units-val f s (kept (prec f) (a * 2 ^ low f) c) (drop (prec f) (a * 2 ^ low f) c) h)
 
-never : (z : ℤ) → none ≡ whole z → ⊥
+never : (z : ℤ) → noFloor ≡ whole z → ⊥
 never z e = let k : _≡_ {A = ℕ} 0 1 = cc in omega arith
 
 units-under : (f : Format) (s : Bool) (q k : ℕ) (z : ℤ) → floor (units f s q k) ≡ whole z → q * 2 ^ k < overflow f

@@ -13,12 +13,12 @@ use Rattle.space.specs.declared.Frame.{Frame}
 use Rattle.space.specs.declared.Located.{Located}
 use Rattle.space.specs.declared.Place.{Place}
 use Rattle.space.specs.declared.Place.the-variants.{At, Outside}
-use Rattle.space.specs.Floats.{Floor, none, whole, floor}
+use Rattle.space.specs.Floats.{nought, Floor, noFloor, whole, floor}
 
 -- an entry past the axes is 0
 abbrev pub onAxis : Bool → Float → Float
 onAxis true x = x
-onAxis false x = fin false 0 (pos 0)
+onAxis false x = nought
 
 -- centre minus radius
 abbrev pub displacement : Box → ℕ → Float
@@ -38,7 +38,7 @@ pick false p q = q
 
 -- of n cells in a row, numbered from 0, the one that a floor names; any other floor is outside
 abbrev pub cellIn : ℕ → Floor → Place
-cellIn n none = Outside
+cellIn n noFloor = Outside
 cellIn n (whole (negsuc k)) = Outside
 cellIn n (whole (pos k)) = pick (ltb k n) (At k) Outside
 
@@ -54,9 +54,9 @@ abbrev pub isAt : Place → Bool
 isAt (At k) = true
 isAt Outside = false
 
-abbrev pub numberAt : Place → ℕ
-numberAt (At k) = k
-numberAt Outside = 0
+abbrev pub placeNumber : Place → ℕ
+placeNumber (At k) = k
+placeNumber Outside = 0
 
 -- on all axes the level-16 anchor is one of 0..65535
 unfoldable pub inside : Frame → List Float → Bool
@@ -65,32 +65,32 @@ inside f xs = isAt (cell16 f xs 0) && (isAt (cell16 f xs 1) && isAt (cell16 f xs
 
 unfoldable pub anchors16 : Frame → List Float → List ℕ
 unfolding cell16
-anchors16 f xs = numberAt (cell16 f xs 0) ∷ numberAt (cell16 f xs 1) ∷ numberAt (cell16 f xs 2) ∷ []
+anchors16 f xs = placeNumber (cell16 f xs 0) ∷ placeNumber (cell16 f xs 1) ∷ placeNumber (cell16 f xs 2) ∷ []
 
 -- the level-16 anchors divided by 2 ^ (16 - level), rounded down
-abbrev pub anchors : Frame → List Float → ℕ → List ℕ
-anchors f xs level = map (λ k. k / 2 ^ (16 - level)) (anchors16 f xs)
+abbrev pub pointAnchors : Frame → List Float → ℕ → List ℕ
+pointAnchors f xs level = map (λ k. k / 2 ^ (16 - level)) (anchors16 f xs)
 
 -- the code of a point's level-16 cell
 unfoldable pub code16 : Frame → List Float → ℕ
 unfolding anchors16 encode
 code16 f xs = encode (f .axes) (f .axes) 16 (anchors16 f xs)
 
-abbrev pub placeOf : Frame → List Float → Place
-placeOf f xs = pick (inside f xs) (At (code16 f xs)) Outside
+abbrev pub pointPlace : Frame → List Float → Place
+pointPlace f xs = pick (inside f xs) (At (code16 f xs)) Outside
 
 -- ---- the level's own quotient
-abbrev pub cellAt : Box → ℕ → ℕ → Float → Place
-cellAt b level a x = cellIn (2 ^ level) (floor (quotient x (displacement b a) (side (b .radius) level)))
+abbrev pub levelCell : Box → ℕ → ℕ → Float → Place
+levelCell b level a x = cellIn (2 ^ level) (floor (quotient x (displacement b a) (side (b .radius) level)))
 
 -- cells are those that the level's own quotients name, on each of the axes
 abbrev pub Nests : Box → List Float → ℕ → List ℕ → Type 0
-Nests b xs level cells = (a : ℕ) → a < b .axes → cellAt b level a (getD xs a nan) ≡ At (getD cells a 0)
+Nests b xs level cells = (a : ℕ) → a < b .axes → levelCell b level a (getD xs a nan) ≡ At (getD cells a 0)
 
 -- ---- one point
-abbrev pub kept : Bool → List ℕ → List ℕ
-kept true cells = cells
-kept false cells = 0 ∷ 0 ∷ 0 ∷ []
+abbrev pub orZeros : Bool → List ℕ → List ℕ
+orZeros true cells = cells
+orZeros false cells = 0 ∷ 0 ∷ 0 ∷ []
 
 abbrev pub locatedOf : Frame → List Float → Located
-locatedOf f xs = record { inside = inside f xs; anchor = kept (inside f xs) (anchors16 f xs) }
+locatedOf f xs = record { inside = inside f xs; anchor = orZeros (inside f xs) (anchors16 f xs) }

@@ -4,6 +4,10 @@ use mathlib.Core.Bool.{Bool, true, false}
 use lib.IntN.{ℤ, pos, negℤ}
 use lib.Ieee.{Float, nan, inf, fin, up, down}
 
+-- +0.0
+abbrev pub nought : Float
+nought = fin false 0 (pos 0)
+
 -- the same number with its sign off
 unfoldable pub sizeOf : Float → Float
 sizeOf nan = nan
@@ -12,15 +16,15 @@ sizeOf (fin s m e) = fin false m e
 
 -- a NaN and an infinity have no floor
 pub data Floor : Type 0 where
-  none : Floor
+  noFloor : Floor
   whole : ℤ → Floor
 
 -- the greatest integer that is no more than n / d, or than -(n / d) where the sign is set, for a d above 0
-abbrev pub floorOf : Bool → ℕ → ℕ → ℤ
-floorOf false n d = pos (n / d)
-floorOf true n d = negℤ (pos ((n + (d - 1)) / d))
+abbrev pub floorRatio : Bool → ℕ → ℕ → ℤ
+floorRatio false n d = pos (n / d)
+floorRatio true n d = negℤ (pos ((n + (d - 1)) / d))
 
 unfoldable pub floor : Float → Floor
-floor nan = none
-floor (inf s) = none
-floor (fin s m e) = whole (floorOf s (m * up e) (down e))
+floor nan = noFloor
+floor (inf s) = noFloor
+floor (fin s m e) = whole (floorRatio s (m * up e) (down e))

@@ -1,14 +1,15 @@
 -- Points in a flat slice, one row of `axes` numbers after the other.
 use mathlib.Core.Bool.{Bool, true, false, cond}
 use mathlib.Core.List.{List, [], _∷_, _++_}
-use Prim.Native.Nat.{ℕ, zero, suc}
+use Prim.Native.Nat.{ℕ, zero, suc, _/_}
 use lib.Dec.{ltb}
 use lib.Ieee.{Float}
-use lib.ListN.{drop}
+use lib.ListN.{length, drop}
+use Rattle.space.specs.declared.Box.{Box}
 use Rattle.space.specs.declared.Frame.{Frame}
 use Rattle.space.specs.declared.Rows.{Rows}
 use Rattle.space.specs.declared.Rows.the-variants.{Inside, Outside}
-use Rattle.space.specs.Cells.{inside, code16}
+use Rattle.space.specs.Cells.{frameOf, inside, code16}
 
 -- of n rows, how many stand before the first that is outside
 unfoldable pub insideRows : ℕ → Frame → List Float → ℕ
@@ -31,3 +32,15 @@ firstOutside n f xs = orInside (ltb (insideRows n f xs) n) (Outside (insideRows 
 -- a slice's end content: the codes of the rows before the first that is outside, and the rest as it was
 abbrev pub coded : ℕ → Frame → List Float → List ℕ → List ℕ
 coded n f xs old = codes16 (insideRows n f xs) f xs ++ drop (insideRows n f xs) old
+
+-- ---- the points of a call
+abbrev pub mostPoints : ℕ
+mostPoints = 1048576
+
+-- how many there are
+abbrev pub rowsOf : Box → List Float → ℕ
+rowsOf b points = length points / b .axes
+
+-- how many stand before the first that is outside
+abbrev pub rowsInside : Box → List Float → ℕ
+rowsInside b points = insideRows (rowsOf b points) (frameOf b) points

@@ -5,7 +5,7 @@ ghost use mathlib.Core.Path.{_≡_};
 ghost use Prim.Native.Nat.{_+_, _/_, _≤_, _<_};
 ghost use lib.ListN.{length, drop};
 ghost use Rattle.space.specs.Floats.{sizeOf, floor};
-ghost use Rattle.space.specs.Cells.{displacement as displacementOf, cellIn, side, frameOf, cell16, placeOf, locatedOf};
+ghost use Rattle.space.specs.Cells.{displacement as displacementOf, cellIn, side, frameOf, cell16, pointPlace, locatedOf};
 ghost use Rattle.codes.specs.Tables.{EncodeTables};
 ghost use Rattle.space.specs.Rows.{firstOutside, coded};
 ghost use Rattle.space.specs.Domain.{radiusKnown, centresKnown, boxOutcome, levelOutcome};
@@ -199,7 +199,7 @@ pub fn code_at(
     at: usize,
 ) -> Place
     requires { ⌜ (1 ≤ f .axes) × (f .axes ≤ 3) × EncodeTables (f .axes) (now x) (now y) (now z) × (at + f .axes ≤ length (now points)) ⌝ }
-    ensures { λ r. ⌜ r ≡ placeOf f (drop at (now (points .entry))) ⌝ }
+    ensures { λ r. ⌜ r ≡ pointPlace f (drop at (now (points .entry))) ⌝ }
 {
     let p = locate(f, points, at);
     if p.inside {

@@ -14,7 +14,8 @@ use borrow.Author.Tests.{lt-ltb, le-ltb}
 use Rattle.slices.proofs.Tests.{lt-or-le}
 use Rattle.space.specs.Cells.{onAxis}
 use Rattle.survey.specs.Bytes.{f64At, f64sAt}
-use Rattle.survey.specs.File.{none, filledWith, entryAt}
+use Rattle.space.specs.Floats.{nought}
+use Rattle.survey.specs.File.{filledWith, entryAt}
 use Rattle.survey.proofs.Numbers.{f64s-length, f64s-at}
 
 -- after i turns: the first i of what is to stand there, and the rest as it was
@@ -28,16 +29,16 @@ pub filling-none : (whole s : List Float) → length whole ≡ length s → Fill
 filling-none whole s e = record { size = e; within = omega arith; kept = refl; front = refl }
 
 module _ (whole s₀ s : List Float) (i : ℕ) (g : Filling whole s₀ s i) where
-  stored : (x : Float) → x ≡ getD whole i none → i < length s₀ → set s i x ≡ take (suc i) whole ++ drop (suc i) s₀
+  stored : (x : Float) → x ≡ getD whole i nought → i < length s₀ → set s i x ≡ take (suc i) whole ++ drop (suc i) s₀
   stored x e h =
       let l : i < length whole = omega (arith, g .size) in
       let k : length (take i whole) ≡ i = length-take-le i whole (omega arith) in
-      ap (λ (t : List Float). set t i x) (g .front ∙ ap (λ (t : List Float). take i whole ++ t) (drop-cons s₀ i none h))
-      ∙ set-at (take i whole) (getD s₀ i none) (drop (suc i) s₀) x i k
+      ap (λ (t : List Float). set t i x) (g .front ∙ ap (λ (t : List Float). take i whole ++ t) (drop-cons s₀ i nought h))
+      ∙ set-at (take i whole) (getD s₀ i nought) (drop (suc i) s₀) x i k
       ∙ sym (append-snoc (take i whole) x (drop (suc i) s₀))
-      ∙ ap (λ (t : List Float). t ++ drop (suc i) s₀) (ap (λ (y : Float). take i whole ++ y ∷ []) e ∙ sym (take-suc whole i none l))
+      ∙ ap (λ (t : List Float). t ++ drop (suc i) s₀) (ap (λ (y : Float). take i whole ++ y ∷ []) e ∙ sym (take-suc whole i nought l))
 
-  pub filling-more : (x : Float) → x ≡ getD whole i none → i < length s → Filling whole s₀ (set s i x) (i + 1)
+  pub filling-more : (x : Float) → x ≡ getD whole i nought → i < length s → Filling whole s₀ (set s i x) (i + 1)
   filling-more x e h =
       let h₀ : i < length s₀ = omega (arith, g .kept) in
       record {
@@ -57,22 +58,22 @@ module _ (file : List ℕ) (at n places : ℕ) (h : n ≤ places) where
   pub filled-length : length (filledWith places (f64sAt file n at)) ≡ places
   filled-length =
       let a = f64s-length file n at in
-      length-append (f64sAt file n at) (replicate (places - length (f64sAt file n at)) none) ∙ ap (λ (k : ℕ). length (f64sAt file n at) + k) (length-replicate (places - length (f64sAt file n at)) none) ∙ omega arith
+      length-append (f64sAt file n at) (replicate (places - length (f64sAt file n at)) nought) ∙ ap (λ (k : ℕ). length (f64sAt file n at) + k) (length-replicate (places - length (f64sAt file n at)) nought) ∙ omega arith
 
-  first-are : (i : ℕ) → i < n → entryAt file at n i ≡ getD (filledWith places (f64sAt file n at)) i none
+  first-are : (i : ℕ) → i < n → entryAt file at n i ≡ getD (filledWith places (f64sAt file n at)) i nought
   first-are i k =
       let l : i < length (f64sAt file n at) = omega (arith, f64s-length file n at) in
       ap (λ (t : Bool). onAxis t (f64At file (at + 8 * i))) (lt-ltb i n k)
-      ∙ sym (List·getD-append (f64sAt file n at) (replicate (places - length (f64sAt file n at)) none) none i l ∙ f64s-at file none n at i k)
+      ∙ sym (List·getD-append (f64sAt file n at) (replicate (places - length (f64sAt file n at)) nought) nought i l ∙ f64s-at file nought n at i k)
 
-  rest-are : (i : ℕ) → n ≤ i → i < places → entryAt file at n i ≡ getD (filledWith places (f64sAt file n at)) i none
+  rest-are : (i : ℕ) → n ≤ i → i < places → entryAt file at n i ≡ getD (filledWith places (f64sAt file n at)) i nought
   rest-are i k l =
       let a = f64s-length file n at in
       let e : i ≡ length (f64sAt file n at) + (i - n) = omega arith in
       ap (λ (t : Bool). onAxis t (f64At file (at + 8 * i))) (le-ltb i n k)
-      ∙ sym (ap (λ (j : ℕ). getD (filledWith places (f64sAt file n at)) j none) e
-      ∙ getD-append-add (f64sAt file n at) (replicate (places - length (f64sAt file n at)) none) (i - n) none
-      ∙ getD-replicate (places - length (f64sAt file n at)) (i - n) none none (omega arith))
+      ∙ sym (ap (λ (j : ℕ). getD (filledWith places (f64sAt file n at)) j nought) e
+      ∙ getD-append-add (f64sAt file n at) (replicate (places - length (f64sAt file n at)) nought) (i - n) nought
+      ∙ getD-replicate (places - length (f64sAt file n at)) (i - n) nought nought (omega arith))
 
-  pub entry-is : (i : ℕ) → i < places → entryAt file at n i ≡ getD (filledWith places (f64sAt file n at)) i none
+  pub entry-is : (i : ℕ) → i < places → entryAt file at n i ≡ getD (filledWith places (f64sAt file n at)) i nought
   entry-is i l = ⊎-elim (λ k. first-are i k) (λ k. rest-are i k l) (lt-or-le i n)

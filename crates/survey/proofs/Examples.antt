@@ -8,7 +8,8 @@ use lib.Ieee.{fin, nan, binary64, ofBits}
 use Rattle.refusal.specs.declared.Refusal.the-variants.{File}
 use Rattle.refusal.specs.declared.Outcome.the-variants.{Done, Refused}
 use Rattle.survey.specs.Bytes.{numberAt, f64At, f64sAt}
-use Rattle.survey.specs.File.{none, fileOutcome, survey, sourceRows, targetRows}
+use Rattle.space.specs.Floats.{nought}
+use Rattle.survey.specs.File.{fileOutcome, survey, sourceRows, targetRows}
 
 -- sources 0.5, 1.5, 6.5, 7.5
 abbrev rows : List ℕ
@@ -18,7 +19,7 @@ rows = 0 ∷ 0 ∷ 0 ∷ 0 ∷ 0 ∷ 0 ∷ 224 ∷ 63 ∷ 0 ∷ 0 ∷ 0 ∷ 0 �
 abbrev trailer₁ : List ℕ
 trailer₁ = 1 ∷ 0 ∷ 0 ∷ 0 ∷ 0 ∷ 0 ∷ 0 ∷ 0 ∷ 1 ∷ 0 ∷ 0 ∷ 0 ∷ 1 ∷ 0 ∷ 0 ∷ 0 ∷ 0 ∷ 0 ∷ 0 ∷ 0 ∷ 0 ∷ 0 ∷ 16 ∷ 64 ∷ 0 ∷ 0 ∷ 0 ∷ 0 ∷ 0 ∷ 0 ∷ 0 ∷ 0 ∷ 0 ∷ 0 ∷ 0 ∷ 0 ∷ 0 ∷ 0 ∷ 0 ∷ 0 ∷ 0 ∷ 0 ∷ 0 ∷ 0 ∷ 0 ∷ 0 ∷ 16 ∷ 64 ∷ 32 ∷ 0 ∷ 0 ∷ 0 ∷ 4 ∷ 0 ∷ 0 ∷ 0 ∷ 0 ∷ 0 ∷ 0 ∷ 0 ∷ 0 ∷ 0 ∷ 0 ∷ 0 ∷ []
 
-pub said₁ : survey (rows ++ trailer₁) ≡ record { outcome = Done; b = record { centre = fin false 1 (pos 2) ∷ none ∷ none ∷ []; radius = fin false 1 (pos 2); axes = 1 }; keep = false; limit = 1; order = 1; sources = 4; targets = 0 }
+pub said₁ : survey (rows ++ trailer₁) ≡ record { outcome = Done; b = record { centre = fin false 1 (pos 2) ∷ nought ∷ nought ∷ []; radius = fin false 1 (pos 2); axes = 1 }; keep = false; limit = 1; order = 1; sources = 4; targets = 0 }
 unfolding numberAt ofBits
 said₁ = refl
 

@@ -3,8 +3,7 @@ use mathlib.Core.Bool.{Bool, false, _&&_}
 use mathlib.Core.List.{List, [], _∷_, _++_}
 use Prim.Native.Nat.{ℕ, _+_, _-_, _*_, _/_, _%_}
 use lib.Dec.{leb, ltb, eqb}
-use lib.IntN.{pos}
-use lib.Ieee.{Float, fin}
+use lib.Ieee.{Float}
 use lib.ListN.{length, replicate}
 use Rattle.refusal.specs.declared.Refusal.{Refusal}
 use Rattle.refusal.specs.declared.Refusal.the-variants.{Dims, File}
@@ -12,19 +11,16 @@ use Rattle.refusal.specs.declared.Outcome.{Outcome}
 use Rattle.refusal.specs.declared.Outcome.the-variants.{Done, Refused}
 use Rattle.refusal.specs.Chain.{ask, _then_}
 use Rattle.morton.specs.Keys.{axesKnown}
+use Rattle.space.specs.Floats.{nought}
 use Rattle.space.specs.Cells.{onAxis}
 use Rattle.survey.specs.declared.Survey.{Survey}
 use Rattle.survey.specs.Bytes.{u32At, f64At, f64sAt}
-
--- +0.0
-abbrev pub none : Float
-none = fin false 0 (pos 0)
 
 -- 0 throughout after a refusal
 abbrev pub nothing : Refusal → Survey
 nothing r = record {
   outcome = Refused r;
-  b = record { centre = none ∷ none ∷ none ∷ []; radius = none; axes = 0 };
+  b = record { centre = nought ∷ nought ∷ nought ∷ []; radius = nought; axes = 0 };
   keep = false;
   limit = 0;
   order = 0;
@@ -52,8 +48,8 @@ module _ (file : List ℕ) where
   order = u32At file (trailer + 12)
 
   -- f64 centre ×3, radius; a centre entry past the axes is not read, and is 0
-  abbrev pub centreOn : ℕ → Float
-  centreOn a = onAxis (ltb a axes) (f64At file (trailer + 16 + 8 * a))
+  abbrev pub centreEntry : ℕ → Float
+  centreEntry a = onAxis (ltb a axes) (f64At file (trailer + 16 + 8 * a))
 
   abbrev pub radius : Float
   radius = f64At file (trailer + 40)
@@ -98,7 +94,7 @@ module _ (file : List ℕ) where
   abbrev pub said : Survey
   said = record {
     outcome = Done;
-    b = record { centre = centreOn 0 ∷ centreOn 1 ∷ centreOn 2 ∷ []; radius = radius; axes = axes };
+    b = record { centre = centreEntry 0 ∷ centreEntry 1 ∷ centreEntry 2 ∷ []; radius = radius; axes = axes };
     keep = keepEmpty;
     limit = limit;
     order = order;
@@ -128,7 +124,7 @@ module _ (file : List ℕ) where
 
 -- xs, and 0 in the unused places up to n
 abbrev pub filledWith : ℕ → List Float → List Float
-filledWith n xs = xs ++ replicate (n - length xs) none
+filledWith n xs = xs ++ replicate (n - length xs) nought
 
 -- the number at place i of n that begin at a place, and 0 past them; for the house
 abbrev pub entryAt : List ℕ → ℕ → ℕ → ℕ → Float

@@ -8,7 +8,7 @@ ghost use Prim.Native.Nat.{_+_, _-_, _*_, _≤_, _<_};
 ghost use lib.Ieee.{binary64, ofBits, nanBits};
 ghost use lib.ListN.{length, getD};
 ghost use Rattle.survey.specs.Bytes.{numberAt, u32At, f64At, f64sAt};
-ghost use Rattle.survey.specs.File.{axes as axesIn, centreOn, flagsKnown, rowsFill, fileOutcome, said, nothing, survey as surveyIn, sourceRows, targetRows, filledWith, entryAt};
+ghost use Rattle.survey.specs.File.{axes as axesIn, centreEntry, flagsKnown, rowsFill, fileOutcome, said, nothing, survey as surveyIn, sourceRows, targetRows, filledWith, entryAt};
 
 // What a file says, and how its reading ended. `sources` and `targets` are numbers of rows.
 pub struct Survey {
@@ -118,7 +118,7 @@ fn check_file(file: &[u8]) -> Outcome
 // The centre's entry on an axis, 0 past the axes.
 fn centre_on(file: &[u8], axes: u64, a: usize) -> f64
     requires { ⌜ (64 ≤ length (now file)) × (axes ≡ axesIn (now file)) × (a < 3) ⌝ }
-    ensures { λ r. ⌜ r ≡ centreOn (now (file .entry)) a ⌝ }
+    ensures { λ r. ⌜ r ≡ centreEntry (now (file .entry)) a ⌝ }
 {
     if a as u64 >= axes {
         return 0.0;

@@ -20,7 +20,7 @@ use Rattle.sourced.proofs.Putting.{holds-none, fits, over}
 use Rattle.text.specs.declared.Text.{Text}
 use Rattle.text.specs.declared.Text.the-variants.{Length, Short}
 use Rattle.text.specs.Digits.{digit, digits, decimal}
-use Rattle.text.specs.Listing.{fields, lettered, lengthOr, textOr, written, left}
+use Rattle.text.specs.Listing.{fields, lettered, lengthOr, textIf, textAnswer, textLeft}
 
 pub puts-none : (out : List ℕ) (n : ℕ) → Puts out n [] out n
 puts-none out n done h = subst (λ (l : List ℕ). Holds out n l) (sym (append-nil done)) h
@@ -145,17 +145,17 @@ module _ (starts keys : List ℕ) (node a z to : ℕ) (ea : a ≡ getD starts no
 -- ---- the end
 
 module _ (out text : List ℕ) (n : ℕ) (g : Holds out n text) where
-  pub ends-short : length out < n → (Short ≡ written (length out) text) × (replicate (length out) 0 ≡ left (length out) text)
+  pub ends-short : length out < n → (Short ≡ textAnswer (length out) text) × (replicate (length out) 0 ≡ textLeft (length out) text)
   ends-short h =
       let e : leb (length text) (length out) ≡ false = lt-leb (length text) (length out) (over out text n g h) in
-      (sym (ap (λ (b : Bool). lengthOr b (length text)) e), sym (ap (λ (b : Bool). filled (length out) (textOr b text)) e ∙ filled-none (length out)))
+      (sym (ap (λ (b : Bool). lengthOr b (length text)) e), sym (ap (λ (b : Bool). filled (length out) (textIf b text)) e ∙ filled-none (length out)))
 
-  pub ends-long : n ≤ length out → (Length n ≡ written (length out) text) × (take n out ++ replicate (length out - n) 0 ≡ left (length out) text)
+  pub ends-long : n ≤ length out → (Length n ≡ textAnswer (length out) text) × (take n out ++ replicate (length out - n) 0 ≡ textLeft (length out) text)
   ends-long h =
       let k : n ≡ length text = fits out text n g h in
       let e : leb (length text) (length out) ≡ true = le-leb (length text) (length out) (omega arith) in (
         ap Length k ∙ sym (ap (λ (b : Bool). lengthOr b (length text)) e),
-        ap (λ (i : ℕ). take i out ++ replicate (length out - i) 0) k ∙ cleared-filled text out (g .begins (omega arith)) ∙ sym (ap (λ (b : Bool). filled (length out) (textOr b text)) e),
+        ap (λ (i : ℕ). take i out ++ replicate (length out - i) 0) k ∙ cleared-filled text out (g .begins (omega arith)) ∙ sym (ap (λ (b : Bool). filled (length out) (textIf b text)) e),
       )
 
 -- a letter and a row
@@ -173,8 +173,8 @@ puts-keys a b keys row n m e p = puts-same a b (fields keys) (fields row) n m (a
 
 -- a text that was put into an empty slice, and ended
 pub ended : (out₀ out out' text : List ℕ) (n : ℕ) (r : Text) → Puts out₀ 0 text out n → length out ≡ length out₀
-    → ((text : List ℕ) → Holds out n text → (r ≡ written (length out) text) × (out' ≡ left (length out) text))
-    → (r ≡ written (length out₀) text) × (out' ≡ left (length out₀) text)
+    → ((text : List ℕ) → Holds out n text → (r ≡ textAnswer (length out) text) × (out' ≡ textLeft (length out) text))
+    → (r ≡ textAnswer (length out₀) text) × (out' ≡ textLeft (length out₀) text)
 ended out₀ out out' text n r p same f =
     let e = f text (p [] (holds-none out₀)) in
-    (e .0 ∙ ap (λ (k : ℕ). written k text) same, e .1 ∙ ap (λ (k : ℕ). left k text) same)
+    (e .0 ∙ ap (λ (k : ℕ). textAnswer k text) same, e .1 ∙ ap (λ (k : ℕ). textLeft k text) same)

@@ -55,14 +55,14 @@ abbrev pub lengthOr : Bool → ℕ → Text
 lengthOr true n = Length n
 lengthOr false n = Short
 
-abbrev pub textOr : Bool → List ℕ → List ℕ
-textOr true text = text
-textOr false text = []
+abbrev pub textIf : Bool → List ℕ → List ℕ
+textIf true text = text
+textIf false text = []
 
 -- its length, or that the room is short
-abbrev pub written : ℕ → List ℕ → Text
-written room text = lengthOr (leb (length text) room) (length text)
+abbrev pub textAnswer : ℕ → List ℕ → Text
+textAnswer room text = lengthOr (leb (length text) room) (length text)
 
 -- the slice's end content: the text and then 0, or 0 throughout if the room is short
-abbrev pub left : ℕ → List ℕ → List ℕ
-left room text = filled room (textOr (leb (length text) room) text)
+abbrev pub textLeft : ℕ → List ℕ → List ℕ
+textLeft room text = filled room (textIf (leb (length text) room) text)

@@ -7,7 +7,7 @@ ghost use lib.ListN.{length, getD, take, replicate};
 ghost use Rattle.sourced.specs.Room.{Holds, Puts};
 ghost use Rattle.rows.specs.Written.{rowAt};
 ghost use Rattle.text.specs.Digits.{decimal};
-ghost use Rattle.text.specs.Listing.{field, fields, line, refusalLine, lettered, nodeLine, nodeLines, listing, written, left};
+ghost use Rattle.text.specs.Listing.{field, fields, line, refusalLine, lettered, nodeLine, nodeLines, listing, textAnswer, textLeft};
 
 // How a text was written: its length, or that the slice lent for it is short.
 pub enum Text {
@@ -122,7 +122,8 @@ fn put_node(
     node: usize,
 ) -> usize
     requires { ⌜ node < length (now key) ⌝ }
-    ensures { λ r. ⌜ Puts (now (out .entry)) n (nodeLine (now (key .entry)) (now (own .entry)) (rowAt (now («u_starts» .entry)) (now («u_keys» .entry))) (rowAt (now («v_starts» .entry)) (now («v_keys» .entry))) node) (now (out .exit)) r ⌝ }
+    ensures { λ r. ⌜ Puts (now (out .entry)) n (nodeLine (now (key .entry)) (now (own .entry))
+        (rowAt (now («u_starts» .entry)) (now («u_keys» .entry))) (rowAt (now («v_starts» .entry)) (now («v_keys» .entry))) node) (now (out .exit)) r ⌝ }
 {
     let number = put_decimal(out, n, node as u64);
     let named = put_field(out, number, key[node]);
@@ -143,7 +144,8 @@ fn put_nodes(
     v_starts: &[usize],
     v_keys: &[u64],
 ) -> usize
-    ensures { λ r. ⌜ Puts (now (out .entry)) n (nodeLines (now (key .entry)) (now (own .entry)) (rowAt (now («u_starts» .entry)) (now («u_keys» .entry))) (rowAt (now («v_starts» .entry)) (now («v_keys» .entry)))) (now (out .exit)) r ⌝ }
+    ensures { λ r. ⌜ Puts (now (out .entry)) n (nodeLines (now (key .entry)) (now (own .entry))
+        (rowAt (now («u_starts» .entry)) (now («u_keys» .entry))) (rowAt (now («v_starts» .entry)) (now («v_keys» .entry)))) (now (out .exit)) r ⌝ }
 {
     let mut m = n;
     let mut node = 0;
@@ -185,7 +187,7 @@ fn clear_from(s: &mut [u8], from: usize)
 
 // Ends a text of n bytes: clears the rest, or all if the text has no room.
 fn finish(out: &mut [u8], n: usize) -> Text
-    ensures { λ r. ⌜ ((text : List ℕ) → Holds (now (out .entry)) n text → (r ≡ written (length (now (out .entry))) text) × (now (out .exit) ≡ left (length (now (out .entry))) text)) ⌝ }
+    ensures { λ r. ⌜ ((text : List ℕ) → Holds (now (out .entry)) n text → (r ≡ textAnswer (length (now (out .entry))) text) × (now (out .exit) ≡ textLeft (length (now (out .entry))) text)) ⌝ }
 {
     if out.len() < n {
         clear(out);
@@ -209,8 +211,10 @@ pub fn write_listing(
     v_keys: &[u64],
     out: &mut [u8],
 ) -> Text
-    ensures answer { λ r. ⌜ r ≡ written (length (now (out .entry))) (listing (now (key .entry)) (now (own .entry)) (rowAt (now («u_starts» .entry)) (now («u_keys» .entry))) (rowAt (now («v_starts» .entry)) (now («v_keys» .entry))) axes depth sources work) ⌝ }
-    ensures text { λ _. ⌜ now (out .exit) ≡ left (length (now (out .entry))) (listing (now (key .entry)) (now (own .entry)) (rowAt (now («u_starts» .entry)) (now («u_keys» .entry))) (rowAt (now («v_starts» .entry)) (now («v_keys» .entry))) axes depth sources work) ⌝ }
+    ensures answer { λ r. ⌜ r ≡ textAnswer (length (now (out .entry))) (listing (now (key .entry)) (now (own .entry))
+        (rowAt (now («u_starts» .entry)) (now («u_keys» .entry))) (rowAt (now («v_starts» .entry)) (now («v_keys» .entry))) axes depth sources work) ⌝ }
+    ensures text { λ _. ⌜ now (out .exit) ≡ textLeft (length (now (out .entry))) (listing (now (key .entry)) (now (own .entry))
+        (rowAt (now («u_starts» .entry)) (now («u_keys» .entry))) (rowAt (now («v_starts» .entry)) (now («v_keys» .entry))) axes depth sources work) ⌝ }
 {
     let numbers = [axes as u64, key.len() as u64, depth, sources as u64, work];
     let n = put_line(out, 0, b"tree", &numbers);
@@ -220,8 +224,8 @@ pub fn write_listing(
 
 // The one line of a refusal.
 pub fn write_refusal(refusal: Refusal, out: &mut [u8]) -> Text
-    ensures answer { λ r. ⌜ r ≡ written (length (now (out .entry))) (refusalLine refusal) ⌝ }
-    ensures text { λ _. ⌜ now (out .exit) ≡ left (length (now (out .entry))) (refusalLine refusal) ⌝ }
+    ensures answer { λ r. ⌜ r ≡ textAnswer (length (now (out .entry))) (refusalLine refusal) ⌝ }
+    ensures text { λ _. ⌜ now (out .exit) ≡ textLeft (length (now (out .entry))) (refusalLine refusal) ⌝ }
 {
     let numbers = [refusal::number(refusal), refusal::value(refusal) as u64];
     let n = put_line(out, 0, b"refused", &numbers);

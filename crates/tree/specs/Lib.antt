@@ -1,3 +1,4 @@
+pub mod Columns
 pub mod Nodes
 pub mod WellFormed
 pub mod Sources

@@ -21,9 +21,9 @@ abbrev pub stored : List ℕ → ℕ → Bool
 stored keys k = any (eqb k) keys
 
 -- the number of the first node with key k, the number of nodes if there is none
-unfoldable pub placeOf : List ℕ → ℕ → ℕ
-placeOf [] k = 0
-placeOf (x ∷ xs) k = cond (eqb x k) 0 (suc (placeOf xs k))
+unfoldable pub nodeNumber : List ℕ → ℕ → ℕ
+nodeNumber [] k = 0
+nodeNumber (x ∷ xs) k = cond (eqb x k) 0 (suc (nodeNumber xs k))
 
 -- j has a parent, which is k: each cell but the root, at level 0, has one
 abbrev pub childOf : ℕ → ℕ → ℕ → Bool

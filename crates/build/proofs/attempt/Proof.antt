@@ -5,7 +5,7 @@ use native.Mathlib.Omega.{arith}
 use lib.ListN.{length}
 use denote.Ref.{now}
 use Rattle.laying.proofs.Prepared.{passed}
-use Rattle.build.specs.Asked.{asks, keyOf}
+use Rattle.build.specs.Asked.{asks, builtKeys}
 use Rattle.build.specs.Outcomes.{nodeRoom}
 use Rattle.build.proofs.Growing.{first-part, work-points, work-leaves, work-grown, work-full}
 use Rattle.build.proofs.Answers.{not-done, early-refused, order-short, nodes-short, tree-built, columns-are}
@@ -25,7 +25,7 @@ returns : tie.Need-returns
 returns c =
     let s = c .before .before .before .before .before .before .before .before .before .before .before .before .before .before in
     let e = early-refused (asks (s .args .b) (s .args .limit) (s .args .order) (s .args .keep) (now (s .args .sources)) (now (s .args .targets))) (length (now (s .args .work))) (length (now (s .args .indices))) (nodeRoom (length (now (s .args .key))) (length (now (s .args .own))) (length (now (s .args .begin)))) (c .before .prepared .given .0 .0) (sym (c .before .before .before .before .before .prepare .ensures .0) ∙ c .before .prepared .given .1) in
-    (e, λ d. absurd (not-done _ (keyOf (asks (s .args .b) (s .args .limit) (s .args .order) (s .args .keep) (now (s .args .sources)) (now (s .args .targets)))) _ e d))
+    (e, λ d. absurd (not-done _ (builtKeys (asks (s .args .b) (s .args .limit) (s .args .order) (s .args .keep) (now (s .args .sources)) (now (s .args .targets)))) _ e d))
 
 enum-told : tie.Need-enum-told
 enum-told c = search needs
@@ -43,7 +43,7 @@ returns-2 : tie.Need-returns-2
 returns-2 c =
     let s = c .before .before .before .before .before .before .before .before .before .before .before .before .before .before in
     let e = order-short (asks (s .args .b) (s .args .limit) (s .args .order) (s .args .keep) (now (s .args .sources)) (now (s .args .targets))) (length (now (s .args .work))) (length (now (s .args .indices))) (nodeRoom (length (now (s .args .key))) (length (now (s .args .own))) (length (now (s .args .begin)))) (sym (c .before .before .before .before .before .prepare .ensures .0) ∙ c .before .enum-told .given .1) (c .if1 .taken) in
-    (e, λ d. absurd (not-done _ (keyOf (asks (s .args .b) (s .args .limit) (s .args .order) (s .args .keep) (now (s .args .sources)) (now (s .args .targets)))) _ e d))
+    (e, λ d. absurd (not-done _ (builtKeys (asks (s .args .b) (s .args .limit) (s .args .order) (s .args .keep) (now (s .args .sources)) (now (s .args .targets)))) _ e d))
 
 node-room-requires : tie.Need-node-room-requires
 node-room-requires c κs = search needs
@@ -79,7 +79,7 @@ returns-3 c =
     let p = passed (s .args .b) (now (s .args .sources)) (now (s .args .targets)) (s .args .order) (length (now (s .args .work))) (sym (c .before .before .before .before .before .before .before .before .before .before .before .before .before .prepare .ensures .0) ∙ c .before .before .before .before .before .before .before .before .before .enum-told .given .1) in
     let h = work-full (asks (s .args .b) (s .args .limit) (s .args .order) (s .args .keep) (now (s .args .sources)) (now (s .args .targets))) (length (now (s .args .work))) p (c .before .before .before .before .before .before .before .before .before .before .before .before .before .prepare .last .1 .1 .1 .1 .0) (now (s .args .work)) (c .before .before .before .before .before .before .before .before .before .before .before .before .before .prepare .ensures .1 (c .before .before .before .before .before .before .before .before .before .enum-told .given .1)) (c .before .before .before .before .grow-nodes .last .1 .1 .1 .1 .0) (c .before .before .before .before .before .before .before .node-room .result) (c .before .before .before .before .grow-nodes .result) (c .enum-told2 .given .1) (c .before .before .before .before .grow-nodes .ensures) in
     let e = nodes-short (asks (s .args .b) (s .args .limit) (s .args .order) (s .args .keep) (now (s .args .sources)) (now (s .args .targets))) (length (now (s .args .work))) (length (now (s .args .indices))) (nodeRoom (length (now (s .args .key))) (length (now (s .args .own))) (length (now (s .args .begin)))) (sym (c .before .before .before .before .before .before .before .before .before .before .before .before .before .prepare .ensures .0) ∙ c .before .before .before .before .before .before .before .before .before .enum-told .given .1) (omega (arith, c .before .before .before .before .before .before .before .before .if1 .left)) (omega (arith, h, c .before .before .before .before .before .before .before .node-room .ensures)) in
-    (e, λ d. absurd (not-done _ (keyOf (asks (s .args .b) (s .args .limit) (s .args .order) (s .args .keep) (now (s .args .sources)) (now (s .args .targets)))) _ e d))
+    (e, λ d. absurd (not-done _ (builtKeys (asks (s .args .b) (s .args .limit) (s .args .order) (s .args .keep) (now (s .args .sources)) (now (s .args .targets)))) _ e d))
 
 same-length-5 : tie.Need-same-length-5
 same-length-5 c = search needs

@@ -7,9 +7,10 @@ use lib.Ieee.{Float}
 use lib.ListN.{length, replicate}
 use denote.Ref.{now}
 use Rattle.refusal.specs.declared.Outcome.the-variants.{Done}
-use Rattle.build.specs.Asked.{used, asks, keyOf}
-use Rattle.build.specs.Outcomes.{nodeRoom, buildOutcome, treeOr, Columns}
-use Rattle.build.proofs.Answers.{told-refused, told-tree, after-refusal, after-tree}
+use Rattle.refusal.proofs.Left.{left-done, left-refused}
+use Rattle.build.specs.Asked.{used, asks, builtKeys}
+use Rattle.build.specs.Outcomes.{nodeRoom, buildOutcome, treeOr, BuiltSlices}
+use Rattle.build.proofs.Answers.{told-refused, told-tree}
 use Rattle.build.proofs.build_tree.Statement.{statement}
 use Rattle.build.proofs.build_tree.Tie as tie
 
@@ -46,10 +47,10 @@ same-length-5 c = search needs
 returns : tie.Need-returns
 returns c =
     let s = c .before .before .before .before .before .before .before .before .before .before .before .before .before .before .before .before .before .before .before .before .before .before .before .before .before .before .before in
-    let e = subst (λ (x : List Float). c .before .before .before .before .before .before .before .before .before .before .before .before .before .attempt .result ≡ treeOr (buildOutcome (asks (s .args .b) (s .args .limit) (s .args .order) (s .args .keep) (now (s .args .sources)) x) (length (now (s .args .work))) (length (now (s .args .indices))) (nodeRoom (length (now (s .args .key))) (length (now (s .args .own))) (length (now (s .args .begin))))) (keyOf (asks (s .args .b) (s .args .limit) (s .args .order) (s .args .keep) (now (s .args .sources)) x))) (c .before .before .before .before .before .before .before .before .before .before .before .before .before .before .before .before .before .before .before .used-targets .ensures) (c .before .before .before .before .before .before .before .before .before .before .before .before .before .attempt .ensures .0) in
-    let d = told-tree (buildOutcome (asks (s .args .b) (s .args .limit) (s .args .order) (s .args .keep) (now (s .args .sources)) (used (s .args .keep) (s .args .refine) (now (s .args .targets)))) (length (now (s .args .work))) (length (now (s .args .indices))) (nodeRoom (length (now (s .args .key))) (length (now (s .args .own))) (length (now (s .args .begin))))) (keyOf (asks (s .args .b) (s .args .limit) (s .args .order) (s .args .keep) (now (s .args .sources)) (used (s .args .keep) (s .args .refine) (now (s .args .targets))))) _ _ (sym (c .before .built .given .1) ∙ e) in
-    let f = subst (λ (x : List Float). (buildOutcome (asks (s .args .b) (s .args .limit) (s .args .order) (s .args .keep) (now (s .args .sources)) x) (length (now (s .args .work))) (length (now (s .args .indices))) (nodeRoom (length (now (s .args .key))) (length (now (s .args .own))) (length (now (s .args .begin))))) ≡ Done → Columns (asks (s .args .b) (s .args .limit) (s .args .order) (s .args .keep) (now (s .args .sources)) x) (c .before .before .before .before .before .before .before .before .before .before .before .before .before .attempt .last .1 .1 .1 .1 .1 .1 .0) (c .before .before .before .before .before .before .before .before .before .before .before .before .before .attempt .last .1 .1 .1 .1 .1 .1 .1 .0) (c .before .before .before .before .before .before .before .before .before .before .before .before .before .attempt .last .1 .1 .1 .1 .1 .1 .1 .1 .0) (c .before .before .before .before .before .before .before .before .before .before .before .before .before .attempt .last .1 .1 .1 .1 .1 .1 .1 .1 .1 .0) (c .before .before .before .before .before .before .before .before .before .before .before .before .before .attempt .last .1 .1 .1 .1 .1 .1 .1 .1 .1 .1 .0) (length (now (s .args .work))) (length (now (s .args .indices))) (length (now (s .args .key))) (length (now (s .args .own))) (length (now (s .args .begin)))) (c .before .before .before .before .before .before .before .before .before .before .before .before .before .before .before .before .before .before .before .used-targets .ensures) (c .before .before .before .before .before .before .before .before .before .before .before .before .before .attempt .ensures .1) d in
-    (sym (c .before .built .given .1) ∙ e, (f .worked, (after-tree _ (length (now (s .args .indices))) _ _ d (f .ordered), (after-tree _ (length (now (s .args .key))) _ _ d (f .keyed), (after-tree _ (length (now (s .args .own))) _ _ d (f .owned), after-tree _ (length (now (s .args .begin))) _ _ d (f .begun))))))
+    let e = subst (λ (x : List Float). c .before .before .before .before .before .before .before .before .before .before .before .before .before .attempt .result ≡ treeOr (buildOutcome (asks (s .args .b) (s .args .limit) (s .args .order) (s .args .keep) (now (s .args .sources)) x) (length (now (s .args .work))) (length (now (s .args .indices))) (nodeRoom (length (now (s .args .key))) (length (now (s .args .own))) (length (now (s .args .begin))))) (builtKeys (asks (s .args .b) (s .args .limit) (s .args .order) (s .args .keep) (now (s .args .sources)) x))) (c .before .before .before .before .before .before .before .before .before .before .before .before .before .before .before .before .before .before .before .used-targets .ensures) (c .before .before .before .before .before .before .before .before .before .before .before .before .before .attempt .ensures .0) in
+    let d = told-tree (buildOutcome (asks (s .args .b) (s .args .limit) (s .args .order) (s .args .keep) (now (s .args .sources)) (used (s .args .keep) (s .args .refine) (now (s .args .targets)))) (length (now (s .args .work))) (length (now (s .args .indices))) (nodeRoom (length (now (s .args .key))) (length (now (s .args .own))) (length (now (s .args .begin))))) (builtKeys (asks (s .args .b) (s .args .limit) (s .args .order) (s .args .keep) (now (s .args .sources)) (used (s .args .keep) (s .args .refine) (now (s .args .targets))))) _ _ (sym (c .before .built .given .1) ∙ e) in
+    let f = subst (λ (x : List Float). (buildOutcome (asks (s .args .b) (s .args .limit) (s .args .order) (s .args .keep) (now (s .args .sources)) x) (length (now (s .args .work))) (length (now (s .args .indices))) (nodeRoom (length (now (s .args .key))) (length (now (s .args .own))) (length (now (s .args .begin))))) ≡ Done → BuiltSlices (asks (s .args .b) (s .args .limit) (s .args .order) (s .args .keep) (now (s .args .sources)) x) (c .before .before .before .before .before .before .before .before .before .before .before .before .before .attempt .last .1 .1 .1 .1 .1 .1 .0) (c .before .before .before .before .before .before .before .before .before .before .before .before .before .attempt .last .1 .1 .1 .1 .1 .1 .1 .0) (c .before .before .before .before .before .before .before .before .before .before .before .before .before .attempt .last .1 .1 .1 .1 .1 .1 .1 .1 .0) (c .before .before .before .before .before .before .before .before .before .before .before .before .before .attempt .last .1 .1 .1 .1 .1 .1 .1 .1 .1 .0) (c .before .before .before .before .before .before .before .before .before .before .before .before .before .attempt .last .1 .1 .1 .1 .1 .1 .1 .1 .1 .1 .0) (length (now (s .args .work))) (length (now (s .args .indices))) (length (now (s .args .key))) (length (now (s .args .own))) (length (now (s .args .begin)))) (c .before .before .before .before .before .before .before .before .before .before .before .before .before .before .before .before .before .before .before .used-targets .ensures) (c .before .before .before .before .before .before .before .before .before .before .before .before .before .attempt .ensures .1) d in
+    (sym (c .before .built .given .1) ∙ e, (f .worked, (left-done _ (length (now (s .args .indices))) _ _ d (f .ordered), (left-done _ (length (now (s .args .key))) _ _ d (f .keyed), (left-done _ (length (now (s .args .own))) _ _ d (f .owned), left-done _ (length (now (s .args .begin))) _ _ d (f .begun))))))
 
 same-length-6 : tie.Need-same-length-6
 same-length-6 c = search needs
@@ -69,10 +70,10 @@ same-length-10 c = search needs
 returns-2 : tie.Need-returns-2
 returns-2 c =
     let s = c .before .before .before .before .before .before .before .before .before .before .before .before .before .before .before .before .before .before .before .before .before .before .before .before .before .before .before .before .before .before .before .before .before .before .before .before .before .before .before .before .before .before .before in
-    let e = subst (λ (x : List Float). c .before .before .before .before .before .before .before .before .before .before .before .before .before .before .before .before .before .before .before .before .before .before .before .before .before .before .before .before .before .attempt .result ≡ treeOr (buildOutcome (asks (s .args .b) (s .args .limit) (s .args .order) (s .args .keep) (now (s .args .sources)) x) (length (now (s .args .work))) (length (now (s .args .indices))) (nodeRoom (length (now (s .args .key))) (length (now (s .args .own))) (length (now (s .args .begin))))) (keyOf (asks (s .args .b) (s .args .limit) (s .args .order) (s .args .keep) (now (s .args .sources)) x))) (c .before .before .before .before .before .before .before .before .before .before .before .before .before .before .before .before .before .before .before .before .before .before .before .before .before .before .before .before .before .before .before .before .before .before .before .used-targets .ensures) (c .before .before .before .before .before .before .before .before .before .before .before .before .before .before .before .before .before .before .before .before .before .before .before .before .before .before .before .before .before .attempt .ensures .0) in
-    let d = told-refused (buildOutcome (asks (s .args .b) (s .args .limit) (s .args .order) (s .args .keep) (now (s .args .sources)) (used (s .args .keep) (s .args .refine) (now (s .args .targets)))) (length (now (s .args .work))) (length (now (s .args .indices))) (nodeRoom (length (now (s .args .key))) (length (now (s .args .own))) (length (now (s .args .begin))))) (keyOf (asks (s .args .b) (s .args .limit) (s .args .order) (s .args .keep) (now (s .args .sources)) (used (s .args .keep) (s .args .refine) (now (s .args .targets))))) _ (sym (c .before .before .before .before .before .before .before .before .before .before .before .before .before .before .before .before .before .built2 .given .1) ∙ e) in
+    let e = subst (λ (x : List Float). c .before .before .before .before .before .before .before .before .before .before .before .before .before .before .before .before .before .before .before .before .before .before .before .before .before .before .before .before .before .attempt .result ≡ treeOr (buildOutcome (asks (s .args .b) (s .args .limit) (s .args .order) (s .args .keep) (now (s .args .sources)) x) (length (now (s .args .work))) (length (now (s .args .indices))) (nodeRoom (length (now (s .args .key))) (length (now (s .args .own))) (length (now (s .args .begin))))) (builtKeys (asks (s .args .b) (s .args .limit) (s .args .order) (s .args .keep) (now (s .args .sources)) x))) (c .before .before .before .before .before .before .before .before .before .before .before .before .before .before .before .before .before .before .before .before .before .before .before .before .before .before .before .before .before .before .before .before .before .before .before .used-targets .ensures) (c .before .before .before .before .before .before .before .before .before .before .before .before .before .before .before .before .before .before .before .before .before .before .before .before .before .before .before .before .before .attempt .ensures .0) in
+    let d = told-refused (buildOutcome (asks (s .args .b) (s .args .limit) (s .args .order) (s .args .keep) (now (s .args .sources)) (used (s .args .keep) (s .args .refine) (now (s .args .targets)))) (length (now (s .args .work))) (length (now (s .args .indices))) (nodeRoom (length (now (s .args .key))) (length (now (s .args .own))) (length (now (s .args .begin))))) (builtKeys (asks (s .args .b) (s .args .limit) (s .args .order) (s .args .keep) (now (s .args .sources)) (used (s .args .keep) (s .args .refine) (now (s .args .targets))))) _ (sym (c .before .before .before .before .before .before .before .before .before .before .before .before .before .before .before .before .before .built2 .given .1) ∙ e) in
     let z = c .before .before .before .before .before .before .before .before .before .before .clear-all .ensures in
-    (sym (c .before .before .before .before .before .before .before .before .before .before .before .before .before .before .before .before .before .built2 .given .1) ∙ e, (z .0 ∙ ap (λ (x : ℕ). replicate x 0) (c .before .before .before .before .before .before .before .before .before .before .before .before .before .before .before .before .before .before .before .before .before .before .before .before .before .before .before .before .before .attempt .kept .1 .1 .1 .1 .1 .1 .0), (after-refusal _ _ (length (now (s .args .indices))) _ _ _ d (c .before .before .before .before .before .before .before .before .before .before .before .before .before .before .before .before .before .before .before .before .before .before .before .before .before .before .before .before .before .attempt .kept .1 .1 .1 .1 .1 .1 .1 .0) (z .1 .0), (after-refusal _ _ (length (now (s .args .key))) _ _ _ d (c .before .before .before .before .before .before .before .before .before .before .before .before .before .before .before .before .before .before .before .before .before .before .before .before .before .before .before .before .before .attempt .kept .1 .1 .1 .1 .1 .1 .1 .1 .0) (z .1 .1 .0), (after-refusal _ _ (length (now (s .args .own))) _ _ _ d (c .before .before .before .before .before .before .before .before .before .before .before .before .before .before .before .before .before .before .before .before .before .before .before .before .before .before .before .before .before .attempt .kept .1 .1 .1 .1 .1 .1 .1 .1 .1 .0) (z .1 .1 .1 .0), after-refusal _ _ (length (now (s .args .begin))) _ _ _ d (c .before .before .before .before .before .before .before .before .before .before .before .before .before .before .before .before .before .before .before .before .before .before .before .before .before .before .before .before .before .attempt .kept .1 .1 .1 .1 .1 .1 .1 .1 .1 .1 .0) (z .1 .1 .1 .1))))))
+    (sym (c .before .before .before .before .before .before .before .before .before .before .before .before .before .before .before .before .before .built2 .given .1) ∙ e, (z .0 ∙ ap (λ (x : ℕ). replicate x 0) (c .before .before .before .before .before .before .before .before .before .before .before .before .before .before .before .before .before .before .before .before .before .before .before .before .before .before .before .before .before .attempt .kept .1 .1 .1 .1 .1 .1 .0), (left-refused _ (length (now (s .args .indices))) _ _ _ _ d (c .before .before .before .before .before .before .before .before .before .before .before .before .before .before .before .before .before .before .before .before .before .before .before .before .before .before .before .before .before .attempt .kept .1 .1 .1 .1 .1 .1 .1 .0) (z .1 .0), (left-refused _ (length (now (s .args .key))) _ _ _ _ d (c .before .before .before .before .before .before .before .before .before .before .before .before .before .before .before .before .before .before .before .before .before .before .before .before .before .before .before .before .before .attempt .kept .1 .1 .1 .1 .1 .1 .1 .1 .0) (z .1 .1 .0), (left-refused _ (length (now (s .args .own))) _ _ _ _ d (c .before .before .before .before .before .before .before .before .before .before .before .before .before .before .before .before .before .before .before .before .before .before .before .before .before .before .before .before .before .attempt .kept .1 .1 .1 .1 .1 .1 .1 .1 .1 .0) (z .1 .1 .1 .0), left-refused _ (length (now (s .args .begin))) _ _ _ _ d (c .before .before .before .before .before .before .before .before .before .before .before .before .before .before .before .before .before .before .before .before .before .before .before .before .before .before .before .before .before .attempt .kept .1 .1 .1 .1 .1 .1 .1 .1 .1 .1 .0) (z .1 .1 .1 .1))))))
 
 pub build-tree-spec : {M : Type 1} → statement M
 build-tree-spec =

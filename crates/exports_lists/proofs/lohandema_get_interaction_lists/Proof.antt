@@ -2,7 +2,6 @@
 use mathlib.Core.Path.{ap, _∙_}
 use Rattle.exports_keys.specs.Told.{told}
 use Rattle.exports_lists.specs.Told.{listsEnd, uIn, vIn}
-use Rattle.exports_lists.proofs.Same.{left-same}
 use borrow.Author.Needs.{needs}
 use Rattle.exports_lists.proofs.lohandema_get_interaction_lists.Statement.{statement}
 use Rattle.exports_lists.proofs.lohandema_get_interaction_lists.Tie as tie
@@ -26,7 +25,7 @@ same-length-4 : tie.Need-same-length-4
 same-length-4 c = search needs
 
 returns : tie.Need-returns
-returns c = let g = c .before .before .before .before .before .before .before .before .before .before .before .get-interaction-lists .ensures in let t = c .tell-lists .ensures in (t .0 ∙ ap (λ a. told (listsEnd a)) (g .0), (g .1 .0 ∙ left-same _ _ (g .0), (g .1 .1 .0 ∙ left-same _ _ (g .0), (g .1 .1 .1 .0 ∙ left-same _ _ (g .0), (g .1 .1 .1 .1 .0 ∙ left-same _ _ (g .0), (t .1 .0 ∙ ap uIn (g .0), t .1 .1 ∙ ap vIn (g .0)))))))
+returns c = let g = c .before .before .before .before .before .before .before .before .before .before .before .get-interaction-lists .ensures in let t = c .tell-lists .ensures in (t .0 ∙ ap (λ a. told (listsEnd a)) (g .0), (g .1 .0, (g .1 .1 .0, (g .1 .1 .1 .0, (g .1 .1 .1 .1 .0, (t .1 .0 ∙ ap uIn (g .0), t .1 .1 ∙ ap vIn (g .0)))))))
 
 pub lohandema-get-interaction-lists-spec : {M : Type 1} → statement M
 lohandema-get-interaction-lists-spec =

@@ -2,7 +2,6 @@
 use mathlib.Core.Path.{ap, sym, _∙_}
 use Rattle.exports_keys.specs.Told.{told}
 use Rattle.exports_lists.specs.Told.{workEnd, workIn}
-use Rattle.exports_lists.proofs.Same.{left-by}
 use borrow.Author.Needs.{needs}
 use Rattle.exports_lists.proofs.lohandema_get_near_work.Statement.{statement}
 use Rattle.exports_lists.proofs.lohandema_get_near_work.Tie as tie
@@ -29,7 +28,7 @@ same-length-2 : tie.Need-same-length-2
 same-length-2 c = search needs
 
 returns : tie.Need-returns
-returns c = let g = c .before .before .before .before .before .before .before .before .get-near-work .ensures in let e = sym (c .before .before .answer .given .1) ∙ g .0 in (c .end-of .ensures ∙ ap (λ a. told (workEnd a)) e, (g .1 .0 ∙ left-by _ _ (g .0), (g .1 .1 ∙ left-by _ _ (g .0), ap workIn e)))
+returns c = let g = c .before .before .before .before .before .before .before .before .get-near-work .ensures in let e = sym (c .before .before .answer .given .1) ∙ g .0 in (c .end-of .ensures ∙ ap (λ a. told (workEnd a)) e, (g .1 .0, (g .1 .1, ap workIn e)))
 
 same-length-3 : tie.Need-same-length-3
 same-length-3 c = search needs
@@ -38,7 +37,7 @@ same-length-4 : tie.Need-same-length-4
 same-length-4 c = search needs
 
 returns-2 : tie.Need-returns-2
-returns-2 c = let g = c .before .before .before .before .before .before .before .before .get-near-work .ensures in let e = sym (c .before .before .answer2 .given .1) ∙ g .0 in (c .end-of2 .ensures ∙ ap (λ a. told (workEnd a)) e, (g .1 .0 ∙ left-by _ _ (g .0), (g .1 .1 ∙ left-by _ _ (g .0), ap workIn e)))
+returns-2 c = let g = c .before .before .before .before .before .before .before .before .get-near-work .ensures in let e = sym (c .before .before .answer2 .given .1) ∙ g .0 in (c .end-of2 .ensures ∙ ap (λ a. told (workEnd a)) e, (g .1 .0, (g .1 .1, ap workIn e)))
 
 pub lohandema-get-near-work-spec : {M : Type 1} → statement M
 lohandema-get-near-work-spec =

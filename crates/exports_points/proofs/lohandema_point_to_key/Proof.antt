@@ -1,7 +1,7 @@
 -- In each case of the answer.
 use mathlib.Core.Path.{ap, sym, _∙_}
 use Rattle.exports_keys.specs.Told.{told}
-use Rattle.exports_points.specs.Told.{cellEnd, cellIn}
+use Rattle.exports_points.specs.Told.{cellEnd, keyIn}
 use Rattle.points.specs.Calls.{pointToKey}
 use borrow.Author.Needs.{needs}
 use Rattle.exports_points.proofs.lohandema_point_to_key.Statement.{statement}
@@ -26,10 +26,10 @@ end-of-requires-2 : tie.Need-end-of-requires-2
 end-of-requires-2 c κs = search needs
 
 returns : tie.Need-returns
-returns c = let e = sym (c .before .before .answer .given .1) ∙ c .before .before .before .before .point-to-key .ensures ∙ ap (λ b. pointToKey b (c .before .before .before .before .before .before .before .args .point .now) (c .before .before .before .before .before .before .before .args .level)) (c .before .before .before .before .before .before .box-at .ensures) in (c .end-of .ensures ∙ ap (λ a. told (cellEnd a)) e, ap cellIn e)
+returns c = let e = sym (c .before .before .answer .given .1) ∙ c .before .before .before .before .point-to-key .ensures ∙ ap (λ b. pointToKey b (c .before .before .before .before .before .before .before .args .point .now) (c .before .before .before .before .before .before .before .args .level)) (c .before .before .before .before .before .before .box-at .ensures) in (c .end-of .ensures ∙ ap (λ a. told (cellEnd a)) e, ap keyIn e)
 
 returns-2 : tie.Need-returns-2
-returns-2 c = let e = sym (c .before .before .answer2 .given .1) ∙ c .before .before .before .before .point-to-key .ensures ∙ ap (λ b. pointToKey b (c .before .before .before .before .before .before .before .args .point .now) (c .before .before .before .before .before .before .before .args .level)) (c .before .before .before .before .before .before .box-at .ensures) in (c .end-of2 .ensures ∙ ap (λ a. told (cellEnd a)) e, ap cellIn e)
+returns-2 c = let e = sym (c .before .before .answer2 .given .1) ∙ c .before .before .before .before .point-to-key .ensures ∙ ap (λ b. pointToKey b (c .before .before .before .before .before .before .before .args .point .now) (c .before .before .before .before .before .before .before .args .level)) (c .before .before .before .before .before .before .box-at .ensures) in (c .end-of2 .ensures ∙ ap (λ a. told (cellEnd a)) e, ap keyIn e)
 
 pub lohandema-point-to-key-spec : {M : Type 1} → statement M
 lohandema-point-to-key-spec =

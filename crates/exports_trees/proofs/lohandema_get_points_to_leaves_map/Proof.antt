@@ -1,4 +1,4 @@
-use Rattle.exports_trees.proofs.Looked.{written-same}
+use Rattle.exports_trees.proofs.Looked.{left-same}
 -- What was written is the definition's.
 use mathlib.Core.Path.{ap, sym, _∙_}
 use Rattle.exports_keys.specs.Told.{told}
@@ -19,7 +19,7 @@ same-length-2 : tie.Need-same-length-2
 same-length-2 c = search needs
 
 returns : tie.Need-returns
-returns c = let g = c .before .before .before .before .before .get-points-to-leaves-map .ensures in (c .end-of .ensures ∙ ap told (g .0), (g .1 .0 ∙ written-same _ _ (g .0), g .1 .1 ∙ written-same _ _ (g .0)))
+returns c = let g = c .before .before .before .before .before .get-points-to-leaves-map .ensures in (c .end-of .ensures ∙ ap told (g .0), (g .1 .0 ∙ left-same _ _ (g .0), g .1 .1 ∙ left-same _ _ (g .0)))
 
 pub lohandema-get-points-to-leaves-map-spec : {M : Type 1} → statement M
 lohandema-get-points-to-leaves-map-spec =

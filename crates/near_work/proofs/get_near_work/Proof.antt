@@ -1,8 +1,11 @@
 -- `work::get_near_work` meets its contract.
 use mathlib.Core.Path.{_≡_, sym, ap, _∙_}
 use mathlib.Core.Bool.{true}
+use denote.Ref.{now}
+use lib.ListN.{length}
+use Rattle.refusal.proofs.Left.{left-done, left-refused}
 use Rattle.near_work.specs.Answers.{isWork}
-use Rattle.near_work.proofs.Checks.{zeros}
+use Rattle.near_work.proofs.Checks.{told-work, told-refused}
 use borrow.Author.Needs.{needs}
 use Rattle.near_work.proofs.get_near_work.Statement.{statement}
 use Rattle.near_work.proofs.get_near_work.Tie as tie
@@ -29,7 +32,12 @@ same-length-2 : tie.Need-same-length-2
 same-length-2 c = search needs
 
 returns : tie.Need-returns
-returns c = (sym (c .before .before .before .before .before .before .before .before .before .answer .given .1) ∙ c .before .before .before .before .before .before .before .before .before .before .before .before .before .before .before .write-and-sum .ensures .0, (zeros _ _ _ (c .before .before .before .before .before .before .clear-usize .ensures) (c .before .before .before .before .before .before .before .before .before .before .before .before .before .before .before .write-and-sum .kept .1 .1 .1 .1 .0), zeros _ _ _ (c .before .before .clear .ensures) (c .before .before .before .before .before .before .before .before .before .before .before .before .before .before .before .write-and-sum .kept .1 .1 .1 .1 .1 .0)))
+returns c =
+    let a = c .before .before .before .before .before .before .before .before .before .before .before .before .before .before .before .before .before .before .before .before .before .before .before .args in
+    let w = c .before .before .before .before .before .before .before .before .before .before .before .before .before .before .before .write-and-sum in
+    let e = sym (c .before .before .before .before .before .before .before .before .before .answer .given .1) ∙ w .ensures .0 in
+    let o = told-refused (a .axes) (now (a .key)) (now (a .own)) (now (a .begin)) (length (now (a .starts))) (length (now (a .flat))) _ e in
+    (e, (left-refused _ (length (now (a .starts))) _ _ _ _ o (w .kept .1 .1 .1 .1 .0) (c .before .before .before .before .before .before .clear-usize .ensures), left-refused _ (length (now (a .flat))) _ _ _ _ o (w .kept .1 .1 .1 .1 .1 .0) (c .before .before .clear .ensures)))
 
 same-length-3 : tie.Need-same-length-3
 same-length-3 c = search needs
@@ -38,7 +46,13 @@ same-length-4 : tie.Need-same-length-4
 same-length-4 c = search needs
 
 returns-2 : tie.Need-returns-2
-returns-2 c = let t : isWork (c .before .before .before .before .before .before .before .write-and-sum .result) ≡ true = ap isWork (c .before .answer2 .given .1) in (sym (c .before .answer2 .given .1) ∙ c .before .before .before .before .before .before .before .write-and-sum .ensures .0, (c .before .before .before .before .before .before .before .write-and-sum .ensures .1 .0 t, c .before .before .before .before .before .before .before .write-and-sum .ensures .1 .1 t))
+returns-2 c =
+    let a = c .before .before .before .before .before .before .before .before .before .before .before .before .before .before .before .args in
+    let w = c .before .before .before .before .before .before .before .write-and-sum in
+    let t : isWork (w .result) ≡ true = ap isWork (c .before .answer2 .given .1) in
+    let e = sym (c .before .answer2 .given .1) ∙ w .ensures .0 in
+    let o = told-work (a .axes) (now (a .key)) (now (a .own)) (now (a .begin)) (length (now (a .starts))) (length (now (a .flat))) _ e in
+    (e, (left-done _ (length (now (a .starts))) _ _ o (w .ensures .1 .0 t), left-done _ (length (now (a .flat))) _ _ o (w .ensures .1 .1 t)))
 
 pub get-near-work-spec : {M : Type 1} → statement M
 get-near-work-spec =

@@ -8,7 +8,7 @@ use Rattle.tree.specs.WellFormed.{mostSources}
 use Rattle.morton.proofs.Checks.{axes-known}
 use Rattle.rows.specs.Lists.{uRow}
 use Rattle.sourced.proofs.Below.{tree-ascends, own-length}
-use Rattle.near_work.specs.Work.{sourcesIn}
+use Rattle.near_work.specs.Work.{rowSources}
 use Rattle.near_work.proofs.Sums.{beside, own-few, sources-few, work-none, work-some, product-fits}
 use Rattle.near_work.proofs.Columns.{read-row}
 use borrow.Author.Needs.{needs}
@@ -49,7 +49,7 @@ part-row-sources-end : tie.Need-part-row-sources-end
 part-row-sources-end c = let a = c .before .before .before .before .before .before .before .before .args in let r = read-row (uRow (a .axes) (now (a .key)) (now (a .own))) (now (a .key)) (now (a .starts)) (now (a .flat)) (c .before .before .before .before .before .before .before .before .pre .1) (a .node) (c .before .before .before .before .before .before .before .before .pre .2) in r .within
 
 row-sources-requires : tie.Need-row-sources-requires
-row-sources-requires c κs = let a = c .before .before .before .before .before .before .before .before .before .args in let r = read-row (uRow (a .axes) (now (a .key)) (now (a .own))) (now (a .key)) (now (a .starts)) (now (a .flat)) (c .before .before .before .before .before .before .before .before .before .pre .1) (a .node) (c .before .before .before .before .before .before .before .before .before .pre .2) in (beside (a .axes) (now (a .key)) (now (a .own)) (c .before .before .before .before .before .before .before .before .before .pre .0), subst (λ row. sourcesIn (now (a .key)) (now (a .own)) row ≤ mostSources) (sym (r .part)) (sources-few (a .axes) (now (a .key)) (now (a .own)) (c .before .before .before .before .before .before .before .before .before .pre .0) _))
+row-sources-requires c κs = let a = c .before .before .before .before .before .before .before .before .before .args in let r = read-row (uRow (a .axes) (now (a .key)) (now (a .own))) (now (a .key)) (now (a .starts)) (now (a .flat)) (c .before .before .before .before .before .before .before .before .before .pre .1) (a .node) (c .before .before .before .before .before .before .before .before .before .pre .2) in (beside (a .axes) (now (a .key)) (now (a .own)) (c .before .before .before .before .before .before .before .before .before .pre .0), subst (λ row. rowSources (now (a .key)) (now (a .own)) row ≤ mostSources) (sym (r .part)) (sources-few (a .axes) (now (a .key)) (now (a .own)) (c .before .before .before .before .before .before .before .before .before .pre .0) _))
 
 mul-result : tie.Need-mul-result
 mul-result c = let a = c .before .before .before .before .before .before .before .before .before .before .args in omega (arith, c .before .before .before .before .before .before .before .before .before .before .pre .2, own-length (a .axes) (now (a .key)) (now (a .own)) (c .before .before .before .before .before .before .before .before .before .before .pre .0), c .before .before .before .before .before .before .before .before .before .before .good .1 .1 .0)
@@ -58,10 +58,10 @@ shared-slice-read-result : tie.Need-shared-slice-read-result
 shared-slice-read-result c = let a = c .before .before .before .before .before .before .before .before .before .before .before .args in omega (arith, c .before .before .before .before .before .before .before .before .before .before .before .pre .2, own-length (a .axes) (now (a .key)) (now (a .own)) (c .before .before .before .before .before .before .before .before .before .before .before .pre .0))
 
 mul-result-2 : tie.Need-mul-result-2
-mul-result-2 c = let a = c .before .before .before .before .before .before .before .before .before .before .before .args in let r = read-row (uRow (a .axes) (now (a .key)) (now (a .own))) (now (a .key)) (now (a .starts)) (now (a .flat)) (c .before .before .before .before .before .before .before .before .before .before .before .pre .1) (a .node) (c .before .before .before .before .before .before .before .before .before .before .before .pre .2) in omega (arith, product-fits _ _ (own-few (a .axes) (now (a .key)) (now (a .own)) (c .before .before .before .before .before .before .before .before .before .before .before .pre .0) (a .node) (c .before .before .before .before .before .before .before .before .before .before .before .pre .2)) (subst (λ n. n ≤ mostSources) (sym (c .before .row-sources .ensures ∙ ap (sourcesIn (now (a .key)) (now (a .own))) (r .part))) (sources-few (a .axes) (now (a .key)) (now (a .own)) (c .before .before .before .before .before .before .before .before .before .before .before .pre .0) _)))
+mul-result-2 c = let a = c .before .before .before .before .before .before .before .before .before .before .before .args in let r = read-row (uRow (a .axes) (now (a .key)) (now (a .own))) (now (a .key)) (now (a .starts)) (now (a .flat)) (c .before .before .before .before .before .before .before .before .before .before .before .pre .1) (a .node) (c .before .before .before .before .before .before .before .before .before .before .before .pre .2) in omega (arith, product-fits _ _ (own-few (a .axes) (now (a .key)) (now (a .own)) (c .before .before .before .before .before .before .before .before .before .before .before .pre .0) (a .node) (c .before .before .before .before .before .before .before .before .before .before .before .pre .2)) (subst (λ n. n ≤ mostSources) (sym (c .before .row-sources .ensures ∙ ap (rowSources (now (a .key)) (now (a .own))) (r .part))) (sources-few (a .axes) (now (a .key)) (now (a .own)) (c .before .before .before .before .before .before .before .before .before .before .before .pre .0) _)))
 
 returns-2 : tie.Need-returns-2
-returns-2 c = let a = c .before .before .before .before .before .before .before .before .before .before .before .args in let r = read-row (uRow (a .axes) (now (a .key)) (now (a .own))) (now (a .key)) (now (a .starts)) (now (a .flat)) (c .before .before .before .before .before .before .before .before .before .before .before .pre .1) (a .node) (c .before .before .before .before .before .before .before .before .before .before .before .pre .2) in work-some (a .axes) (now (a .key)) (now (a .own)) _ _ _ (sym (c .before .before .before .before .before .before .is-leaf .ensures) ∙ not-false _ (c .before .before .before .before .before .if1 .left)) (sym (beside (a .axes) (now (a .key)) (now (a .own)) (c .before .before .before .before .before .before .before .before .before .before .before .pre .0) .own-of (a .node) (c .before .before .before .before .before .before .before .before .before .before .before .pre .2))) (c .before .row-sources .ensures ∙ ap (sourcesIn (now (a .key)) (now (a .own))) (r .part))
+returns-2 c = let a = c .before .before .before .before .before .before .before .before .before .before .before .args in let r = read-row (uRow (a .axes) (now (a .key)) (now (a .own))) (now (a .key)) (now (a .starts)) (now (a .flat)) (c .before .before .before .before .before .before .before .before .before .before .before .pre .1) (a .node) (c .before .before .before .before .before .before .before .before .before .before .before .pre .2) in work-some (a .axes) (now (a .key)) (now (a .own)) _ _ _ (sym (c .before .before .before .before .before .before .is-leaf .ensures) ∙ not-false _ (c .before .before .before .before .before .if1 .left)) (sym (beside (a .axes) (now (a .key)) (now (a .own)) (c .before .before .before .before .before .before .before .before .before .before .before .pre .0) .own-of (a .node) (c .before .before .before .before .before .before .before .before .before .before .before .pre .2))) (c .before .row-sources .ensures ∙ ap (rowSources (now (a .key)) (now (a .own))) (r .part))
 
 pub work-of-spec : {M : Type 1} → statement M
 work-of-spec =

@@ -7,7 +7,7 @@ use lib.ListN.{length}
 use lib.Pow.{shr-le}
 use borrow.Author.Needs.{needs}
 use Rattle.refusal.specs.declared.Refusal.the-variants.{Point}
-use Rattle.space.specs.Cells.{frameOf, inside, code16, placeOf}
+use Rattle.space.specs.Cells.{frameOf, inside, code16, pointPlace}
 use Rattle.space.proofs.Points.{tables-for, placed-in, placed-out}
 use Rattle.space.proofs.Refusals.{Fine, level-done}
 use Rattle.points.proofs.Checked.{point-refused, point-out}
@@ -63,8 +63,8 @@ enum-known-place : tie.Need-enum-known-place
 enum-known-place c = search needs
 
 -- where the point is, in the box's frame
-where-is : (c : tie.After-code-at) → c .code-at .result ≡ placeOf (frameOf (c .before .before .before .before .before .before .before .before .before .before .before .before .args .b)) (c .before .before .before .before .before .before .before .before .before .before .before .before .args .t2)
-where-is c = c .code-at .ensures ∙ ap (λ f. placeOf f (c .before .before .before .before .before .before .before .before .before .before .before .before .args .t2)) (c .before .before .frame-of .ensures)
+where-is : (c : tie.After-code-at) → c .code-at .result ≡ pointPlace (frameOf (c .before .before .before .before .before .before .before .before .before .before .before .before .args .b)) (c .before .before .before .before .before .before .before .before .before .before .before .before .args .t2)
+where-is c = c .code-at .ensures ∙ ap (λ f. pointPlace f (c .before .before .before .before .before .before .before .before .before .before .before .before .args .t2)) (c .before .before .frame-of .ensures)
 
 -- inside: its code
 code-is : (c : tie.After-place) → (inside (frameOf (c .before .before .before .before .before .before .before .before .before .before .before .before .before .before .args .b)) (c .before .before .before .before .before .before .before .before .before .before .before .before .before .before .args .t2) ≡ mathlib.Core.Bool.true) × (c .place .given .0 .0 ≡ code16 (frameOf (c .before .before .before .before .before .before .before .before .before .before .before .before .before .before .args .b)) (c .before .before .before .before .before .before .before .before .before .before .before .before .before .before .args .t2))

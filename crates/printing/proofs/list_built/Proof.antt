@@ -5,7 +5,7 @@ use lib.Seq.{length-take-le}
 use denote.Ref.{now}
 use borrow.Author.Needs.{needs}
 use Rattle.build.specs.Outcomes.{nodeRoom}
-use Rattle.text.specs.Listing.{written, left}
+use Rattle.text.specs.Listing.{textAnswer, textLeft}
 use Rattle.printing.proofs.Rooms.{built-refused, key-long, own-long, begin-long, built-text}
 use Rattle.printing.proofs.list_built.Statement.{statement}
 use Rattle.printing.proofs.list_built.Tie as tie
@@ -84,7 +84,7 @@ returns c =
     let a = c .before .before .before .before .before .before .before .before .before .before .before .before .before .before .before .before .before .before .before .before .before .before .before .before .before .before .before .before .before .before .before .before .args in
     let g = c .before .before .before .before .before .before .before .before .before .before .before .before .before .before .before .before .before .build-tree in
     let e = built-refused (a .survey) (now (a .sources)) (now (a .targets)) (length (now (a .work))) (length (now (a .indices))) (nodeRoom (length (now (a .key))) (length (now (a .own))) (length (now (a .begin)))) (g .result) (g .ensures .0) _ (c .before .before .before .before .before .built .given .1) in
-    (c .before .before .write-refusal .ensures .0 ∙ ap (written (length (now (a .out)))) e, c .before .before .write-refusal .ensures .1 ∙ ap (left (length (now (a .out)))) e)
+    (c .before .before .write-refusal .ensures .0 ∙ ap (textAnswer (length (now (a .out)))) e, c .before .before .write-refusal .ensures .1 ∙ ap (textLeft (length (now (a .out)))) e)
 
 same-length-7 : tie.Need-same-length-7
 same-length-7 c = search needs
@@ -109,7 +109,7 @@ returns-2 c =
     let a = c .before .before .before .before .before .before .before .before .before .before .before .before .before .before .before .before .before .before .before .before .before .before .before .before .before .before .before .before .before .before .before .before .before .before .before .args in
     let g = c .before .before .before .before .before .before .before .before .before .before .before .before .before .before .before .before .before .before .before .before .build-tree in
     let e = built-text (a .survey) (now (a .sources)) (now (a .targets)) (length (now (a .work))) (length (now (a .indices))) (nodeRoom (length (now (a .key))) (length (now (a .own))) (length (now (a .begin)))) (g .result) (g .ensures .0) _ _ (c .before .before .before .before .before .before .before .before .built2 .given .1) _ _ _ _ _ _ (g .ensures .1 .1 .1 .0) (g .ensures .1 .1 .1 .1 .0) (g .ensures .1 .1 .1 .1 .1) in
-    (c .before .before .list-columns .ensures .0 ∙ ap (written (length (now (a .out)))) e, c .before .before .list-columns .ensures .1 ∙ ap (left (length (now (a .out)))) e)
+    (c .before .before .list-columns .ensures .0 ∙ ap (textAnswer (length (now (a .out)))) e, c .before .before .list-columns .ensures .1 ∙ ap (textLeft (length (now (a .out)))) e)
 
 pub list-built-spec : {M : Type 1} → statement M
 list-built-spec =

@@ -6,7 +6,7 @@ use lib.Seq.{length-take-le}
 use denote.Ref.{now}
 use borrow.Author.Needs.{needs}
 use Rattle.survey.proofs.Surveys.{reads}
-use Rattle.text.specs.Listing.{written, left}
+use Rattle.text.specs.Listing.{textAnswer, textLeft}
 use Rattle.printing.proofs.Rooms.{file-refused, sources-long, targets-long, file-text}
 use Rattle.printing.proofs.list_file.Statement.{statement}
 use Rattle.printing.proofs.list_file.Tie as tie
@@ -70,7 +70,7 @@ returns c =
     let a = c .before .before .before .before .before .before .before .before .before .before .before .before .args in
     let g = c .before .before .before .before .before .before .before .read-survey in
     let e = file-refused (now (a .file)) (g .result) (g .ensures .0) _ (c .before .before .before .before .before .outcome .given .1) in
-    (c .before .before .write-refusal .ensures .0 ∙ ap (written (length (now (a .out)))) e, c .before .before .write-refusal .ensures .1 ∙ ap (left (length (now (a .out)))) e)
+    (c .before .before .write-refusal .ensures .0 ∙ ap (textAnswer (length (now (a .out)))) e, c .before .before .write-refusal .ensures .1 ∙ ap (textLeft (length (now (a .out)))) e)
 
 same-length-2 : tie.Need-same-length-2
 same-length-2 c = search needs
@@ -80,7 +80,7 @@ returns-2 c =
     let a = c .before .before .before .before .before .before .before .before .before .before .before .before .before .before .before .before .before .before .args in
     let g = c .before .before .before .before .before .before .before .before .before .before .before .before .before .read-survey in
     let e = file-text (now (a .file)) (g .result) (g .ensures .0) _ _ (g .ensures .1 .0) (g .ensures .1 .1) (c .before .before .before .before .before .before .before .before .before .before .before .enum-told .given .1) in
-    (c .before .before .list-survey .ensures .0 ∙ ap (written (length (now (a .out)))) e, c .before .before .list-survey .ensures .1 ∙ ap (left (length (now (a .out)))) e)
+    (c .before .before .list-survey .ensures .0 ∙ ap (textAnswer (length (now (a .out)))) e, c .before .before .list-survey .ensures .1 ∙ ap (textLeft (length (now (a .out)))) e)
 
 pub list-file-spec : {M : Type 1} → statement M
 list-file-spec =

@@ -3,8 +3,8 @@ use mathlib.Core.Path.{sym, ap, _∙_}
 use lib.ListN.{length}
 use denote.Ref.{now}
 use borrow.Author.Needs.{needs}
-use Rattle.text.specs.Listing.{written, left}
-use Rattle.report.proofs.Reports.{holds-rows, text-refused, tree-sound, text-listed, filled-as, left-as}
+use Rattle.text.specs.Listing.{textAnswer, textLeft}
+use Rattle.report.proofs.Reports.{holds-rows, text-refused, tree-sound, text-listed, filled-as}
 use Rattle.report.proofs.list_tree.Statement.{statement}
 use Rattle.report.proofs.list_tree.Tie as tie
 
@@ -24,7 +24,8 @@ near-work-requires : tie.Need-near-work-requires
 near-work-requires c κs =
     let a = c .before .before .before .before .before .before .before .before .before .before .before .before .before .before .before .before .before .before .before .before .before .before .before .before .before .args in
     let g = c .before .before .before .before .before .before .before .before .before .before .before .before .get-interaction-lists in
-    (tree-sound (a .axes) (now (a .key)) (now (a .own)) (now (a .begin)) (length (now (a .u-starts))) (length (now (a .u-keys))) (length (now (a .v-starts))) (length (now (a .v-keys))) _ _ (sym (c .before .before .enum-told .given .1) ∙ g .ensures .0), holds-rows _ _ _ _ _ _ (filled-as _ _ _ _ _ _ (g .ensures .1 .0) (c .before .before .enum-told .given .1)) (filled-as _ _ _ _ _ _ (g .ensures .1 .1 .0) (c .before .before .enum-told .given .1)))
+    let q = sym (c .before .before .enum-told .given .1) ∙ g .ensures .0 in
+    (tree-sound (a .axes) (now (a .key)) (now (a .own)) (now (a .begin)) (length (now (a .u-starts))) (length (now (a .u-keys))) (length (now (a .v-starts))) (length (now (a .v-keys))) _ _ q, holds-rows _ _ _ _ _ _ (filled-as (a .axes) (now (a .key)) (now (a .own)) (now (a .begin)) (length (now (a .u-starts))) (length (now (a .u-keys))) (length (now (a .v-starts))) (length (now (a .v-keys))) _ _ q _ _ _ (g .ensures .1 .0)) (filled-as (a .axes) (now (a .key)) (now (a .own)) (now (a .begin)) (length (now (a .u-starts))) (length (now (a .u-keys))) (length (now (a .v-starts))) (length (now (a .v-keys))) _ _ q _ _ _ (g .ensures .1 .1 .0)))
 
 depth-of-requires : tie.Need-depth-of-requires
 depth-of-requires c κs = search needs
@@ -52,7 +53,7 @@ returns c =
     let a = c .before .before .before .before .before .before .before .before .before .before .before .before .before .before .before .before .before .before .before .before .before .before .before .before .before .before .before .before .args in
     let g = c .before .before .before .before .before .before .before .before .before .before .before .before .before .before .before .get-interaction-lists in
     let e = text-refused (a .axes) (now (a .key)) (now (a .own)) (now (a .begin)) (length (now (a .u-starts))) (length (now (a .u-keys))) (length (now (a .v-starts))) (length (now (a .v-keys))) (a .sources) _ (sym (c .before .before .before .before .before .listed .given .1) ∙ g .ensures .0) in
-    (c .before .before .write-refusal .ensures .0 ∙ ap (written (length (now (a .out)))) e, (c .before .before .write-refusal .ensures .1 ∙ ap (left (length (now (a .out)))) e, (left-as _ _ _ _ _ (g .ensures .1 .0) (g .ensures .0), (left-as _ _ _ _ _ (g .ensures .1 .1 .0) (g .ensures .0), (left-as _ _ _ _ _ (g .ensures .1 .1 .1 .0) (g .ensures .0), left-as _ _ _ _ _ (g .ensures .1 .1 .1 .1 .0) (g .ensures .0))))))
+    (c .before .before .write-refusal .ensures .0 ∙ ap (textAnswer (length (now (a .out)))) e, (c .before .before .write-refusal .ensures .1 ∙ ap (textLeft (length (now (a .out)))) e, (g .ensures .1 .0, (g .ensures .1 .1 .0, (g .ensures .1 .1 .1 .0, g .ensures .1 .1 .1 .1 .0)))))
 
 same-length-6 : tie.Need-same-length-6
 same-length-6 c = search needs
@@ -73,8 +74,9 @@ returns-2 : tie.Need-returns-2
 returns-2 c =
     let a = c .before .before .before .before .before .before .before .before .before .before .before .before .before .before .before .before .before .before .before .before .before .before .before .before .before .before .before .before .before .before .before .before .before .before .before .args in
     let g = c .before .before .before .before .before .before .before .before .before .before .before .before .before .before .before .before .before .before .before .before .before .before .get-interaction-lists in
-    let e = text-listed (a .axes) (now (a .key)) (now (a .own)) (now (a .begin)) (length (now (a .u-starts))) (length (now (a .u-keys))) (length (now (a .v-starts))) (length (now (a .v-keys))) _ _ (sym (c .before .before .before .before .before .before .before .before .before .before .before .before .enum-told .given .1) ∙ g .ensures .0) (a .sources) _ _ _ _ _ _ (c .before .before .before .before .before .before .before .before .before .near-work .ensures .0) (c .before .before .before .before .before .before .before .before .depth-of .ensures) (holds-rows _ _ _ _ _ _ (filled-as _ _ _ _ _ _ (g .ensures .1 .0) (c .before .before .before .before .before .before .before .before .before .before .before .before .enum-told .given .1)) (filled-as _ _ _ _ _ _ (g .ensures .1 .1 .0) (c .before .before .before .before .before .before .before .before .before .before .before .before .enum-told .given .1))) (holds-rows _ _ _ _ _ _ (filled-as _ _ _ _ _ _ (g .ensures .1 .1 .1 .0) (c .before .before .before .before .before .before .before .before .before .before .before .before .enum-told .given .1)) (filled-as _ _ _ _ _ _ (g .ensures .1 .1 .1 .1 .0) (c .before .before .before .before .before .before .before .before .before .before .before .before .enum-told .given .1))) in
-    (c .before .before .write-listing .ensures .0 ∙ ap (written (length (now (a .out)))) e, (c .before .before .write-listing .ensures .1 ∙ ap (left (length (now (a .out)))) e, (left-as _ _ _ _ _ (g .ensures .1 .0) (g .ensures .0), (left-as _ _ _ _ _ (g .ensures .1 .1 .0) (g .ensures .0), (left-as _ _ _ _ _ (g .ensures .1 .1 .1 .0) (g .ensures .0), left-as _ _ _ _ _ (g .ensures .1 .1 .1 .1 .0) (g .ensures .0))))))
+    let q = sym (c .before .before .before .before .before .before .before .before .before .before .before .before .enum-told .given .1) ∙ g .ensures .0 in
+    let e = text-listed (a .axes) (now (a .key)) (now (a .own)) (now (a .begin)) (length (now (a .u-starts))) (length (now (a .u-keys))) (length (now (a .v-starts))) (length (now (a .v-keys))) _ _ q (a .sources) _ _ _ _ _ _ (c .before .before .before .before .before .before .before .before .before .near-work .ensures .0) (c .before .before .before .before .before .before .before .before .depth-of .ensures) (holds-rows _ _ _ _ _ _ (filled-as (a .axes) (now (a .key)) (now (a .own)) (now (a .begin)) (length (now (a .u-starts))) (length (now (a .u-keys))) (length (now (a .v-starts))) (length (now (a .v-keys))) _ _ q _ _ _ (g .ensures .1 .0)) (filled-as (a .axes) (now (a .key)) (now (a .own)) (now (a .begin)) (length (now (a .u-starts))) (length (now (a .u-keys))) (length (now (a .v-starts))) (length (now (a .v-keys))) _ _ q _ _ _ (g .ensures .1 .1 .0))) (holds-rows _ _ _ _ _ _ (filled-as (a .axes) (now (a .key)) (now (a .own)) (now (a .begin)) (length (now (a .u-starts))) (length (now (a .u-keys))) (length (now (a .v-starts))) (length (now (a .v-keys))) _ _ q _ _ _ (g .ensures .1 .1 .1 .0)) (filled-as (a .axes) (now (a .key)) (now (a .own)) (now (a .begin)) (length (now (a .u-starts))) (length (now (a .u-keys))) (length (now (a .v-starts))) (length (now (a .v-keys))) _ _ q _ _ _ (g .ensures .1 .1 .1 .1 .0))) in
+    (c .before .before .write-listing .ensures .0 ∙ ap (textAnswer (length (now (a .out)))) e, (c .before .before .write-listing .ensures .1 ∙ ap (textLeft (length (now (a .out)))) e, (g .ensures .1 .0, (g .ensures .1 .1 .0, (g .ensures .1 .1 .1 .0, g .ensures .1 .1 .1 .1 .0)))))
 
 pub list-tree-spec : {M : Type 1} → statement M
 list-tree-spec =
