@@ -32,7 +32,8 @@ use Rattle.growth.proofs.Formed.{well-formed, own-total, depth-most}
 use Rattle.growth.proofs.Found.{source-found}
 use Rattle.growth.proofs.Runs.{leaf-part}
 use Rattle.growth.proofs.Meets.{meets-once, meets-near}
-use Rattle.laying.specs.Points.{rowsOf, rowsInside, codesOf}
+use Rattle.space.specs.Rows.{rowsOf, rowsInside}
+use Rattle.laying.specs.Points.{codesOf}
 use Rattle.laying.specs.Outcomes.{askedOutcome, insideOutcome, workOutcome}
 use Rattle.laying.proofs.Prepared.{Passed, passed}
 use Rattle.build.specs.Asked.{Asked, ruleOf, builtKeys, builtOwn, builtBegins, builtOrder}
