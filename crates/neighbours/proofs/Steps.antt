@@ -15,7 +15,7 @@ use Rattle.slices.specs.Lists.{range, filled}
 use Rattle.slices.specs.Every.{every}
 use Rattle.slices.proofs.Every.{every-at, every-fails, every-next, every-none}
 use Rattle.slices.proofs.Tests.{and-l, and-r, both}
-use Rattle.codes.specs.Tables.{Bytes2}
+use Rattle.codes.specs.Anchors.{Bytes2}
 use Rattle.neighbours.specs.Directions.{raised, ahead, stays, moved, none}
 
 -- a step that the code has read, as the row has it

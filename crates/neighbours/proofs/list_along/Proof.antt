@@ -15,25 +15,16 @@ use Rattle.neighbours.proofs.list_along.Statement.{statement}
 use Rattle.neighbours.proofs.list_along.Tie as tie
 
 abbrev Inv-loop : tie.InvT-loop
-Inv-loop rows axes key x y z level from found₀ len₀ i₀ found len i = (i ≤ length rows) × Held 26 found len (map (toward axes key) (filter (onBox axes key) (range 0 i)))
+Inv-loop rows axes key level from found₀ len₀ i₀ found len i = (i ≤ length rows) × Held 26 found len (map (toward axes key) (filter (onBox axes key) (range 0 i)))
 
 abbrev μ-loop : tie.MeasureT-loop
-μ-loop rows axes key x y z level from found₀ len₀ i₀ found len i = length rows - i
-
-encode-table-requires : tie.Need-encode-table-requires Inv-loop μ-loop
-encode-table-requires c κs = (c .pre .0 .some, c .pre .0 .most)
-
-encode-table-requires-2 : tie.Need-encode-table-requires-2 Inv-loop μ-loop
-encode-table-requires-2 c κs = (c .before .pre .0 .some, c .before .pre .0 .most)
-
-encode-table-requires-3 : tie.Need-encode-table-requires-3 Inv-loop μ-loop
-encode-table-requires-3 c κs = (c .before .before .pre .0 .some, c .before .before .pre .0 .most)
+μ-loop rows axes key level from found₀ len₀ i₀ found len i = length rows - i
 
 level-of-requires : tie.Need-level-of-requires Inv-loop μ-loop
 level-of-requires c κs = search needs
 
 anchors-of-requires : tie.Need-anchors-of-requires Inv-loop μ-loop
-anchors-of-requires c κs = c .before .before .before .before .pre .0
+anchors-of-requires c κs = c .before .pre .0
 
 loop-holds : tie.Need-loop-holds Inv-loop μ-loop
 loop-holds c = (search needs, along-start _ _)
@@ -45,28 +36,27 @@ shared-slice-copy-out-row : tie.Need-shared-slice-copy-out-row Inv-loop μ-loop
 shared-slice-copy-out-row c = search needs
 
 stays-requires : tie.Need-stays-requires Inv-loop μ-loop
-stays-requires c κs = let s = c .before .before .before .before .before .before .before .before in (s .pre .0 .most, omega (arith, c .before .before .before .before .level-of .ensures, s .pre .0 .level), from-small (s .args .axes) (s .args .key) (c .before .before .before .before .level-of .result) (s .pre .0) (c .before .before .before .before .level-of .ensures) _ (c .before .before .before .anchors-of .ensures) (c .before .before .loop .i) _ (ap (λ (rs : List (List ℤ)). getD rs (c .before .before .loop .i) []) (s .pre .1)))
+stays-requires c κs = let s = c .before .before .before .before .before in (s .pre .0 .most, omega (arith, c .before .before .before .before .level-of .ensures, s .pre .0 .level), from-small (s .args .axes) (s .args .key) (c .before .before .before .before .level-of .result) (s .pre .0) (c .before .before .before .before .level-of .ensures) _ (c .before .before .before .anchors-of .ensures) (c .before .before .loop .i) _ (ap (λ (rs : List (List ℤ)). getD rs (c .before .before .loop .i) []) (s .pre .1)))
 
 moved-requires : tie.Need-moved-requires Inv-loop μ-loop
-moved-requires c κs = let s = c .before .before .before .before .before .before .before .before .before .before in (s .pre .0 .most, from-small (s .args .axes) (s .args .key) (c .before .before .before .before .before .before .level-of .result) (s .pre .0) (c .before .before .before .before .before .before .level-of .ensures) _ (c .before .before .before .before .before .anchors-of .ensures) (c .before .before .before .before .loop .i) _ (ap (λ (rs : List (List ℤ)). getD rs (c .before .before .before .before .loop .i) []) (s .pre .1)), sym (c .before .stays .ensures) ∙ c .if1 .taken)
+moved-requires c κs = let s = c .before .before .before .before .before .before .before in (s .pre .0 .most, from-small (s .args .axes) (s .args .key) (c .before .before .before .before .before .before .level-of .result) (s .pre .0) (c .before .before .before .before .before .before .level-of .ensures) _ (c .before .before .before .before .before .anchors-of .ensures) (c .before .before .before .before .loop .i) _ (ap (λ (rs : List (List ℤ)). getD rs (c .before .before .before .before .loop .i) []) (s .pre .1)), sym (c .before .stays .ensures) ∙ c .if1 .taken)
 
-key-with-requires : tie.Need-key-with-requires Inv-loop μ-loop
-key-with-requires c κs = let s = c .before .before .before .before .before .before .before .before .before .before .before .before .before .before in (
+key-at-requires : tie.Need-key-at-requires Inv-loop μ-loop
+key-at-requires c κs = let s = c .before .before .before .before .before .before .before .before in (
   s .pre .0 .some,
   s .pre .0 .most,
-  record { first = c .before .before .before .before .before .before .before .before .before .before .before .before .before .encode-table .ensures; second = c .before .before .before .before .before .before .before .before .before .before .before .before .encode-table2 .ensures; third = c .before .before .before .before .before .before .before .before .before .before .before .encode-table3 .ensures },
-  omega (arith, c .before .before .before .before .before .before .before .before .before .before .level-of .ensures, s .pre .0 .level),
-  subst (λ xs. onLevel (s .args .axes) (c .before .before .before .before .before .before .before .before .before .before .level-of .result) xs ≡ true) (sym (c .before .before .before .moved .ensures)) (moved-on (s .args .axes) (s .args .key) (c .before .before .before .before .before .before .before .before .before .before .level-of .result) (s .pre .0) (c .before .before .before .before .before .before .before .before .before .before .level-of .ensures) _ (c .before .before .before .before .before .before .before .before .before .anchors-of .ensures) (c .before .before .before .before .before .before .before .before .loop .i) _ (ap (λ (rs : List (List ℤ)). getD rs (c .before .before .before .before .before .before .before .before .loop .i) []) (s .pre .1)) (sym (c .before .before .before .before .before .stays .ensures) ∙ c .before .before .before .before .if1 .taken)),
+  omega (arith, c .before .before .before .before .before .before .before .level-of .ensures, s .pre .0 .level),
+  subst (λ xs. onLevel (s .args .axes) (c .before .before .before .before .before .before .before .level-of .result) xs ≡ true) (sym (c .moved .ensures)) (moved-on (s .args .axes) (s .args .key) (c .before .before .before .before .before .before .before .level-of .result) (s .pre .0) (c .before .before .before .before .before .before .before .level-of .ensures) _ (c .before .before .before .before .before .before .anchors-of .ensures) (c .before .before .before .before .before .loop .i) _ (ap (λ (rs : List (List ℤ)). getD rs (c .before .before .before .before .before .loop .i) []) (s .pre .1)) (sym (c .before .before .stays .ensures) ∙ c .before .if1 .taken)),
 )
 
 mul-found : tie.Need-mul-found Inv-loop μ-loop
-mul-found c = let s = c .before .before .before .before .before .before .before .before .before .before .before .before .before .before .before in omega (arith, along-room (s .args .axes) (s .args .key) (c .before .before .before .before .before .before .before .before .before .loop .i) _ _ (omega (arith, ap length (s .pre .1))) (c .before .before .before .before .before .before .before .before .before .loop .inv .1))
+mul-found c = let s = c .before .before .before .before .before .before .before .before .before in omega (arith, along-room (s .args .axes) (s .args .key) (c .before .before .before .before .before .before .loop .i) _ _ (omega (arith, ap length (s .pre .1))) (c .before .before .before .before .before .before .loop .inv .1))
 
 array-write-found : tie.Need-array-write-found Inv-loop μ-loop
-array-write-found c = let s = c .before .before .before .before .before .before .before .before .before .before .before .before .before .before .before in omega (arith, along-room (s .args .axes) (s .args .key) (c .before .before .before .before .before .before .before .before .before .loop .i) _ _ (omega (arith, ap length (s .pre .1))) (c .before .before .before .before .before .before .before .before .before .loop .inv .1))
+array-write-found c = let s = c .before .before .before .before .before .before .before .before .before in omega (arith, along-room (s .args .axes) (s .args .key) (c .before .before .before .before .before .before .loop .i) _ _ (omega (arith, ap length (s .pre .1))) (c .before .before .before .before .before .before .loop .inv .1))
 
 add-len : tie.Need-add-len Inv-loop μ-loop
-add-len c = let s = c .before .before .before .before .before .before .before .before .before .before .before .before .before .before .before in omega (arith, along-room (s .args .axes) (s .args .key) (c .before .before .before .before .before .before .before .before .before .loop .i) _ _ (omega (arith, ap length (s .pre .1))) (c .before .before .before .before .before .before .before .before .before .loop .inv .1))
+add-len c = let s = c .before .before .before .before .before .before .before .before .before in omega (arith, along-room (s .args .axes) (s .args .key) (c .before .before .before .before .before .before .loop .i) _ _ (omega (arith, ap length (s .pre .1))) (c .before .before .before .before .before .before .loop .inv .1))
 
 add-i : tie.Need-add-i Inv-loop μ-loop
 add-i c = search needs
@@ -75,7 +65,7 @@ loop-less : tie.Need-loop-less Inv-loop μ-loop
 loop-less c = search needs
 
 loop-again : tie.Need-loop-again Inv-loop μ-loop
-loop-again c = let s = c .before .before .before .before .before .before .before .before .before .before .before .before .before .before .before in (omega arith, along-in (s .args .axes) (s .args .key) (c .before .before .before .before .before .before .before .before .before .loop .i) _ _ _ (sym (stays-is (s .args .axes) (s .args .key) (c .before .before .before .before .before .before .before .before .before .before .before .level-of .result) (s .pre .0) (c .before .before .before .before .before .before .before .before .before .before .before .level-of .ensures) _ (c .before .before .before .before .before .before .before .before .before .before .anchors-of .ensures) (c .before .before .before .before .before .before .before .before .before .loop .i) _ (ap (λ (rs : List (List ℤ)). getD rs (c .before .before .before .before .before .before .before .before .before .loop .i) []) (s .pre .1))) ∙ sym (c .before .before .before .before .before .before .stays .ensures) ∙ c .before .before .before .before .before .if1 .taken) (omega (arith, ap length (s .pre .1))) (c .before .before .before .before .before .before .before .before .before .loop .inv .1) (c .key-with .ensures ∙ ap (keyAt (s .args .axes) (c .before .before .before .before .before .before .before .before .before .before .before .level-of .result)) (c .before .before .before .before .moved .ensures) ∙ key-is (s .args .axes) (s .args .key) (c .before .before .before .before .before .before .before .before .before .before .before .level-of .result) (s .pre .0) (c .before .before .before .before .before .before .before .before .before .before .before .level-of .ensures) _ (c .before .before .before .before .before .before .before .before .before .before .anchors-of .ensures) (c .before .before .before .before .before .before .before .before .before .loop .i) _ (ap (λ (rs : List (List ℤ)). getD rs (c .before .before .before .before .before .before .before .before .before .loop .i) []) (s .pre .1))))
+loop-again c = let s = c .before .before .before .before .before .before .before .before .before in (omega arith, along-in (s .args .axes) (s .args .key) (c .before .before .before .before .before .before .loop .i) _ _ _ (sym (stays-is (s .args .axes) (s .args .key) (c .before .before .before .before .before .before .before .before .level-of .result) (s .pre .0) (c .before .before .before .before .before .before .before .before .level-of .ensures) _ (c .before .before .before .before .before .before .before .anchors-of .ensures) (c .before .before .before .before .before .before .loop .i) _ (ap (λ (rs : List (List ℤ)). getD rs (c .before .before .before .before .before .before .loop .i) []) (s .pre .1))) ∙ sym (c .before .before .before .stays .ensures) ∙ c .before .before .if1 .taken) (omega (arith, ap length (s .pre .1))) (c .before .before .before .before .before .before .loop .inv .1) (c .key-at .ensures ∙ ap (keyAt (s .args .axes) (c .before .before .before .before .before .before .before .before .level-of .result)) (c .before .moved .ensures) ∙ key-is (s .args .axes) (s .args .key) (c .before .before .before .before .before .before .before .before .level-of .result) (s .pre .0) (c .before .before .before .before .before .before .before .before .level-of .ensures) _ (c .before .before .before .before .before .before .before .anchors-of .ensures) (c .before .before .before .before .before .before .loop .i) _ (ap (λ (rs : List (List ℤ)). getD rs (c .before .before .before .before .before .before .loop .i) []) (s .pre .1))))
 
 add-i-2 : tie.Need-add-i-2 Inv-loop μ-loop
 add-i-2 c = search needs
@@ -84,11 +74,11 @@ loop-less-2 : tie.Need-loop-less-2 Inv-loop μ-loop
 loop-less-2 c = search needs
 
 loop-again-2 : tie.Need-loop-again-2 Inv-loop μ-loop
-loop-again-2 c = let s = c .before .before .before .before .before .before .before .before .before .before in (omega arith, along-out (s .args .axes) (s .args .key) (c .before .before .before .before .loop .i) _ _ (sym (stays-is (s .args .axes) (s .args .key) (c .before .before .before .before .before .before .level-of .result) (s .pre .0) (c .before .before .before .before .before .before .level-of .ensures) _ (c .before .before .before .before .before .anchors-of .ensures) (c .before .before .before .before .loop .i) _ (ap (λ (rs : List (List ℤ)). getD rs (c .before .before .before .before .loop .i) []) (s .pre .1))) ∙ sym (c .before .stays .ensures) ∙ c .if1 .left) (c .before .before .before .before .loop .inv .1))
+loop-again-2 c = let s = c .before .before .before .before .before .before .before in (omega arith, along-out (s .args .axes) (s .args .key) (c .before .before .before .before .loop .i) _ _ (sym (stays-is (s .args .axes) (s .args .key) (c .before .before .before .before .before .before .level-of .result) (s .pre .0) (c .before .before .before .before .before .before .level-of .ensures) _ (c .before .before .before .before .before .anchors-of .ensures) (c .before .before .before .before .loop .i) _ (ap (λ (rs : List (List ℤ)). getD rs (c .before .before .before .before .loop .i) []) (s .pre .1))) ∙ sym (c .before .stays .ensures) ∙ c .if1 .left) (c .before .before .before .before .loop .inv .1))
 
 returns : tie.Need-returns Inv-loop μ-loop
-returns c = let s = c .before .before .before .before .before .before .before in held-listed _ _ _ _ (c .before .loop .inv .1) (ap (λ (n : ℕ). map (toward (s .args .axes) (s .args .key)) (filter (onBox (s .args .axes) (s .args .key)) (range 0 n))) (omega (arith, ap length (s .pre .1))))
+returns c = let s = c .before .before .before .before in held-listed _ _ _ _ (c .before .loop .inv .1) (ap (λ (n : ℕ). map (toward (s .args .axes) (s .args .key)) (filter (onBox (s .args .axes) (s .args .key)) (range 0 n))) (omega (arith, ap length (s .pre .1))))
 
 pub list-along-spec : {M : Type 1} → statement M
 list-along-spec =
-    tie.close (tie.spec Inv-loop μ-loop encode-table-requires encode-table-requires-2 encode-table-requires-3 level-of-requires anchors-of-requires loop-holds mul-row shared-slice-copy-out-row stays-requires moved-requires key-with-requires mul-found array-write-found add-len add-i loop-less loop-again add-i-2 loop-less-2 loop-again-2 returns)
+    tie.close (tie.spec Inv-loop μ-loop level-of-requires anchors-of-requires loop-holds mul-row shared-slice-copy-out-row stays-requires moved-requires key-at-requires mul-found array-write-found add-len add-i loop-less loop-again add-i-2 loop-less-2 loop-again-2 returns)
