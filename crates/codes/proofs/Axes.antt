@@ -35,8 +35,8 @@ spread-lt : (d n x : ℕ) → 1 ≤ d → spread d n x < 2 ^ (d * n)
 spread-lt d n x h = omega (arith, singles d n x, mul-one (runs d 1 n x), moved-lt d 1 0 n x (omega arith))
 
 -- below 2 ^ 48, so that no sum of three wraps
-pub part-lt : (d x : ℕ) → 1 ≤ d → d ≤ 3 → spread d 16 x < 281474976710656
-part-lt d x l h = lt-of-lt-of-le (spread-lt d 16 x l) (pow-mono {i = d * 16} {j = 48} (omega arith))
+pub part-lt : (d x r : ℕ) → 1 ≤ d → d ≤ 3 → r ≡ spread d 16 x → r < 281474976710656
+part-lt d x r l h e = rw e (lt-of-lt-of-le (spread-lt d 16 x l) (pow-mono {i = d * 16} {j = 48} (omega arith)))
 
 encode-one : (xs : List ℕ) → encode 1 1 16 xs ≡ 0 + 1 * spread 1 16 (getD xs 0 0)
 unfolding encode
@@ -54,12 +54,12 @@ pub code-one : (axes : ℕ) (xs : List ℕ) → axes ≡ 1 → getD xs 0 0 < 655
 code-one axes xs e h = rw e (omega (arith, encode-one xs, spread-one (getD xs 0 0) h))
 
 pub code-two : (axes : ℕ) (xs : List ℕ) (p q : ℕ) → axes ≡ 2 → p ≡ spread 2 16 (getD xs 0 0) → q ≡ spread 2 16 (getD xs 1 0) → p + q * 2 % 2 ^ 64 ≡ encode axes axes 16 xs
-code-two axes xs p q e ep eq = rw e (omega (arith, encode-two xs, part-lt 2 (getD xs 1 0) (omega arith) (omega arith)))
+code-two axes xs p q e ep eq = rw e (omega (arith, encode-two xs, part-lt 2 (getD xs 1 0) q (omega arith) (omega arith) eq))
 
 pub code-three : (axes : ℕ) (xs : List ℕ) (p q r : ℕ) → axes ≡ 3 → p ≡ spread 3 16 (getD xs 0 0) → q ≡ spread 3 16 (getD xs 1 0) → r ≡ spread 3 16 (getD xs 2 0)
     → p + q * 2 % 2 ^ 64 + r * 4 % 2 ^ 64 ≡ encode axes axes 16 xs
 code-three axes xs p q r e ep eq er =
-    rw e (omega (arith, encode-three xs, part-lt 3 (getD xs 1 0) (omega arith) (omega arith), part-lt 3 (getD xs 2 0) (omega arith) (omega arith)))
+    rw e (omega (arith, encode-three xs, part-lt 3 (getD xs 1 0) q (omega arith) (omega arith) eq, part-lt 3 (getD xs 2 0) r (omega arith) (omega arith) er))
 
 -- ---- the anchors of a code, and 0 past the axes
 

@@ -6,6 +6,24 @@ ghost use Rattle.codes.specs.Codes.{spread, anchor, encode, anchorsOf};
 ghost use Rattle.codes.specs.Runs.{Apart, Together};
 ghost use Rattle.codes.specs.Anchors.{Bytes2};
 
+// Runs of 8, 4, 2 and 1 bits of an anchor in a code of 2 axes: each as far from the next as 2 runs are wide.
+const EIGHTS_2: u64 = 0x00ff_00ff;
+
+const FOURS_2: u64 = 0x0f0f_0f0f;
+
+const TWOS_2: u64 = 0x3333_3333;
+
+const ONES_2: u64 = 0x5555_5555;
+
+// The same of 3 axes.
+const EIGHTS_3: u64 = 0x0000_ff00_00ff;
+
+const FOURS_3: u64 = 0x00f0_0f00_f00f;
+
+const TWOS_3: u64 = 0x0c30_c30c_30c3;
+
+const ONES_3: u64 = 0x2492_4924_9249;
+
 // One step apart: the high half of each run moves up by the shift, and the mask keeps the halves.
 fn apart(runs: u64, shift: usize, mask: u64) -> u64
     requires { ⌜ shift < 64 ⌝ }
@@ -27,10 +45,10 @@ fn spread_2(x: u64) -> u64
     requires { ⌜ x < 65536 ⌝ }
     ensures { λ r. ⌜ r ≡ spread 2 16 x ⌝ }
 {
-    let eights = apart(x, 8, 0xff_00ff);
-    let fours = apart(eights, 4, 0xf0f_0f0f);
-    let twos = apart(fours, 2, 0x3333_3333);
-    apart(twos, 1, 0x5555_5555)
+    let eights = apart(x, 8, EIGHTS_2);
+    let fours = apart(eights, 4, FOURS_2);
+    let twos = apart(fours, 2, TWOS_2);
+    apart(twos, 1, ONES_2)
 }
 
 // An anchor's bits three places apart.
@@ -38,19 +56,19 @@ fn spread_3(x: u64) -> u64
     requires { ⌜ x < 65536 ⌝ }
     ensures { λ r. ⌜ r ≡ spread 3 16 x ⌝ }
 {
-    let eights = apart(x, 16, 0xff00_00ff);
-    let fours = apart(eights, 8, 0xf0_0f00_f00f);
-    let twos = apart(fours, 4, 0xc30_c30c_30c3);
-    apart(twos, 2, 0x2492_4924_9249)
+    let eights = apart(x, 16, EIGHTS_3);
+    let fours = apart(eights, 8, FOURS_3);
+    let twos = apart(fours, 4, TWOS_3);
+    apart(twos, 2, ONES_3)
 }
 
 // Every second bit of a code, from bit 0 on.
 fn gather_2(code: u64) -> u64
     ensures { λ r. ⌜ r ≡ anchor 2 0 16 code ⌝ }
 {
-    let twos = together(code & 0x5555_5555, 1, 0x3333_3333);
-    let fours = together(twos, 2, 0xf0f_0f0f);
-    let eights = together(fours, 4, 0xff_00ff);
+    let twos = together(code & ONES_2, 1, TWOS_2);
+    let fours = together(twos, 2, FOURS_2);
+    let eights = together(fours, 4, EIGHTS_2);
     together(eights, 8, 0xffff)
 }
 
@@ -58,9 +76,9 @@ fn gather_2(code: u64) -> u64
 fn gather_3(code: u64) -> u64
     ensures { λ r. ⌜ r ≡ anchor 3 0 16 code ⌝ }
 {
-    let twos = together(code & 0x2492_4924_9249, 2, 0xc30_c30c_30c3);
-    let fours = together(twos, 4, 0xf0_0f00_f00f);
-    let eights = together(fours, 8, 0xff00_00ff);
+    let twos = together(code & ONES_3, 2, TWOS_3);
+    let fours = together(twos, 4, FOURS_3);
+    let eights = together(fours, 8, EIGHTS_3);
     together(eights, 16, 0xffff)
 }
 

@@ -1,6 +1,5 @@
 -- By the number of axes: the anchor itself, or the axes' spread anchors, axis a's a bits up.
 use native.Mathlib.Omega.{arith}
-use lib.ListN.{getD}
 use borrow.Author.Needs.{needs}
 use Rattle.codes.proofs.Axes.{part-lt, code-one, code-two, code-three}
 use Rattle.codes.proofs.encode.Statement.{statement}
@@ -22,9 +21,7 @@ spread-2-requires-2 : tie.Need-spread-2-requires-2
 spread-2-requires-2 c κs = search needs
 
 add-result : tie.Need-add-result
-add-result c =
-    let xs = c .before .before .before .args .t2 in
-    omega (arith, c .before .spread-2 .ensures, c .spread-22 .ensures, part-lt 2 (getD xs 0 0) (omega arith) (omega arith), part-lt 2 (getD xs 1 0) (omega arith) (omega arith))
+add-result c = omega (arith, part-lt 2 _ _ (omega arith) (omega arith) (c .before .spread-2 .ensures), part-lt 2 _ _ (omega arith) (omega arith) (c .spread-22 .ensures))
 
 array-read-spread-3 : tie.Need-array-read-spread-3
 array-read-spread-3 c = search needs
@@ -39,9 +36,7 @@ spread-3-requires-2 : tie.Need-spread-3-requires-2
 spread-3-requires-2 c κs = search needs
 
 add-result-2 : tie.Need-add-result-2
-add-result-2 c =
-    let xs = c .before .before .before .args .t2 in
-    omega (arith, c .before .spread-3 .ensures, c .spread-32 .ensures, part-lt 3 (getD xs 0 0) (omega arith) (omega arith), part-lt 3 (getD xs 1 0) (omega arith) (omega arith))
+add-result-2 c = omega (arith, part-lt 3 _ _ (omega arith) (omega arith) (c .before .spread-3 .ensures), part-lt 3 _ _ (omega arith) (omega arith) (c .spread-32 .ensures))
 
 array-read-spread-3-3 : tie.Need-array-read-spread-3-3
 array-read-spread-3-3 c = search needs
@@ -50,9 +45,7 @@ spread-3-requires-3 : tie.Need-spread-3-requires-3
 spread-3-requires-3 c κs = search needs
 
 add-result-3 : tie.Need-add-result-3
-add-result-3 c =
-    let xs = c .before .before .before .before .args .t2 in
-    omega (arith, c .before .before .spread-3 .ensures, c .before .spread-32 .ensures, c .spread-33 .ensures, part-lt 3 (getD xs 0 0) (omega arith) (omega arith), part-lt 3 (getD xs 1 0) (omega arith) (omega arith), part-lt 3 (getD xs 2 0) (omega arith) (omega arith))
+add-result-3 c = omega (arith, part-lt 3 _ _ (omega arith) (omega arith) (c .before .before .spread-3 .ensures), part-lt 3 _ _ (omega arith) (omega arith) (c .before .spread-32 .ensures), part-lt 3 _ _ (omega arith) (omega arith) (c .spread-33 .ensures))
 
 returns : tie.Need-returns
 returns c = let s = c .before in code-one (s .args .axes) (s .args .t2) (omega arith) (s .pre .2 .first)
