@@ -5,7 +5,7 @@ mod shapes;
 
 use faer::MatRef;
 use ferreus_bbfmm::bbfmm::{Dimensions, TreeLists};
-use ferreus_bbfmm::linear_tree;
+use ferreus_bbfmm::{linear_tree, morton};
 use lohandema::lent;
 use lohandema::points::Bounds;
 use lohandema::trees::{Lists, Rows, Tree};
@@ -302,6 +302,47 @@ impl Survey {
     }
 }
 
+/// The keys of all points at level 16, one after the other by the Rust.
+fn rust_keys(b: &Bounds, points: &[f64]) -> Vec<u64> {
+    let side = morton::get_side_length(b.radius, 16);
+    let displacement: Vec<f64> = b.centre.iter().map(|c| c - b.radius).collect();
+    let rows = matrix(points);
+    let key = |i| {
+        let anchor = morton::point_to_anchor(rows.row(i), 16, &displacement, side);
+        morton::encode_morton_point(anchor, &Dimensions::Three)
+    };
+    (0..POINTS).map(key).collect()
+}
+
+/// The coding of all points beside the Rust's: identical keys, then times. `each` calls `point_to_key` for one point after
+/// the other; `coding` is a lookup in a tree of the root alone, which takes the points in one call and leaves the codes to do.
+fn coding(shape: &str, runs: usize) {
+    let (b, points) = (shapes::bounds(), shapes::points(shape, POINTS));
+    let mut keys = vec![0; POINTS];
+    let mut each = || {
+        for (point, key) in points.chunks(3).zip(&mut keys) {
+            *key = b.point_to_key(point, 16).expect("inside");
+        }
+    };
+    let each_time = least(runs, &mut each);
+    assert!(keys == rust_keys(&b, &points));
+    let (key, own, begin) = (vec![0], vec![POINTS], vec![0]);
+    let root = Tree {
+        axes: 3,
+        key,
+        own,
+        begin,
+        order: vec![],
+    };
+    let ours = least(runs, || {
+        lent::points_to_keys(&b, root.columns(), &points, &mut keys)
+    });
+    assert!(keys.iter().all(|key| *key == 0));
+    let rust = least(runs, || rust_keys(&b, &points));
+    ratio("coding", "rust", shape, false, ours, rust);
+    ratio("coding-each", "rust", shape, false, each_time, rust);
+}
+
 /// Build and lists together, in milliseconds, for so many uniform points.
 fn build_and_lists(count: usize, runs: usize) -> f64 {
     let b = shapes::bounds();
@@ -331,9 +372,8 @@ fn growth(runs: usize) {
     println!("ratio growth rust uniform off {:.3}", many / few);
 }
 
-fn main() {
-    let short = std::env::args().any(|word| word == "--short");
-    let runs = if short { 3 } else { 15 };
+/// The calls on a tree, for each shape.
+fn surveys(runs: usize) {
     for shape in shapes::SHAPES {
         for keep in [false, true] {
             let survey = Survey::new(shape, keep);
@@ -346,6 +386,19 @@ fn main() {
             if wanted("lists") {
                 survey.lists(runs);
             }
+        }
+    }
+}
+
+fn main() {
+    let short = std::env::args().any(|word| word == "--short");
+    let runs = if short { 3 } else { 15 };
+    if ["build", "lookup", "lists"].into_iter().any(wanted) {
+        surveys(runs);
+    }
+    if wanted("coding") {
+        for shape in shapes::SHAPES {
+            coding(shape, runs);
         }
     }
     if wanted("growth") {

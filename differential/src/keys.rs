@@ -225,9 +225,12 @@ fn compare_decode(t: &mut Tally, axes: usize, code: u64) {
     let theirs = morton::decode_key(key, &dimensions(axes));
     let mut anchor = [0; 3];
     anchor[..axes].copy_from_slice(&theirs[..axes]);
-    t.same("decode", keys::decode_key(axes, key), Ok((anchor, 16)), || {
-        format!("axes {axes} code {code}")
-    });
+    t.same(
+        "decode",
+        keys::decode_key(axes, key),
+        Ok((anchor, 16)),
+        || format!("axes {axes} code {code}"),
+    );
 }
 
 /// The Rust's decode tables: each entry at each place of a code where it is read, every other bit of the code 0, and 1.
@@ -238,7 +241,7 @@ fn decode_tables(t: &mut Tally, axes: usize) {
         let read = (((1u64 << width) - 1) << place) & all;
         for entry in 0..=read >> place {
             for rest in [0, all & !read] {
-                compare_decode(t, axes, rest | entry << place);
+                compare_decode(t, axes, rest | (entry << place));
             }
         }
     }
