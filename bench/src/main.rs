@@ -314,33 +314,45 @@ fn rust_keys(b: &Bounds, points: &[f64]) -> Vec<u64> {
     (0..POINTS).map(key).collect()
 }
 
-/// The coding of all points beside the Rust's: identical keys, then times. `each` calls `point_to_key` for one point after
-/// the other; `coding` is a lookup in a tree of the root alone, which takes the points in one call and leaves the codes to do.
+/// The root and its eight children: a lookup in this tree leaves little to do but each point's code.
+fn smallest_tree() -> Tree {
+    let children = (0..8).map(|code| code * 32768 + 1);
+    let begins = (0..8).map(|code| code * (POINTS / 8));
+    let mut own = vec![POINTS / 8; 9];
+    own[0] = 0;
+    Tree {
+        axes: 3,
+        key: [0].into_iter().chain(children).collect(),
+        own,
+        begin: [0].into_iter().chain(begins).collect(),
+        order: vec![],
+    }
+}
+
+/// The coding of all points beside the Rust's: identical keys, then times. `coding` takes the points in one call, a lookup in
+/// the smallest tree; `coding-each` calls `point_to_key` for one point after the other.
 fn coding(shape: &str, runs: usize) {
     let (b, points) = (shapes::bounds(), shapes::points(shape, POINTS));
+    let tree = smallest_tree();
+    let theirs = rust_keys(&b, &points);
     let mut keys = vec![0; POINTS];
-    let mut each = || {
+    let ours = least(runs, || {
+        lent::points_to_keys(&b, tree.columns(), &points, &mut keys).expect("a leaf for each")
+    });
+    assert!(
+        keys.iter()
+            .zip(&theirs)
+            .all(|(ours, key)| *ours == (key >> 60) * 32768 + 1)
+    );
+    let each = least(runs, || {
         for (point, key) in points.chunks(3).zip(&mut keys) {
             *key = b.point_to_key(point, 16).expect("inside");
         }
-    };
-    let each_time = least(runs, &mut each);
-    assert!(keys == rust_keys(&b, &points));
-    let (key, own, begin) = (vec![0], vec![POINTS], vec![0]);
-    let root = Tree {
-        axes: 3,
-        key,
-        own,
-        begin,
-        order: vec![],
-    };
-    let ours = least(runs, || {
-        lent::points_to_keys(&b, root.columns(), &points, &mut keys)
     });
-    assert!(keys.iter().all(|key| *key == 0));
+    assert!(keys == theirs);
     let rust = least(runs, || rust_keys(&b, &points));
     ratio("coding", "rust", shape, false, ours, rust);
-    ratio("coding-each", "rust", shape, false, each_time, rust);
+    ratio("coding-each", "rust", shape, false, each, rust);
 }
 
 /// Build and lists together, in milliseconds, for so many uniform points.
