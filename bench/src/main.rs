@@ -7,7 +7,7 @@ mod shapes;
 use clock::least;
 use faer::MatRef;
 use ferreus_bbfmm::bbfmm::{Dimensions, TreeLists};
-use ferreus_bbfmm::linear_tree;
+use ferreus_bbfmm::{linear_tree, morton};
 use lohandema::lent::{self, Asked};
 use lohandema::points::Bounds;
 use lohandema::trees::{Lists, Rows, Tree};
@@ -252,6 +252,59 @@ impl Survey {
     }
 }
 
+/// The keys of all points at level 16, one after the other by the Rust.
+fn rust_keys(b: &Bounds, points: &[f64]) -> Vec<u64> {
+    let side = morton::get_side_length(b.radius, 16);
+    let displacement: Vec<f64> = b.centre.iter().map(|c| c - b.radius).collect();
+    let rows = matrix(points);
+    let key = |i| {
+        let anchor = morton::point_to_anchor(rows.row(i), 16, &displacement, side);
+        morton::encode_morton_point(anchor, &Dimensions::Three)
+    };
+    (0..POINTS).map(key).collect()
+}
+
+/// The root and its eight children: a lookup in this tree leaves little to do but each point's code.
+fn smallest_tree() -> Tree {
+    let children = (0..8).map(|code| code * 32768 + 1);
+    let begins = (0..8).map(|code| code * (POINTS / 8));
+    let mut own = vec![POINTS / 8; 9];
+    own[0] = 0;
+    Tree {
+        axes: 3,
+        key: [0].into_iter().chain(children).collect(),
+        own,
+        begin: [0].into_iter().chain(begins).collect(),
+        order: vec![],
+    }
+}
+
+/// The coding of all points beside the Rust's: identical keys, then times. `coding` takes the points in one call, a lookup in
+/// the smallest tree; `coding-each` calls `point_to_key` for one point after the other.
+fn coding(shape: &str, runs: usize) {
+    let (b, points) = (shapes::bounds(), shapes::points(shape, POINTS));
+    let tree = smallest_tree();
+    let theirs = rust_keys(&b, &points);
+    let mut keys = vec![0; POINTS];
+    let ours = least(runs, || {
+        lent::points_to_keys(&b, tree.columns(), &points, &mut keys).expect("a leaf for each")
+    });
+    assert!(
+        keys.iter()
+            .zip(&theirs)
+            .all(|(ours, key)| *ours == (key >> 60) * 32768 + 1)
+    );
+    let each = least(runs, || {
+        for (point, key) in points.chunks(3).zip(&mut keys) {
+            *key = b.point_to_key(point, 16).expect("inside");
+        }
+    });
+    assert!(keys == theirs);
+    let rust = least(runs, || rust_keys(&b, &points));
+    ratio("coding", "rust", shape, false, ours, rust);
+    ratio("coding-each", "rust", shape, false, each, rust);
+}
+
 /// Build and lists together, in milliseconds, for so many uniform points.
 fn build_and_lists(count: usize, runs: usize) -> f64 {
     let b = shapes::bounds();
@@ -281,9 +334,8 @@ fn growth(runs: usize) {
     println!("ratio growth rust uniform off {:.3}", many / few);
 }
 
-fn main() {
-    let short = std::env::args().any(|word| word == "--short");
-    let runs = if short { 3 } else { 15 };
+/// The calls on a tree, for each shape.
+fn surveys(runs: usize) {
     for shape in shapes::SHAPES {
         for keep in [false, true] {
             let survey = Survey::new(shape, keep);
@@ -296,6 +348,19 @@ fn main() {
             if wanted("lists") {
                 survey.lists(runs);
             }
+        }
+    }
+}
+
+fn main() {
+    let short = std::env::args().any(|word| word == "--short");
+    let runs = if short { 3 } else { 15 };
+    if ["build", "lookup", "lists"].into_iter().any(wanted) {
+        surveys(runs);
+    }
+    if wanted("coding") {
+        for shape in shapes::SHAPES {
+            coding(shape, runs);
         }
     }
     if wanted("growth") {

@@ -219,7 +219,35 @@ pub fn any(t: &mut Tally, r: &mut Random, _case: u64) {
     );
 }
 
-/// The encode and decode tables of the Rust, entry by entry, through the two calls.
+/// Our decode and the Rust's, of one code at level 16.
+fn compare_decode(t: &mut Tally, axes: usize, code: u64) {
+    let key = code * 32768 + 16;
+    let theirs = morton::decode_key(key, &dimensions(axes));
+    let mut anchor = [0; 3];
+    anchor[..axes].copy_from_slice(&theirs[..axes]);
+    t.same(
+        "decode",
+        keys::decode_key(axes, key),
+        Ok((anchor, 16)),
+        || format!("axes {axes} code {code}"),
+    );
+}
+
+/// The Rust's decode tables: each entry at each place of a code where it is read, every other bit of the code 0, and 1.
+fn decode_tables(t: &mut Tally, axes: usize) {
+    let width = if axes == 3 { 9 } else { 8 };
+    let all = (1u64 << (16 * axes)) - 1;
+    for place in (0..16 * axes).step_by(width) {
+        let read = (((1u64 << width) - 1) << place) & all;
+        for entry in 0..=read >> place {
+            for rest in [0, all & !read] {
+                compare_decode(t, axes, rest | (entry << place));
+            }
+        }
+    }
+}
+
+/// The Rust's tables, through the two calls: each anchor of each axis encoded and decoded, and each decode entry.
 pub fn tables(t: &mut Tally, _r: &mut Random, _case: u64) {
     for axes in 1..=3 {
         for axis in 0..axes {
@@ -233,13 +261,9 @@ pub fn tables(t: &mut Tally, _r: &mut Random, _case: u64) {
                 t.same("encode", ours, Ok(theirs), || {
                     format!("axes {axes} {anchor:?}")
                 });
-                t.same(
-                    "decode",
-                    keys::decode_key(axes, theirs),
-                    Ok((anchor, 16)),
-                    || format!("axes {axes} code {}", code(theirs)),
-                );
+                compare_decode(t, axes, code(theirs));
             }
         }
+        decode_tables(t, axes);
     }
 }

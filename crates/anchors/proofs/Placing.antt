@@ -15,7 +15,7 @@ use Rattle.slices.specs.Lists.{range, filled}
 use Rattle.slices.specs.Every.{every}
 use Rattle.slices.proofs.Lists.{getD-filled, length-filled}
 use Rattle.slices.proofs.Every.{every-at, every-fails, every-next, every-none}
-use Rattle.codes.specs.Tables.{Bytes2}
+use Rattle.codes.specs.Anchors.{Bytes2}
 use Rattle.codes.proofs.Codes.{encode-same, encode-ends, encode-lt, anchor-ends, anchor-lt}
 use Rattle.codes.proofs.Entries.{tabled, length-tabled}
 use Rattle.morton.specs.Keys.{levelOf, codeOf, key, ValidKey}

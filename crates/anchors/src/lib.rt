@@ -8,7 +8,6 @@ ghost use mathlib.Core.Bool.{true};
 ghost use Prim.Native.Nat.{_≤_, _<_};
 ghost use lib.ListN.{getD};
 ghost use Rattle.slices.specs.Lists.{filled};
-ghost use Rattle.codes.specs.Tables.{EncodeTables};
 ghost use Rattle.morton.specs.Keys.{levelOf, codeOf, ValidKey};
 ghost use Rattle.morton.specs.Anchors.{anchors, keyAt, near, onLevel, onAxes};
 ghost use Rattle.anchors.specs.Answers.{anchorCheck, pairCheck, decodeAnswer, encodeAnswer, touchingAnswer};
@@ -75,20 +74,13 @@ fn on_axes(axes: usize, anchor: [u64; 3]) -> [u64; 3]
     used
 }
 
-// The key of anchors of a level, by the encode tables of 1 to 3 axes.
-pub fn key_with(
-    x: &[u64; 256],
-    y: &[u64; 256],
-    z: &[u64; 256],
-    axes: usize,
-    anchor: [u64; 3],
-    level: u64,
-) -> u64
-    requires { ⌜ (1 ≤ axes) × (axes ≤ 3) × EncodeTables axes (now x) (now y) (now z) × (level ≤ 16) × (onLevel axes level anchor ≡ true) ⌝ }
+// The key of anchors of a level, on 1 to 3 axes.
+pub fn key_at(axes: usize, anchor: [u64; 3], level: u64) -> u64
+    requires { ⌜ (1 ≤ axes) × (axes ≤ 3) × (level ≤ 16) × (onLevel axes level anchor ≡ true) ⌝ }
     ensures { λ r. ⌜ r ≡ keyAt axes level anchor ⌝ }
 {
     let used = on_axes(axes, anchor);
-    codes::encode_with(x, y, z, axes, used) * 32768 + level
+    codes::encode(axes, used) * 32768 + level
 }
 
 // The key of a cell, by its anchors and its level; anchors past the axes are not read.
@@ -98,12 +90,7 @@ pub fn encode_morton_point(axes: usize, anchor: [u64; 3], level: u64) -> NumberA
     let checked = check_anchor(axes, anchor, level);
     match checked {
         Outcome::Refused(refusal) => NumberAnswer::Refused(refusal),
-        Outcome::Done => {
-            let x = codes::tables::encode_table(axes, 0);
-            let y = codes::tables::encode_table(axes, 1);
-            let z = codes::tables::encode_table(axes, 2);
-            NumberAnswer::Number(key_with(&x, &y, &z, axes, anchor, level))
-        }
+        Outcome::Done => NumberAnswer::Number(key_at(axes, anchor, level)),
     }
 }
 

@@ -1,18 +1,15 @@
 -- The code and the anchors of a cell: each is known by the other.
-use mathlib.Core.Path.{_≡_, refl, sym, ap, ap₂, _∙_, subst}
-use mathlib.Core.Bool.{Bool, true, false, _&&_}
-use mathlib.Core.List.{List, [], _∷_, map}
-use Prim.Native.Nat.{ℕ, zero, suc, _+_, _*_, _-_, _/_, _%_, _^_, _≤_, _<_, zero-le}
+use mathlib.Core.Path.{_≡_, refl, sym, ap, ap₂, _∙_}
+use mathlib.Core.List.{List, map}
+use Prim.Native.Nat.{ℕ, zero, suc, _+_, _*_, _/_, _%_, _^_, _≤_, _<_}
 use native.Mathlib.Omega.{arith}
-use native.Mathlib.Nat.{mul-zero, mul-suc, mul-one, one-mul, div-one, zero-add, add-zero, add-assoc, add-comm, mul-add, mul-assoc, mul-comm, zero-div, zero-mod, div-eq-of-lt, mod-eq-of-lt, mod-lt, mod-one, mod-mod, not-suc-le-zero, le-of-suc-le-suc, mul-left-comm, add-mul, suc-mul, mul-le-mul-right}
+use native.Mathlib.Nat.{mul-zero, mul-suc, mul-one, one-mul, div-one, zero-add, add-zero, add-comm, mul-add, mul-assoc, mul-comm, zero-div, mod-one, mod-mod, not-suc-le-zero, le-of-suc-le-suc, add-mul, suc-mul, mul-le-mul-right}
 use native.Mathlib.Decide.{decLt}
 use native.Mathlib.Numerals.{add-one}
-use lib.ListN.{length, getD, List·getD-map}
-use lib.Pow.{pow-add, pow-pos, shr-shr, high, low, mod-pow-add, mod-mod-pow}
-use borrow.Author.Tests.{ltb-true}
-use Rattle.slices.proofs.Tests.{and-l, and-r}
+use lib.ListN.{getD, List·getD-map}
+use lib.Pow.{shr-shr, high, low, mod-pow-add}
 use Rattle.codes.specs.Codes.{anchor, spread, encode}
-use Rattle.codes.proofs.Places.{low-bit, pow-more, split, zeros, ends, cut}
+use Rattle.codes.proofs.Places.{low-bit, pow-more, split, ends}
 
 bit-lt : (x : ℕ) → x % 2 < 2
 bit-lt x = omega arith
@@ -35,10 +32,6 @@ spread-ends d m n x h =
     let h′ : x < 2 ^ (1 * m) = rw (one-mul m) h in
     ends (spread d) (λ y. y % 2) d 1 (spread-none d) (spread-more d) refl m n x h′
 
-pub spread-cut : (d m x : ℕ) → spread d m (x % 2 ^ m) ≡ spread d m x
-spread-cut d m x = ap (λ (n : ℕ). spread d m (x % 2 ^ n)) (sym (one-mul m))
-    ∙ cut (spread d) (λ y. y % 2) d 1 (spread-none d) (spread-more d) (λ j y. mod-mod-pow y j 1) m x
-
 -- ---- the bits of one axis, gathered from a code
 
 module _ (d a : ℕ) where
@@ -50,17 +43,8 @@ module _ (d a : ℕ) where
   unfolding anchor
   anchor-more n c = refl
 
-  pub anchor-split : (m n c : ℕ) → anchor d a (m + n) c ≡ anchor d a m c + 2 ^ m * anchor d a n (c / 2 ^ (d * m))
-  anchor-split m n c = split (anchor d a) (λ y. y / 2 ^ a % 2) 1 d anchor-none anchor-more m n c ∙ rw (one-mul m)
-
   pub anchor-ends : (m n c : ℕ) → c < 2 ^ (d * m) → anchor d a (m + n) c ≡ anchor d a m c
   anchor-ends m n c h = ends (anchor d a) (λ y. y / 2 ^ a % 2) 1 d anchor-none anchor-more (rw (zero-div (2 ^ a))) m n c h
-
-  pub anchor-cut : a < d → (m c : ℕ) → anchor d a m (c % 2 ^ (d * m)) ≡ anchor d a m c
-  anchor-cut h m c = cut (anchor d a) (λ y. y / 2 ^ a % 2) 1 d anchor-none anchor-more local m c
-    where
-      local : (j x : ℕ) → x % 2 ^ (j + d) / 2 ^ a % 2 ≡ x / 2 ^ a % 2
-      local j x = low-bit (j + d) a x (omega arith)
 
   pub anchor-lt : (level c : ℕ) → anchor d a level c < 2 ^ level
   unfolding anchor
@@ -102,14 +86,6 @@ encode-split (suc n) d m k xs his hi =
         let f : q * (b + p * s) ≡ q * b + q * s * p = mul-add q b (p * s) ∙ ap (λ (z : ℕ). q * b + z) (ap (λ (z : ℕ). q * z) (mul-comm p s) ∙ sym (mul-assoc q s p)) in
         let g : (e + q * s) * p ≡ e * p + q * s * p = add-mul e (q * s) p in
         omega arith
-
--- m bits of a code need no more than m bits of the anchors
-pub encode-cut : (n d m : ℕ) (xs los : List ℕ) → ((a : ℕ) → a < n → getD los a 0 ≡ getD xs a 0 % 2 ^ m) → encode n d m los ≡ encode n d m xs
-unfolding encode
-encode-cut zero d m xs los lo = refl
-encode-cut (suc n) d m xs los lo =
-    ap₂ (λ (p q : ℕ). p + 2 ^ n * q) (encode-cut n d m xs los (λ a h. lo a (omega arith)))
-    (ap (spread d m) (lo n (omega arith)) ∙ spread-cut d m (getD xs n 0))
 
 -- the code of the first n axes reads no more than their anchors
 pub encode-same : (n d m : ℕ) (xs ys : List ℕ) → ((a : ℕ) → a < n → getD ys a 0 ≡ getD xs a 0) → encode n d m ys ≡ encode n d m xs

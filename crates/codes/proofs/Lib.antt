@@ -1,4 +1,5 @@
+pub mod Entries
 pub mod Places
 pub mod Codes
-pub mod Entries
-pub mod Bytes
+pub mod Runs
+pub mod Axes

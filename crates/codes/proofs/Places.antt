@@ -1,10 +1,10 @@
 -- Numbers read place by place: a law of every function F that takes the low t bits of a number for its first digit, and u bits higher in what it gives
 -- goes on with the rest. `spread` (t = 1, u = d) and `anchor` (t = d, u = 1) are two of them.
-use mathlib.Core.Path.{_≡_, refl, sym, ap, ap₂, _∙_}
-use Prim.Native.Nat.{ℕ, zero, suc, _+_, _*_, _-_, _/_, _%_, _^_, _≤_, _<_, zero-le}
+use mathlib.Core.Path.{_≡_, sym, ap, ap₂, _∙_}
+use Prim.Native.Nat.{ℕ, zero, suc, _+_, _*_, _-_, _/_, _%_, _^_, _<_}
 use native.Mathlib.Omega.{arith}
-use native.Mathlib.Nat.{mul-zero, mul-suc, mul-one, one-mul, div-one, zero-add, add-zero, suc-add, add-assoc, add-comm, mul-add, mul-assoc, mul-comm, zero-div, div-eq-of-lt, mod-eq-of-lt, mod-lt, not-suc-le-zero, le-of-suc-le-suc}
-use lib.Pow.{pow-add, pow-pos, shr-shr, field, mod-mod-pow}
+use native.Mathlib.Nat.{mul-zero, mul-suc, div-one, zero-add, add-zero, suc-add, add-assoc, add-comm, mul-add, mul-assoc, zero-div, div-eq-of-lt}
+use lib.Pow.{pow-add, shr-shr, field, mod-mod-pow}
 
 -- the bits below bit d tell the bit at a, for an a below d
 pub low-bit : (d a x : ℕ) → a < d → x % 2 ^ d / 2 ^ a % 2 ≡ x / 2 ^ a % 2
@@ -39,20 +39,9 @@ module _ (F : ℕ → ℕ → ℕ) (digit : ℕ → ℕ) (u t : ℕ)
 
   -- a number that ends below place m has nothing from there on
   module _ (flat : digit 0 ≡ 0) where
-    pub zeros : (n : ℕ) → F n 0 ≡ 0
+    zeros : (n : ℕ) → F n 0 ≡ 0
     zeros zero = none 0
     zeros (suc n) = more n 0 ∙ rw (flat, zero-div (2 ^ t), zeros n, mul-zero (2 ^ u)) (zero-add 0)
 
     pub ends : (m n x : ℕ) → x < 2 ^ (t * m) → F (m + n) x ≡ F m x
     ends m n x h = split m n x ∙ rw (div-eq-of-lt h, zeros n, mul-zero (2 ^ (u * m))) (add-zero (F m x))
-
-  -- the first m places read no more than the first t * m bits
-  pub cut : ((j x : ℕ) → digit (x % 2 ^ (j + t)) ≡ digit x) → (m x : ℕ) → F m (x % 2 ^ (t * m)) ≡ F m x
-  cut local zero x = none _ ∙ sym (none x)
-  cut local (suc m) x =
-      more m _
-      ∙ ap₂ (λ (y z : ℕ). y + 2 ^ u * F m z)
-      (ap (λ (n : ℕ). digit (x % 2 ^ n)) (mul-suc t m) ∙ local (t * m) x)
-      (ap (λ (n : ℕ). x % 2 ^ n / 2 ^ t) (mul-suc t m) ∙ field x (t * m) t)
-      ∙ ap (λ (z : ℕ). digit x + 2 ^ u * z) (cut local m (x / 2 ^ t))
-      ∙ sym (more m x)

@@ -1,2 +1,3 @@
 pub mod Codes
-pub mod Tables
+pub mod Runs
+pub mod Anchors

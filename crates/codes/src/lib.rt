@@ -1,49 +1,97 @@
-// The code of a cell's anchors and back, by the lookup tables of `morton_constants.rs`.
-pub mod tables;
-
+// The code of a cell's anchors and back, by shifts and masks on whole words.
 ghost use mathlib.Core.Path.{_≡_};
-ghost use mathlib.Core.List.{[], _∷_};
 ghost use Prim.Native.Nat.{_*_, _^_, _≤_, _<_};
-ghost use lib.ListN.{getD};
 ghost use Rattle.slices.specs.Lists.{filled};
-ghost use Rattle.codes.specs.Codes.{encode, anchorsOf};
-ghost use Rattle.codes.specs.Tables.{EncodeTables, DecodesAxis, DecodedAxis, Bytes2};
+ghost use Rattle.codes.specs.Codes.{spread, anchor, encode, anchorsOf};
+ghost use Rattle.codes.specs.Runs.{Apart, Together};
+ghost use Rattle.codes.specs.Anchors.{Bytes2};
 
-// The code of three anchors, by the tables of 1 to 3 axes: byte by byte, as `encode_morton_point` does.
-pub fn encode_with(
-    x: &[u64; 256],
-    y: &[u64; 256],
-    z: &[u64; 256],
-    axes: usize,
-    anchor: [u64; 3],
-) -> u64
-    requires { ⌜ (1 ≤ axes) × (axes ≤ 3) × EncodeTables axes (now x) (now y) (now z) × Bytes2 anchor ⌝ }
-    ensures { λ r. ⌜ r ≡ encode axes axes 16 anchor ⌝ }
+// Runs of 8, 4, 2 and 1 bits of an anchor in a code of 2 axes: each as far from the next as 2 runs are wide.
+const EIGHTS_2: u64 = 0x00ff_00ff;
+
+const FOURS_2: u64 = 0x0f0f_0f0f;
+
+const TWOS_2: u64 = 0x3333_3333;
+
+const ONES_2: u64 = 0x5555_5555;
+
+// The same of 3 axes.
+const EIGHTS_3: u64 = 0x0000_ff00_00ff;
+
+const FOURS_3: u64 = 0x00f0_0f00_f00f;
+
+const TWOS_3: u64 = 0x0c30_c30c_30c3;
+
+const ONES_3: u64 = 0x2492_4924_9249;
+
+// One step apart: the high half of each run moves up by the shift, and the mask keeps the halves.
+fn apart(runs: u64, shift: usize, mask: u64) -> u64
+    requires { ⌜ shift < 64 ⌝ }
+    ensures { λ r. ⌜ Apart runs shift mask r ⌝ }
 {
-    let a = anchor[0];
-    let b = anchor[1];
-    let c = anchor[2];
-    let high = x[(a / 256) as usize] + y[(b / 256) as usize] + z[(c / 256) as usize];
-    let low = x[(a % 256) as usize] + y[(b % 256) as usize] + z[(c % 256) as usize];
-    (high << (8 * axes)) + low
+    (runs | (runs << shift)) & mask
 }
 
-// One axis's anchor in a code, by that axis's table, which takes `bits` bits of the anchor a step.
-fn decode_axis(table: &[u64], axes: usize, bits: usize, code: u64) -> u64
-    requires { ⌜ (1 ≤ bits) × (axes * bits ≤ 9) × DecodesAxis axes bits (now table) × (code < 2 ^ (axes * 16)) ⌝ }
-    ensures { λ r. ⌜ DecodedAxis axes bits (now (table .entry)) code r ⌝ }
+// One step together: every second run moves down by the shift, onto the one below it.
+fn together(runs: u64, shift: usize, mask: u64) -> u64
+    requires { ⌜ shift < 64 ⌝ }
+    ensures { λ r. ⌜ Together runs shift mask r ⌝ }
 {
-    let width = axes * bits;
-    let mask: u64 = (1 << width) - 1;
-    let mut anchor: u64 = 0;
-    let mut rest = code;
-    let mut done: usize = 0;
-    while done < 16 {
-        anchor += table[(rest & mask) as usize] << done;
-        rest = rest >> width;
-        done += bits;
+    (runs | (runs >> shift)) & mask
+}
+
+// An anchor's bits two places apart.
+fn spread_2(x: u64) -> u64
+    requires { ⌜ x < 65536 ⌝ }
+    ensures { λ r. ⌜ r ≡ spread 2 16 x ⌝ }
+{
+    let eights = apart(x, 8, EIGHTS_2);
+    let fours = apart(eights, 4, FOURS_2);
+    let twos = apart(fours, 2, TWOS_2);
+    apart(twos, 1, ONES_2)
+}
+
+// An anchor's bits three places apart.
+fn spread_3(x: u64) -> u64
+    requires { ⌜ x < 65536 ⌝ }
+    ensures { λ r. ⌜ r ≡ spread 3 16 x ⌝ }
+{
+    let eights = apart(x, 16, EIGHTS_3);
+    let fours = apart(eights, 8, FOURS_3);
+    let twos = apart(fours, 4, TWOS_3);
+    apart(twos, 2, ONES_3)
+}
+
+// Every second bit of a code, from bit 0 on.
+fn gather_2(code: u64) -> u64
+    ensures { λ r. ⌜ r ≡ anchor 2 0 16 code ⌝ }
+{
+    let twos = together(code & ONES_2, 1, TWOS_2);
+    let fours = together(twos, 2, FOURS_2);
+    let eights = together(fours, 4, EIGHTS_2);
+    together(eights, 8, 0xffff)
+}
+
+// Every third bit of a code, from bit 0 on.
+fn gather_3(code: u64) -> u64
+    ensures { λ r. ⌜ r ≡ anchor 3 0 16 code ⌝ }
+{
+    let twos = together(code & ONES_3, 2, TWOS_3);
+    let fours = together(twos, 4, FOURS_3);
+    let eights = together(fours, 8, EIGHTS_3);
+    together(eights, 16, 0xffff)
+}
+
+// The code of anchors below 65536 on 1 to 3 axes; anchors past the axes are not read.
+pub fn encode(axes: usize, anchor: [u64; 3]) -> u64
+    requires { ⌜ (1 ≤ axes) × (axes ≤ 3) × Bytes2 anchor ⌝ }
+    ensures { λ r. ⌜ r ≡ encode axes axes 16 anchor ⌝ }
+{
+    match axes {
+        1 => anchor[0],
+        2 => spread_2(anchor[0]) + (spread_2(anchor[1]) << 1),
+        _ => spread_3(anchor[0]) + (spread_3(anchor[1]) << 1) + (spread_3(anchor[2]) << 2),
     }
-    anchor
 }
 
 // The anchors of a code of 1 to 3 axes.
@@ -52,24 +100,8 @@ pub fn decode(axes: usize, code: u64) -> [u64; 3]
     ensures { λ r. ⌜ r ≡ filled 3 (anchorsOf axes 16 code) ⌝ }
 {
     match axes {
-        1 => {
-            let x = tables::decode_1d();
-            [decode_axis(&x, 1, 8, code), 0, 0]
-        }
-        2 => {
-            let x = tables::decode_2d_x();
-            let y = tables::decode_2d_y();
-            [decode_axis(&x, 2, 4, code), decode_axis(&y, 2, 4, code), 0]
-        }
-        _ => {
-            let x = tables::decode_3d_x();
-            let y = tables::decode_3d_y();
-            let z = tables::decode_3d_z();
-            [
-                decode_axis(&x, 3, 3, code),
-                decode_axis(&y, 3, 3, code),
-                decode_axis(&z, 3, 3, code),
-            ]
-        }
+        1 => [code, 0, 0],
+        2 => [gather_2(code), gather_2(code >> 1), 0],
+        _ => [gather_3(code), gather_3(code >> 1), gather_3(code >> 2)],
     }
 }

@@ -9,7 +9,6 @@ use lib.Seq.{append-snoc}
 use lib.Pow.{pow-mono}
 use Rattle.slices.specs.Lists.{range, filled}
 use Rattle.slices.proofs.Lists.{range-append, length-range, filled-none, filled-store}
-use Rattle.codes.specs.Tables.{when}
 use Rattle.refusal.specs.declared.Outcome.the-variants.{Done}
 use Rattle.morton.specs.declared.KeyList.{KeyList}
 use Rattle.morton.specs.Keys.{levelOf, axesKnown, childrenRoom, ValidKey, parent, upwards, ancestors}

@@ -14,7 +14,7 @@ use Rattle.slices.specs.Lists.{range, filter, filled}
 use Rattle.slices.specs.Every.{every}
 use Rattle.slices.proofs.Lists.{range-append, length-range, filter-append, filter-shorter, getD-filled}
 use Rattle.slices.proofs.Every.{every-all, every-same}
-use Rattle.codes.specs.Tables.{Bytes2}
+use Rattle.codes.specs.Anchors.{Bytes2}
 use Rattle.codes.proofs.Codes.{encode-same}
 use Rattle.codes.proofs.Entries.{tabled, length-tabled}
 use Rattle.morton.specs.Keys.{neighboursRoom, levelOf, codeOf, key, ValidKey}

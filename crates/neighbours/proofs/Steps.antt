@@ -13,7 +13,7 @@ use mir.Val.{SFits, toZ, ofZ}
 use borrow.Author.Tests.{ltb-true, lt-ltb, le-ltb, lt-leb, ne-eqb}
 use Rattle.slices.proofs.Every.{every-at, every-all, every-fails, every-next, every-none}
 use Rattle.slices.proofs.Tests.{clash}
-use Rattle.codes.specs.Tables.{Bytes2}
+use Rattle.codes.specs.Anchors.{Bytes2}
 use Rattle.neighbours.specs.Directions.{ahead, inside, stays, none}
 use Rattle.neighbours.specs.Steps.{oneStep, unitRow, raised}
 

@@ -11,7 +11,7 @@ ghost use Prim.Native.Nat.{ℕ, _≤_, _<_};
 ghost use lib.ListN.{getD};
 ghost use Rattle.slices.specs.Lists.{filled};
 ghost use Rattle.refusal.specs.declared.Outcome.the-variants.{Done};
-ghost use Rattle.codes.specs.Tables.{Bytes2};
+ghost use Rattle.codes.specs.Anchors.{Bytes2};
 ghost use Rattle.morton.specs.Keys.{ValidKey};
 ghost use Rattle.neighbours.specs.Directions.{directions, stays as staysOn, moved as movedAlong, neighbours as neighboursOf};
 ghost use Rattle.neighbours.specs.Steps.{unitRow, raised as raisedStep};
@@ -112,9 +112,6 @@ fn list_along(rows: &[[i64; 3]], axes: usize, key: u64) -> KeyList
     ensures { λ r. ⌜ r ≡ listed Done (neighboursOf axes key) ⌝ }
 {
     let count = axes::neighbours_of(axes);
-    let x = codes::tables::encode_table(axes, 0);
-    let y = codes::tables::encode_table(axes, 1);
-    let z = codes::tables::encode_table(axes, 2);
     let level = keys::level_of(key);
     let from = anchors::anchors_of(axes, key);
     let mut found = [0u64; Three::NEIGHBOURS];
@@ -124,7 +121,7 @@ fn list_along(rows: &[[i64; 3]], axes: usize, key: u64) -> KeyList
         let row = rows[i];
         if stays(axes, level, from, row) {
             let to = moved(axes, level, from, row);
-            found[len] = anchors::key_with(&x, &y, &z, axes, to, level);
+            found[len] = anchors::key_at(axes, to, level);
             len += 1;
             i += 1;
         } else {

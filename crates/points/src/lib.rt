@@ -56,10 +56,7 @@ pub fn point_to_key(b: Box, point: [f64; 3], level: u64) -> PointKey
     if let Outcome::Refused(refusal) = o {
         return PointKey::Refused(refusal);
     }
-    let x = codes::tables::encode_table(b.axes, 0);
-    let y = codes::tables::encode_table(b.axes, 1);
-    let z = codes::tables::encode_table(b.axes, 2);
-    let place = space::code_at(&x, &y, &z, space::frame_of(b), &point, 0);
+    let place = space::code_at(space::frame_of(b), &point, 0);
     match place {
         Place::At(code) => {
             let above = (b.axes as u64) * (16 - level);

@@ -18,7 +18,7 @@ use Rattle.space.specs.declared.Place.{Place}
 use Rattle.space.specs.declared.Place.the-variants.{At, Outside}
 use Rattle.space.specs.Floats.{Floor, noFloor, whole, floor}
 use Rattle.space.specs.Cells.{displacement, quotient, side, pick, cellIn, cell16, placeNumber, inside, anchors16, code16, pointPlace, locatedOf}
-use Rattle.codes.specs.Tables.{encodeTable, EncodeTables, Bytes2}
+use Rattle.codes.specs.Anchors.{Bytes2}
 use Rattle.morton.specs.Anchors.{encode}
 use Rattle.space.proofs.Literals.{zero-is}
 
@@ -65,10 +65,6 @@ module _ (f : Frame) (xs : List Float) where
       → record { inside = true; anchor = x ∷ y ∷ z ∷ [] } ≡ locatedOf f xs
   unfolding inside anchors16
   all-in x y z h i j = rw (h, i, j)
-
--- the encode tables of the box are those of its frame
-pub tables-for : (d e : ℕ) (x y z : List ℕ) → e ≡ d → x ≡ encodeTable d 0 → y ≡ encodeTable d 1 → z ≡ encodeTable d 2 → EncodeTables e x y z
-tables-for d e x y z h p q r = subst (λ n. EncodeTables n x y z) (sym h) (record { first = p; second = q; third = r })
 
 -- ---- anchors are below 65536
 number-under : (n : ℕ) (y : Floor) → 0 < n → placeNumber (cellIn n y) < n

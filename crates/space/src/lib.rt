@@ -6,7 +6,6 @@ ghost use Prim.Native.Nat.{_+_, _/_, _≤_, _<_};
 ghost use lib.ListN.{length, drop};
 ghost use Rattle.space.specs.Floats.{sizeOf, floor};
 ghost use Rattle.space.specs.Cells.{displacement as displacementOf, cellIn, side, frameOf, cell16, pointPlace, locatedOf};
-ghost use Rattle.codes.specs.Tables.{EncodeTables};
 ghost use Rattle.space.specs.Rows.{firstOutside, coded};
 ghost use Rattle.space.specs.Domain.{radiusKnown, centresKnown, boxOutcome, levelOutcome};
 
@@ -189,22 +188,15 @@ pub enum Rows {
     Outside(usize),
 }
 
-// The code of the point that begins at `at`, by the encode tables of the frame's axes.
-pub fn code_at(
-    x: &[u64; 256],
-    y: &[u64; 256],
-    z: &[u64; 256],
-    f: Frame,
-    points: &[f64],
-    at: usize,
-) -> Place
-    requires { ⌜ (1 ≤ f .axes) × (f .axes ≤ 3) × EncodeTables (f .axes) (now x) (now y) (now z) × (at + f .axes ≤ length (now points)) ⌝ }
+// The code of the point that begins at `at`, on the frame's axes.
+pub fn code_at(f: Frame, points: &[f64], at: usize) -> Place
+    requires { ⌜ (1 ≤ f .axes) × (f .axes ≤ 3) × (at + f .axes ≤ length (now points)) ⌝ }
     ensures { λ r. ⌜ r ≡ pointPlace f (drop at (now (points .entry))) ⌝ }
 {
     let p = locate(f, points, at);
     if p.inside {
         let anchor = p.anchor;
-        return Place::At(codes::encode_with(x, y, z, f.axes, anchor));
+        return Place::At(codes::encode(f.axes, anchor));
     }
     Place::Outside
 }
@@ -217,14 +209,11 @@ pub fn points_to_codes(b: Box, points: &[f64], codes: &mut [u64]) -> Rows
 {
     let f = frame_of(b);
     let axes = b.axes;
-    let x = codes::tables::encode_table(axes, 0);
-    let y = codes::tables::encode_table(axes, 1);
-    let z = codes::tables::encode_table(axes, 2);
     let rows = points.len() / axes;
     let mut row = 0;
     let mut at = 0;
     while row < rows {
-        match code_at(&x, &y, &z, f, points, at) {
+        match code_at(f, points, at) {
             Place::At(code) => {
                 codes[row] = code;
             }

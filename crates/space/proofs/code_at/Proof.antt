@@ -11,13 +11,13 @@ use Rattle.space.proofs.code_at.Tie as tie
 locate-requires : tie.Need-locate-requires
 locate-requires c κs = search needs
 
-encode-with-requires : tie.Need-encode-with-requires
-encode-with-requires c κs =
+encode-requires : tie.Need-encode-requires
+encode-requires c κs =
     let s = c .before .before .before .before in
     let f = s .args .f in
     let xs = drop (s .args .at) (now (s .args .points)) in
     let i = located-in f xs (c .before .before .locate .result) (c .before .before .locate .ensures) (c .before .if1 .taken) in
-    (s .pre .0, s .pre .1, s .pre .2, two-bytes f xs _ (i .1))
+    (s .pre .0, s .pre .1, two-bytes f xs _ (i .1))
 
 returns : tie.Need-returns
 returns c =
@@ -25,7 +25,7 @@ returns c =
     let f = s .args .f in
     let xs = drop (s .args .at) (now (s .args .points)) in
     let i = located-in f xs (c .before .before .before .locate .result) (c .before .before .before .locate .ensures) (c .before .before .if1 .taken) in
-    place-in f xs (c .encode-with .result) (i .0) (c .encode-with .ensures ∙ ap (encode (f .axes) (f .axes) 16) (i .1))
+    place-in f xs (c .encode .result) (i .0) (c .encode .ensures ∙ ap (encode (f .axes) (f .axes) 16) (i .1))
 
 returns-2 : tie.Need-returns-2
 returns-2 c =
@@ -35,4 +35,4 @@ returns-2 c =
     place-out f xs (located-out f xs (c .before .locate .result) (c .before .locate .ensures) (c .if1 .left))
 
 pub code-at-spec : {M : Type 1} → statement M
-code-at-spec = tie.close (tie.spec locate-requires encode-with-requires returns returns-2)
+code-at-spec = tie.close (tie.spec locate-requires encode-requires returns returns-2)
