@@ -19,7 +19,7 @@ use Rattle.codes.proofs.Codes.{encode-same}
 use Rattle.codes.proofs.Entries.{tabled, length-tabled}
 use Rattle.morton.specs.Keys.{neighboursRoom, levelOf, codeOf, key, ValidKey}
 use Rattle.morton.specs.Anchors.{encode, anchors, keyAt, onLevel}
-use Rattle.neighbours.specs.Directions.{directions, directionRow, none, ahead, inside, stays, moved, onBox, toward, neighbours}
+use Rattle.neighbours.specs.Directions.{directions, directionRow, none, ahead, isAnchor, stays, moved, onBox, toward, neighbours}
 use Rattle.neighbours.specs.Steps.{unitRow}
 use Rattle.anchors.proofs.Placing.{past-filled, anchors-at, anchors-length, anchor-small}
 use Rattle.neighbours.proofs.Steps.{stays-lt}
@@ -58,8 +58,8 @@ module _ (d k level : ℕ) (v : ValidKey d k) (el : level ≡ levelOf k) (from :
 
   pub stays-is : stays d level from row ≡ onBox d k i
   stays-is =
-      every-same (λ a. inside level (ahead from row a)) (λ a. inside (levelOf k) (ahead (anchors d k) (directionRow d i) a)) d
-      (λ a h. ap₂ (λ (z : ℤ) (l : ℕ). inside l z) (ahead-at a h) el)
+      every-same (λ a. isAnchor level (ahead from row a)) (λ a. isAnchor (levelOf k) (ahead (anchors d k) (directionRow d i) a)) d
+      (λ a h. ap₂ (λ (z : ℤ) (l : ℕ). isAnchor l z) (ahead-at a h) el)
 
   moved-at : (a : ℕ) → a < d → getD (filled 3 (moved d from row)) a 0 ≡ natAbs (ahead from row a)
   moved-at a h =

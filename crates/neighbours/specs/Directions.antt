@@ -42,13 +42,13 @@ abbrev pub ahead : List ℕ → List ℤ → ℕ → ℤ
 ahead xs steps a = pos (getD xs a 0) +ℤ getD steps a none
 
 -- an integer is an anchor of the level, 0 to 2 ^ level - 1
-abbrev pub inside : ℕ → ℤ → Bool
-inside level (pos n) = ltb n (2 ^ level)
-inside level (negsuc n) = false
+abbrev pub isAnchor : ℕ → ℤ → Bool
+isAnchor level (pos n) = ltb n (2 ^ level)
+isAnchor level (negsuc n) = false
 
 -- on each axis the sum is an anchor of the level
 abbrev pub stays : ℕ → ℕ → List ℕ → List ℤ → Bool
-stays d level xs steps = every d (λ a. inside level (ahead xs steps a))
+stays d level xs steps = every d (λ a. isAnchor level (ahead xs steps a))
 
 -- the sums, as anchors of a row that stays
 abbrev pub moved : ℕ → List ℕ → List ℤ → List ℕ
