@@ -149,5 +149,5 @@ module _ (a : Asked) (work order nodes : ℕ) (done : buildOutcome a work order 
 
   pub built-demand-3 : Demand3 a
   built-demand-3 =
-      let whole = demand-3 (axes a) (builtKeys a) (builtOwn a) (builtBegins a) built-formed in
+      let whole = demand-3 (axes a) (builtKeys a) (builtOwn a) (builtBegins a) built-formed built-axes in
       record { once = built-once; near = built-near; far = whole .3; few = whole .4 }

@@ -19,6 +19,8 @@ use Rattle.space.specs.Cells.{frameOf, inside, code16}
 use Rattle.space.proofs.Batches.{codes-length}
 use Rattle.morton.specs.Keys.{above, parent}
 use Rattle.morton.proofs.Cells.{key-level}
+use Rattle.space.specs.Rows.{rowsOf, rowsInside}
+use Rattle.tree.specs.Columns.{columns}
 use Rattle.tree.specs.Nodes.{stored, depthOf}
 use Rattle.tree.proofs.Rules.{Ascending, facts, ascend-facts, parents-facts}
 use Rattle.grouping.proofs.Passing.{passing-before}
@@ -29,7 +31,7 @@ use Rattle.lookup.specs.declared.LookedUp.the-variants as looked
 use Rattle.lookup.specs.declared.PointLeaf.{PointLeaf}
 use Rattle.lookup.specs.declared.PointLeaf.the-variants.{Leaf}
 use Rattle.lookup.specs.Lookup.{Steps, BatchSteps}
-use Rattle.lookup.specs.Batch.{heldBefore, stepsSum, rowsOf, rowsInside, codesInside, callOutcome, pointsOutcome, lookupOutcome, foundOr}
+use Rattle.lookup.specs.Batch.{heldBefore, stepsSum, codesInside, callOutcome, pointsOutcome, lookupOutcome, foundOr}
 use Rattle.lookup.specs.Single.{treeOutcome, leafOrRefusal, pointToLeaf}
 use Rattle.lookup.proofs.Single.{tree-fine}
 use Rattle.lookup.proofs.Calls.{checked, found-is}
@@ -51,16 +53,16 @@ module _ (b : Box) (keys own begin : List ℕ) (xs : List Float) where
   abbrev code : ℕ
   code = code16 (frameOf b) xs
 
-  pub point-steps : (r : PointLeaf) → r ≡ pointToLeaf b keys own begin xs → (k n : ℕ) → r ≡ Leaf k n → Steps keys k n
+  pub point-steps : (r : PointLeaf) → r ≡ pointToLeaf b (columns keys own begin) xs → (k n : ℕ) → r ≡ Leaf k n → Steps keys k n
   point-steps r q k n e =
       let whole = leaf-is _ (leafKey (b .axes) keys code) (stepsTo (b .axes) keys code) k n (sym q ∙ e) in
-      let third = both-done (treeOutcome b keys own begin then ask (inside (frameOf b) xs) (Point 0)) (ask (held (b .axes) keys code) (Unstored 0)) (whole .0) in
-      let second = both-done (treeOutcome b keys own begin) (ask (inside (frameOf b) xs) (Point 0)) (third .0) in
+      let third = both-done (treeOutcome b (columns keys own begin) then ask (inside (frameOf b) xs) (Point 0)) (ask (held (b .axes) keys code) (Unstored 0)) (whole .0) in
+      let second = both-done (treeOutcome b (columns keys own begin)) (ask (inside (frameOf b) xs) (Point 0)) (third .0) in
       let tree = facts (b .axes) keys own begin (tree-fine b keys own begin xs (second .0) .1) in
       let s = steps-to (b .axes) keys (tree .ascending) (tree .parents) code (asked (held (b .axes) keys code) (Unstored 0) (third .1)) in
       rw (← whole .1, ← whole .2) s
 
-  pub with-steps : (r : PointLeaf) → r ≡ pointToLeaf b keys own begin xs → (r ≡ pointToLeaf b keys own begin xs) × ((k n : ℕ) → r ≡ Leaf k n → Steps keys k n)
+  pub with-steps : (r : PointLeaf) → r ≡ pointToLeaf b (columns keys own begin) xs → (r ≡ pointToLeaf b (columns keys own begin) xs) × ((k n : ℕ) → r ≡ Leaf k n → Steps keys k n)
   with-steps r q = (q, point-steps r q)
 
 -- ---- a batch
@@ -73,12 +75,12 @@ module _ (b : Box) (keys own begin : List ℕ) (xs : List Float) (room : ℕ) wh
   abbrev codes : List ℕ
   codes = codesInside b xs
 
-  pub batch-steps : (r : LookedUp) → r ≡ foundOr (lookupOutcome b keys own begin xs room) (stepsSum (b .axes) keys (codesInside b xs))
+  pub batch-steps : (r : LookedUp) → r ≡ foundOr (lookupOutcome b (columns keys own begin) xs room) (stepsSum (b .axes) keys (codesInside b xs))
       → (n : ℕ) → r ≡ looked.Found n → BatchSteps (b .axes) keys (codesInside b xs) (rowsOf b xs) n
   unfolding pointsOutcome
   batch-steps r q n e =
-      let whole = found-is (lookupOutcome b keys own begin xs room) (stepsSum (b .axes) keys codes) n (sym q ∙ e) in
-      let parts = both-done (callOutcome b keys own begin xs room) (pointsOutcome b keys xs) (whole .0) in
+      let whole = found-is (lookupOutcome b (columns keys own begin) xs room) (stepsSum (b .axes) keys codes) n (sym q ∙ e) in
+      let parts = both-done (callOutcome b (columns keys own begin) xs room) (pointsOutcome b keys xs) (whole .0) in
       let call = checked b keys own begin xs room (parts .0) in
       let p = both-done (ask (eqb (heldBefore (b .axes) keys codes) (rowsInside b xs)) _) (ask (eqb (rowsInside b xs) (rowsOf b xs)) _) (parts .1) in
       let all : heldBefore (b .axes) keys codes ≡ rowsInside b xs = eqb-true (heldBefore (b .axes) keys codes) (rowsInside b xs) (asked _ _ (p .0)) in
@@ -88,6 +90,6 @@ module _ (b : Box) (keys own begin : List ℕ) (xs : List Float) (room : ℕ) wh
       λ i l. steps-to (b .axes) keys (ascend-facts (b .axes) keys (call .owned .tree .ascends)) (parents-facts (b .axes) keys (call .owned .tree .parents)) (getD codes i 0) (passing-before (held (b .axes) keys) codes i (omega (arith, all, rows))) in
       record { each = each; few = omega (arith, whole .1, long, rows, sum-few (stepsTo (b .axes) keys) codes (λ i l. each i (omega (arith, long, rows)) .few)) }
 
-  pub both-steps : {A : Type 0} (r : LookedUp) → r ≡ foundOr (lookupOutcome b keys own begin xs room) (stepsSum (b .axes) keys (codesInside b xs)) → A
-      → (r ≡ foundOr (lookupOutcome b keys own begin xs room) (stepsSum (b .axes) keys (codesInside b xs))) × (A × ((n : ℕ) → r ≡ looked.Found n → BatchSteps (b .axes) keys (codesInside b xs) (rowsOf b xs) n))
+  pub both-steps : {A : Type 0} (r : LookedUp) → r ≡ foundOr (lookupOutcome b (columns keys own begin) xs room) (stepsSum (b .axes) keys (codesInside b xs)) → A
+      → (r ≡ foundOr (lookupOutcome b (columns keys own begin) xs room) (stepsSum (b .axes) keys (codesInside b xs))) × (A × ((n : ℕ) → r ≡ looked.Found n → BatchSteps (b .axes) keys (codesInside b xs) (rowsOf b xs) n))
   both-steps r q a = (q, (a, batch-steps r q))
