@@ -316,10 +316,10 @@ pub fn odd_tree(r: &mut Random, most: usize) -> TreeLists {
     }
 }
 
-struct RustRows {
-    u: HashMap<u64, Vec<u64>>,
-    v: HashMap<u64, Vec<u64>>,
-    cells: Vec<u64>,
+pub struct RustRows {
+    pub u: HashMap<u64, Vec<u64>>,
+    pub v: HashMap<u64, Vec<u64>>,
+    pub cells: Vec<u64>,
 }
 
 /// The number of axes of such a tree.
@@ -328,7 +328,7 @@ pub fn axes_of(lists: &TreeLists) -> usize {
 }
 
 /// Such a tree's rows and sourced cells by the Rust.
-fn rust_rows(given: &TreeLists, axes: usize) -> RustRows {
+pub fn rust_rows(given: &TreeLists, axes: usize) -> RustRows {
     let (u, v, map) = linear_tree::get_interaction_lists(
         &given.tree,
         &given.leaves,
