@@ -122,7 +122,7 @@ pub fn run_all(w: &Wanted, kinds: &[Kind]) -> ! {
     let found = match (sum.differences, dead) {
         (0, 0) => "no difference".to_string(),
         (differences, 0) => format!("{differences} differences"),
-        (differences, dead) => format!("{differences} differences, and {dead} kinds died"),
+        (differences, dead) => format!("died: {dead}; differences elsewhere: {differences}"),
     };
     let part = match (w.case, w.short) {
         (Some(_), _) => ", one case",

@@ -16,6 +16,12 @@ use apart::Slate;
 use std::env;
 use tally::{Kind, Tally, Wanted};
 
+/// Ends the run where its words cannot be read.
+fn usage(wrong: &str) -> ! {
+    eprintln!("{wrong}: the words are --short, --seed N, --kind NAME and --case N");
+    std::process::exit(2)
+}
+
 fn wanted() -> Wanted {
     let mut w = Wanted {
         seed: 41_379_942,
@@ -24,21 +30,18 @@ fn wanted() -> Wanted {
         case: None,
         slate: None,
     };
+    let number = |text: String| text.parse().unwrap_or_else(|_| usage(&text));
     let mut words = env::args().skip(1);
     while let Some(word) = words.next() {
-        let mut next = || {
-            words
-                .next()
-                .unwrap_or_else(|| panic!("{word} wants a value"))
-        };
+        let mut next = || words.next().unwrap_or_else(|| usage(&word));
         match word.as_str() {
             "--short" => w.short = true,
-            "--seed" => w.seed = next().parse().expect("a number"),
+            "--seed" => w.seed = number(next()),
             "--kind" => w.kind = Some(next()),
-            "--case" => w.case = Some(next().parse().expect("a number")),
+            "--case" => w.case = Some(number(next())),
             // only the run itself says this, to the process of a kind
             "--slate" => w.slate = Some(next()),
-            _ => panic!("{word}: --short, --seed N, --kind NAME or --case N"),
+            _ => usage(&word),
         }
     }
     w
