@@ -270,13 +270,13 @@ fn smallest_tree() -> Tree {
     let begins = (0..8).map(|code| code * (POINTS / 8));
     let mut own = vec![POINTS / 8; 9];
     own[0] = 0;
-    Tree {
-        axes: 3,
-        key: [0].into_iter().chain(children).collect(),
+    Tree::from_columns(
+        shapes::bounds(),
+        [0].into_iter().chain(children).collect(),
         own,
-        begin: [0].into_iter().chain(begins).collect(),
-        order: vec![],
-    }
+        [0].into_iter().chain(begins).collect(),
+        vec![],
+    )
 }
 
 /// The coding of all points beside the Rust's: identical keys, then times. `coding` takes the points in one call, a lookup in

@@ -1,6 +1,8 @@
 //! Compares Lohandema with the customer's Rust, call by call, on the same inputs. `run` beside this folder starts it.
+mod apart;
 mod builds;
 mod differences;
+mod face;
 mod inputs;
 mod keys;
 mod limits;
@@ -11,8 +13,15 @@ mod refusals;
 mod tally;
 mod trees;
 
+use apart::Slate;
 use std::env;
-use tally::{Tally, Wanted};
+use tally::{Kind, Tally, Wanted};
+
+/// Ends the run where its words cannot be read.
+fn usage(wrong: &str) -> ! {
+    eprintln!("{wrong}: the words are --short, --seed N, --kind NAME and --case N");
+    std::process::exit(2)
+}
 
 fn wanted() -> Wanted {
     let mut w = Wanted {
@@ -20,58 +29,62 @@ fn wanted() -> Wanted {
         short: false,
         kind: None,
         case: None,
+        slate: None,
     };
+    let number = |text: String| text.parse().unwrap_or_else(|_| usage(&text));
     let mut words = env::args().skip(1);
     while let Some(word) = words.next() {
-        let mut next = || {
-            words
-                .next()
-                .unwrap_or_else(|| panic!("{word} wants a value"))
-        };
+        let mut next = || words.next().unwrap_or_else(|| usage(&word));
         match word.as_str() {
             "--short" => w.short = true,
-            "--seed" => w.seed = next().parse().expect("a number"),
+            "--seed" => w.seed = number(next()),
             "--kind" => w.kind = Some(next()),
-            "--case" => w.case = Some(next().parse().expect("a number")),
-            _ => panic!("{word}: --short, --seed N, --kind NAME or --case N"),
+            "--case" => w.case = Some(number(next())),
+            // only the run itself says this, to the process of a kind
+            "--slate" => w.slate = Some(next()),
+            _ => usage(&word),
         }
     }
     w
 }
 
+const KINDS: &[Kind] = &[
+    ("keys-small", 1, keys::small),
+    ("keys-tables", 1, keys::tables),
+    ("keys-random", 200_000, keys::random),
+    ("keys-any", 200_000, keys::any),
+    ("touching", 1_000_000, keys::touching),
+    ("extents", 500_000, points::extents),
+    ("boxes", 200_000, points::boxes),
+    ("anchors", 200_000, points::anchors),
+    ("cells", 300_000, points::cells),
+    ("reference-depth", 1, points::depths),
+    ("build", 3_000, builds::build),
+    ("refine-limit", 2_000, limits::refinement),
+    ("build-refusals", 10_000, builds::refusals),
+    ("lookup", 3_000, trees::lookup),
+    ("lookup-many", 1, trees::lookup_many),
+    ("grouping", 2_000, trees::grouping),
+    ("sourced", 2_000, trees::sourced),
+    ("lists", 20_000, trees::lists),
+    ("lists-odd", 30_000, trees::odd_lists),
+    ("near-work", 1_000, trees::near_work),
+    ("well-formed", 20_000, refusals::trees_handed_in),
+    ("refusals", 4_000, refusals::tree_calls),
+    ("large", 1, refusals::large),
+    ("intended-differences", 1, differences::intended),
+];
+
+/// Starts a process for each kind; one that was started so runs its kind.
 fn main() {
-    let mut t = Tally::new(wanted());
-    t.run("keys-small", 1, keys::small);
-    t.run("keys-tables", 1, keys::tables);
-    t.run("keys-random", 200_000, keys::random);
-    t.run("keys-any", 200_000, keys::any);
-    t.run("touching", 1_000_000, keys::touching);
-    t.run("extents", 500_000, points::extents);
-    t.run("boxes", 200_000, points::boxes);
-    t.run("anchors", 200_000, points::anchors);
-    t.run("cells", 300_000, points::cells);
-    t.run("reference-depth", 1, points::depths);
-    t.run("build", 3_000, builds::build);
-    t.run("refine-limit", 2_000, limits::refinement);
-    t.run("build-refusals", 10_000, builds::refusals);
-    t.run("lookup", 3_000, trees::lookup);
-    t.run("lookup-many", 1, trees::lookup_many);
-    t.run("grouping", 2_000, trees::grouping);
-    t.run("sourced", 2_000, trees::sourced);
-    t.run("lists", 20_000, trees::lists);
-    t.run("lists-odd", 30_000, trees::odd_lists);
-    t.run("near-work", 1_000, trees::near_work);
-    t.run("well-formed", 20_000, refusals::trees_handed_in);
-    t.run("refusals", 4_000, refusals::tree_calls);
-    t.run("large", 1, refusals::large);
-    t.run("intended-differences", 1, differences::intended);
-    if t.ran == 0 {
-        println!("no kind of that name");
-        std::process::exit(2);
+    let wanted = wanted();
+    let Some(path) = &wanted.slate else {
+        apart::run_all(&wanted, KINDS)
+    };
+    let slate = Slate::given(path);
+    for kind in KINDS {
+        if wanted.kind.as_deref() == Some(kind.0) {
+            Tally::run(&wanted, *kind, &slate);
+        }
     }
-    if t.failed > 0 {
-        println!("{} differences", t.failed);
-        std::process::exit(1);
-    }
-    println!("no difference");
 }

@@ -1,4 +1,5 @@
 //! The box, the points and the float test of two cells.
+use crate::face;
 use crate::inputs;
 use crate::keys::refused;
 use crate::oracle::{self, dimensions};
@@ -106,6 +107,12 @@ pub fn boxes(t: &mut Tally, r: &mut Random, _case: u64) {
             || format!("{b:?}"),
         );
         t.same(
+            "key, C face",
+            face::point_to_key(&b, &[f64::NAN; 3], 17),
+            right.map(|_| 0),
+            || format!("{b:?}"),
+        );
+        t.same(
             "adjacent",
             b.are_adjacent(17, 17),
             right.map(|_| false),
@@ -114,24 +121,26 @@ pub fn boxes(t: &mut Tally, r: &mut Random, _case: u64) {
     }
 }
 
-/// A point's anchors and key at every level.
+/// A point's anchors and key at every level; by the C face too, where centre and point have something past the axes.
 pub fn anchors(t: &mut Tally, r: &mut Random, _case: u64) {
     let axes = 1 + r.index(3);
     let b = inputs::bounds(r, axes);
-    for _ in 0..8 {
-        let p = &inputs::point(r, &b)[..axes];
-        let input = || format!("{b:?} point {p:?}");
+    for turn in 0..8 {
+        let whole = inputs::point(r, &b);
+        let (p, odd) = (&whole[..axes], face::odd_box(&b, turn));
+        let input = || format!("{odd:?} point {whole:?}");
         if !oracle::inside(&b, p) {
             t.refusal();
             let level = r.below(17);
-            t.same("anchor", b.point_to_anchor(p, level), refused(7, 0), input);
-            t.same("key", b.point_to_key(p, level), refused(7, 0), input);
-            t.same(
-                "key, bad level",
-                b.point_to_key(p, 17),
-                refused(9, 0),
-                input,
-            );
+            let (anchor, key) = (b.point_to_anchor(p, level), b.point_to_key(p, level));
+            t.same("anchor", anchor, refused(7, 0), input);
+            t.same("key", key, refused(7, 0), input);
+            let deep = b.point_to_key(p, 17);
+            t.same("key, bad level", deep, refused(9, 0), input);
+            let anchor = face::point_to_anchor(&odd, &whole, level);
+            t.same("anchor, C face", anchor, refused(7, 0), input);
+            let key = face::point_to_key(&odd, &whole, level);
+            t.same("key, C face", key, refused(7, 0), input);
             continue;
         }
         for level in 0..=16 {
@@ -139,9 +148,13 @@ pub fn anchors(t: &mut Tally, r: &mut Random, _case: u64) {
             let mut three = [0; 3];
             three[..axes].copy_from_slice(&anchor);
             t.same("anchor", b.point_to_anchor(p, level), Ok(three), input);
+            let ours = face::point_to_anchor(&odd, &whole, level);
+            t.same("anchor, C face", ours, Ok(three), input);
             anchor.push(level);
             let key = morton::encode_morton_point(anchor, &dimensions(axes));
             t.same("key", b.point_to_key(p, level), Ok(key), input);
+            let ours = face::point_to_key(&odd, &whole, level);
+            t.same("key, C face", ours, Ok(key), input);
         }
     }
 }

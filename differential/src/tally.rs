@@ -1,6 +1,8 @@
-//! What was compared, kind by kind, and what differed.
+//! What was compared in a kind, and what differed.
+use crate::apart::Slate;
 use crate::random::Random;
 use std::fmt::Debug;
+use std::ops::AddAssign;
 use std::time::Instant;
 
 /// What the command line asks for.
@@ -9,70 +11,72 @@ pub struct Wanted {
     pub short: bool,
     pub kind: Option<String>,
     pub case: Option<u64>,
+    /// Where a process that runs one kind writes down how far it is.
+    pub slate: Option<String>,
 }
 
-pub struct Tally {
-    wanted: Wanted,
+/// A kind: its name, how many cases a full run has, and what a case does.
+pub type Kind = (&'static str, u64, fn(&mut Tally, &mut Random, u64));
+
+#[derive(Clone, Copy, Default)]
+pub struct Counts {
+    pub compared: u64,
+    pub refusals: u64,
+    pub differences: u64,
+}
+
+impl AddAssign for Counts {
+    fn add_assign(&mut self, other: Counts) {
+        self.compared += other.compared;
+        self.refusals += other.refusals;
+        self.differences += other.differences;
+    }
+}
+
+pub struct Tally<'a> {
+    wanted: &'a Wanted,
     kind: &'static str,
     case: u64,
-    compared: u64,
-    differences: u64,
-    refusals: u64,
-    pub failed: u64,
-    pub ran: u64,
+    counts: Counts,
 }
 
-impl Tally {
-    pub fn new(wanted: Wanted) -> Tally {
-        Tally {
-            wanted,
-            kind: "",
-            case: 0,
-            compared: 0,
-            differences: 0,
-            refusals: 0,
-            failed: 0,
-            ran: 0,
-        }
-    }
-
-    pub fn short(&self) -> bool {
-        self.wanted.short
-    }
-
+impl Tally<'_> {
     /// Runs a kind: so many cases, or a tenth of them in a short run, each with random numbers of its own.
-    pub fn run(
-        &mut self,
-        kind: &'static str,
-        cases: u64,
-        check: impl Fn(&mut Tally, &mut Random, u64),
-    ) {
-        if self.wanted.kind.as_ref().is_some_and(|only| only != kind) {
-            return;
-        }
-        let cases = if self.wanted.short {
+    pub fn run(wanted: &Wanted, (kind, cases, check): Kind, slate: &Slate) {
+        let mut tally = Tally {
+            wanted,
+            kind,
+            case: 0,
+            counts: Counts::default(),
+        };
+        let cases = if wanted.short {
             cases.div_ceil(10)
         } else {
             cases
         };
-        self.ran += 1;
-        (self.kind, self.compared, self.differences, self.refusals) = (kind, 0, 0, 0);
         let from = Instant::now();
         for case in 0..cases {
-            if self.wanted.case.is_some_and(|only| only != case) {
+            if wanted.case.is_some_and(|only| only != case) {
                 continue;
             }
-            self.case = case;
-            check(self, &mut Random::of(self.wanted.seed, kind, case), case);
+            slate.begins(case);
+            tally.case = case;
+            let random = &mut Random::of(wanted.seed, kind, case);
+            check(&mut tally, random, case);
         }
-        self.failed += self.differences;
+        let counts = tally.counts;
         println!(
             "{kind}: {} compared, {} of them refusals, {} differences, {:.1} s",
-            self.compared,
-            self.refusals,
-            self.differences,
+            counts.compared,
+            counts.refusals,
+            counts.differences,
             from.elapsed().as_secs_f64()
         );
+        slate.ended(counts);
+    }
+
+    pub fn short(&self) -> bool {
+        self.wanted.short
     }
 
     /// Compares one answer; `input` is written out where the two differ.
@@ -83,12 +87,12 @@ impl Tally {
         theirs: T,
         input: impl Fn() -> String,
     ) {
-        self.compared += 1;
+        self.counts.compared += 1;
         if ours == theirs {
             return;
         }
-        self.differences += 1;
-        if self.differences <= 5 {
+        self.counts.differences += 1;
+        if self.counts.differences <= 5 {
             let (mut ours, mut theirs) = (format!("{ours:?}"), format!("{theirs:?}"));
             ours.truncate(2000);
             theirs.truncate(2000);
@@ -105,6 +109,6 @@ impl Tally {
 
     /// Counts a comparison whose right answer is a refusal.
     pub fn refusal(&mut self) {
-        self.refusals += 1;
+        self.counts.refusals += 1;
     }
 }

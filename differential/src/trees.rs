@@ -1,4 +1,5 @@
 //! Trees that the Rust built: lookup, grouping, sourced cells, U and V, near work; and trees that nobody built.
+use crate::face;
 use crate::inputs;
 use crate::keys::refused;
 use crate::oracle::{self, Survey, dimensions, level, rank};
@@ -75,14 +76,20 @@ pub fn lookup(t: &mut Tally, r: &mut Random, _case: u64) {
         odd.extend_from_slice(&inputs::point(r, &s.bounds)[..s.bounds.axes]);
         odd.extend(inputs::points(r, &s.bounds, 3));
     }
-    for point in odd.chunks(s.bounds.axes).rev().take(8) {
+    let chunks = odd.chunks(s.bounds.axes).rev().take(8);
+    for (turn, point) in chunks.enumerate() {
         // of a single point the refusal has the value 0, which is its row here
         let right = looked_up(&s, &lists.leaves, depth, point);
         let ours = tree.point_to_leaf(point);
         let right = right.map(|(keys, steps)| (keys[0], steps as u64));
-        t.same("lookup of one point", ours, right, || {
-            format!("{} point {point:?}", show(&s))
-        });
+        let input = || format!("{} point {point:?}", show(&s));
+        t.same("lookup of one point", ours, right, input);
+        let (b, three) = (
+            face::odd_box(&s.bounds, turn),
+            face::odd_past(point, turn + 1),
+        );
+        let ours = face::point_to_leaf(&b, tree.columns(), &three);
+        t.same("lookup of one point, C face", ours, right, input);
     }
     batches.push(odd);
     for points in batches {
@@ -316,10 +323,10 @@ pub fn odd_tree(r: &mut Random, most: usize) -> TreeLists {
     }
 }
 
-struct RustRows {
-    u: HashMap<u64, Vec<u64>>,
-    v: HashMap<u64, Vec<u64>>,
-    cells: Vec<u64>,
+pub struct RustRows {
+    pub u: HashMap<u64, Vec<u64>>,
+    pub v: HashMap<u64, Vec<u64>>,
+    pub cells: Vec<u64>,
 }
 
 /// The number of axes of such a tree.
@@ -328,7 +335,7 @@ pub fn axes_of(lists: &TreeLists) -> usize {
 }
 
 /// Such a tree's rows and sourced cells by the Rust.
-fn rust_rows(given: &TreeLists, axes: usize) -> RustRows {
+pub fn rust_rows(given: &TreeLists, axes: usize) -> RustRows {
     let (u, v, map) = linear_tree::get_interaction_lists(
         &given.tree,
         &given.leaves,
