@@ -7,9 +7,9 @@ use native.Mathlib.Nat.{mul-zero, mul-suc, mul-one, one-mul, div-one, zero-add, 
 use native.Mathlib.Decide.{decLt}
 use native.Mathlib.Numerals.{add-one}
 use lib.ListN.{getD, List·getD-map}
-use lib.Pow.{shr-shr, high, low, mod-pow-add}
+use lib.Pow.{shr-shr, high, low, mod-pow-add, mod-mod-pow}
 use Rattle.codes.specs.Codes.{anchor, spread, encode}
-use Rattle.codes.proofs.Places.{low-bit, pow-more, split, ends}
+use Rattle.codes.proofs.Places.{low-bit, pow-more, split, ends, cut}
 
 bit-lt : (x : ℕ) → x % 2 < 2
 bit-lt x = omega arith
@@ -31,6 +31,10 @@ pub spread-ends : (d m n x : ℕ) → x < 2 ^ m → spread d (m + n) x ≡ sprea
 spread-ends d m n x h =
     let h′ : x < 2 ^ (1 * m) = rw (one-mul m) h in
     ends (spread d) (λ y. y % 2) d 1 (spread-none d) (spread-more d) refl m n x h′
+
+pub spread-cut : (d m x : ℕ) → spread d m (x % 2 ^ m) ≡ spread d m x
+spread-cut d m x = ap (λ (n : ℕ). spread d m (x % 2 ^ n)) (sym (one-mul m))
+    ∙ cut (spread d) (λ y. y % 2) d 1 (spread-none d) (spread-more d) (λ j y. mod-mod-pow y j 1) m x
 
 -- ---- the bits of one axis, gathered from a code
 

@@ -45,3 +45,14 @@ module _ (F : ℕ → ℕ → ℕ) (digit : ℕ → ℕ) (u t : ℕ)
 
     pub ends : (m n x : ℕ) → x < 2 ^ (t * m) → F (m + n) x ≡ F m x
     ends m n x h = split m n x ∙ rw (div-eq-of-lt h, zeros n, mul-zero (2 ^ (u * m))) (add-zero (F m x))
+
+  -- the first m places read no more than the first t * m bits
+  pub cut : ((j x : ℕ) → digit (x % 2 ^ (j + t)) ≡ digit x) → (m x : ℕ) → F m (x % 2 ^ (t * m)) ≡ F m x
+  cut local zero x = none _ ∙ sym (none x)
+  cut local (suc m) x =
+      more m _
+      ∙ ap₂ (λ (y z : ℕ). y + 2 ^ u * F m z)
+      (ap (λ (n : ℕ). digit (x % 2 ^ n)) (mul-suc t m) ∙ local (t * m) x)
+      (ap (λ (n : ℕ). x % 2 ^ n / 2 ^ t) (mul-suc t m) ∙ field x (t * m) t)
+      ∙ ap (λ (z : ℕ). digit x + 2 ^ u * z) (cut local m (x / 2 ^ t))
+      ∙ sym (more m x)

@@ -1,6 +1,6 @@
 // The code of a cell's anchors and back, by shifts and masks on whole words.
 ghost use mathlib.Core.Path.{_≡_};
-ghost use Prim.Native.Nat.{_*_, _^_, _≤_, _<_};
+ghost use Prim.Native.Nat.{_+_, _*_, _^_, _≤_, _<_};
 ghost use Rattle.slices.specs.Lists.{filled};
 ghost use Rattle.codes.specs.Codes.{spread, anchor, encode, anchorsOf};
 ghost use Rattle.codes.specs.Runs.{Apart, Together};
@@ -15,7 +15,16 @@ const TWOS_2: u64 = 0x3333_3333;
 
 const ONES_2: u64 = 0x5555_5555;
 
-// The same of 3 axes.
+// The same of two anchors, the second 32 bits up.
+const EIGHTS_2_2: u64 = 0x00ff_00ff_00ff_00ff;
+
+const FOURS_2_2: u64 = 0x0f0f_0f0f_0f0f_0f0f;
+
+const TWOS_2_2: u64 = 0x3333_3333_3333_3333;
+
+const ONES_2_2: u64 = 0x5555_5555_5555_5555;
+
+// Runs of one anchor in a code of 3 axes.
 const EIGHTS_3: u64 = 0x0000_ff00_00ff;
 
 const FOURS_3: u64 = 0x00f0_0f00_f00f;
@@ -40,15 +49,16 @@ fn together(runs: u64, shift: usize, mask: u64) -> u64
     (runs | (runs >> shift)) & mask
 }
 
-// An anchor's bits two places apart.
-fn spread_2(x: u64) -> u64
-    requires { ⌜ x < 65536 ⌝ }
-    ensures { λ r. ⌜ r ≡ spread 2 16 x ⌝ }
+// The code of two anchors: both are spread in one word, the second in its upper half.
+fn code_2(x: u64, y: u64) -> u64
+    requires { ⌜ (x < 65536) × (y < 65536) ⌝ }
+    ensures { λ r. ⌜ r ≡ spread 2 16 x + 2 * spread 2 16 y ⌝ }
 {
-    let eights = apart(x, 8, EIGHTS_2);
-    let fours = apart(eights, 4, FOURS_2);
-    let twos = apart(fours, 2, TWOS_2);
-    apart(twos, 1, ONES_2)
+    let eights = apart(x + (y << 32), 8, EIGHTS_2_2);
+    let fours = apart(eights, 4, FOURS_2_2);
+    let twos = apart(fours, 2, TWOS_2_2);
+    let ones = apart(twos, 1, ONES_2_2);
+    (ones & 0xffff_ffff) + (ones >> 31)
 }
 
 // An anchor's bits three places apart.
@@ -60,6 +70,14 @@ fn spread_3(x: u64) -> u64
     let fours = apart(eights, 8, FOURS_3);
     let twos = apart(fours, 4, TWOS_3);
     apart(twos, 2, ONES_3)
+}
+
+// The code of three anchors.
+fn code_3(x: u64, y: u64, z: u64) -> u64
+    requires { ⌜ (x < 65536) × (y < 65536) × (z < 65536) ⌝ }
+    ensures { λ r. ⌜ r ≡ spread 3 16 x + 2 * spread 3 16 y + 4 * spread 3 16 z ⌝ }
+{
+    spread_3(x) + (spread_3(y) << 1) + (spread_3(z) << 2)
 }
 
 // Every second bit of a code, from bit 0 on.
@@ -89,8 +107,8 @@ pub fn encode(axes: usize, anchor: [u64; 3]) -> u64
 {
     match axes {
         1 => anchor[0],
-        2 => spread_2(anchor[0]) + (spread_2(anchor[1]) << 1),
-        _ => spread_3(anchor[0]) + (spread_3(anchor[1]) << 1) + (spread_3(anchor[2]) << 2),
+        2 => code_2(anchor[0], anchor[1]),
+        _ => code_3(anchor[0], anchor[1], anchor[2]),
     }
 }
 

@@ -2,7 +2,6 @@
 use refusal::Outcome;
 use refusal::Refusal;
 use space::Box;
-use space::Place;
 ghost use mathlib.Core.Path.{_≡_};
 ghost use mathlib.Core.List.{[]};
 ghost use Rattle.space.specs.Cells.{Nests};
@@ -56,12 +55,12 @@ pub fn point_to_key(b: Box, point: [f64; 3], level: u64) -> PointKey
     if let Outcome::Refused(refusal) = o {
         return PointKey::Refused(refusal);
     }
-    let place = space::code_at(space::frame_of(b), &point, 0);
-    match place {
-        Place::At(code) => {
-            let above = (b.axes as u64) * (16 - level);
-            PointKey::Cell((code >> above) * 32768 + level)
-        }
-        Place::Outside => PointKey::Refused(Refusal::Point(0)),
+    let p = space::locate(space::frame_of(b), &point, 0);
+    if !p.inside {
+        return PointKey::Refused(Refusal::Point(0));
     }
+    let anchor = p.anchor;
+    let code = codes::encode(b.axes, anchor);
+    let above = (b.axes as u64) * (16 - level);
+    PointKey::Cell((code >> above) * 32768 + level)
 }

@@ -193,12 +193,16 @@ pub fn code_at(f: Frame, points: &[f64], at: usize) -> Place
     requires { ⌜ (1 ≤ f .axes) × (f .axes ≤ 3) × (at + f .axes ≤ length (now points)) ⌝ }
     ensures { λ r. ⌜ r ≡ pointPlace f (drop at (now (points .entry))) ⌝ }
 {
-    let p = locate(f, points, at);
-    if p.inside {
-        let anchor = p.anchor;
-        return Place::At(codes::encode(f.axes, anchor));
-    }
-    Place::Outside
+    let Place::At(x) = place_on(f, points, at, 0) else {
+        return Place::Outside;
+    };
+    let Place::At(y) = place_on(f, points, at, 1) else {
+        return Place::Outside;
+    };
+    let Place::At(z) = place_on(f, points, at, 2) else {
+        return Place::Outside;
+    };
+    Place::At(codes::encode(f.axes, [x, y, z]))
 }
 
 // Writes the codes of the points, up to the first that is outside.
