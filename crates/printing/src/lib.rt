@@ -131,7 +131,7 @@ pub fn list_file(file: &[u8], out: &mut [u8]) -> Text
 
 // Prints the listing of a file, by way of a slice for its text.
 pub fn print_listing(file: &[u8], out: &mut [u8])
-    ensures text { λ _. ⌜ now (out .exit) ≡ left (length (now (out .entry))) (fileText (now (file .entry))) ⌝ }
+    ensures text { λ _. ⌜ now (out .exit) ≡ textLeft (length (now (out .entry))) (fileText (now (file .entry))) ⌝ }
 {
     let text = list_file(file, out);
     match text {
