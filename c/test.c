@@ -65,6 +65,10 @@ void test_names(void)
     for (uint64_t number = 0; number < 18; number++)
         EXPECT(strlen(lohandema_refusal_sentence(number)) > 20);
     EXPECT(strstr(lohandema_refusal_sentence(LOHANDEMA_TREE), "well-formed") != NULL);
+    EXPECT(strstr(lohandema_refusal_sentence(LOHANDEMA_SOURCE), "or is not a number") != NULL);
+    EXPECT(strstr(lohandema_refusal_sentence(LOHANDEMA_POINT), "target or looked-up point") != NULL);
+    EXPECT(strstr(lohandema_refusal_sentence(LOHANDEMA_POINT), "or is not a number") != NULL);
+    EXPECT(strstr(lohandema_refusal_sentence(LOHANDEMA_ROOM), "where the most was lent, raise the limit") != NULL);
 }
 
 int main(void)

@@ -21,12 +21,12 @@
  * (-ffast-math at the link may set subnormal numbers to 0 in the whole program; do not use it.) size_t has 64 bits.
  *
  * Stack that a call uses, beside what the caller needs itself. A thread with less dies at its guard page. These are figures
- * of the compiled code, measured (c/stack.c) and rounded up well; they are not promises.
+ * of the compiled code, measured on Arm (c/stack.c; docs/BENCHMARKS.md, "Stack", says what is known of x86-64) and rounded up
+ * well; they are not promises. pthread_attr_setstacksize takes no less than PTHREAD_STACK_MIN, which is 131,072 bytes on some
+ * systems, and fails below it: pass the larger of the two.
  *   points_to_keys                                                                          288 KiB
- *   build_tree, get_interaction_lists, get_near_work                                         48 KiB
- *   get_neighbours                                                                           32 KiB
- *   get_sourced_cells, point_to_leaf, point_to_key, encode_morton_point, decode_key, touching,
- *   get_center_length, are_adjacent                                                          24 KiB
+ *   get_interaction_lists, get_near_work                                                     48 KiB
+ *   build_tree, get_sourced_cells                                                            24 KiB
  *   every other call                                                                          8 KiB
  */
 #ifndef LOHANDEMA_H
@@ -68,7 +68,7 @@ extern "C" {
 #define LOHANDEMA_MOST_RADIUS 1048576.0
 #define LOHANDEMA_MOST_CENTRE 16777216.0    /* size of a centre coordinate */
 
-/* Bytes of stack for lohandema_points_to_keys, and for any other call. */
+/* Bytes of stack for lohandema_points_to_keys, and for any other call. A thread may need PTHREAD_STACK_MIN instead (above). */
 #define LOHANDEMA_STACK_POINTS_TO_KEYS 294912
 #define LOHANDEMA_STACK 49152
 
@@ -131,9 +131,10 @@ static inline const char *lohandema_refusal_sentence(uint64_t number)
         "the coordinates are not whole points: pass as many for each point as there are axes",
         "there are more than 1048576 points or keys: pass fewer",
         "the order is not from 1 to 64: pass such an order, or no targets",
-        "a source is outside the box or not a number, and the value is its index: take it out or make the box larger",
-        "a point is outside the box or not a number, and the value is its index: take it out or make the box larger",
-        "a lent slice is short, and the value says which: lend a longer one",
+        "a source lies outside the box or is not a number, and the value is its index: enlarge the box or remove the source",
+        "a target or looked-up point lies outside the box or is not a number, and the value is its index: enlarge the box or "
+        "remove the point",
+        "a lent slice is short, and the value says which: lend a longer one, or, where the most was lent, raise the limit",
         "a key or level is not valid, or an anchor lies off its level: pass a level of at most 16 and what belongs to it",
         "the root has no parent and no siblings: ask of a key of level 1 or more",
         "a cell of level 16 has no children: ask of a key of a level below 16",
@@ -154,7 +155,8 @@ static inline const char *lohandema_room_name(size_t value)
 
 /* ---- Keys
  * A key is code * 32768 + level. It is valid where the level is at most 16 and the code below 2^(axes * level); the root is 0.
- * Anchors past the axes are not read, and are 0 in an answer. */
+ * An anchor array has three places, and all three must be there; the values past the axes do not matter, and are 0 in an
+ * answer. */
 
 /* level: the level of a key. Refused 1, 9. */
 lohandema_ended lohandema_get_level(size_t axes, uint64_t key, uint64_t *level);
@@ -192,8 +194,8 @@ lohandema_ended lohandema_get_ancestors(size_t axes, uint64_t key, uint64_t keys
 lohandema_ended lohandema_get_neighbours(size_t axes, uint64_t key, uint64_t keys[LOHANDEMA_MOST_KEYS], size_t *len);
 
 /* ---- Boxes and points
- * A box is its centre (of which the first `axes` numbers are read), its radius and its number of axes. A point is so many
- * coordinates; numbers of a point past the axes are not read. */
+ * A box is its centre, its radius and its number of axes. A centre and a single point are arrays of three places, and all
+ * three must be there; the values past the axes do not matter. */
 
 /* Whether a box may be used. Refused 1, 2. */
 lohandema_ended lohandema_box_outcome(const double centre[3], double radius, size_t axes);
@@ -269,7 +271,8 @@ lohandema_ended lohandema_points_to_keys(const double centre[3], double radius, 
                                          size_t begin_len, const double *points, size_t points_len, uint64_t *output,
                                          size_t output_len, size_t *steps);
 
-/* leaf: the key of the leaf that holds one point. steps: the depth less its level, at most 15. Refused 1, 2, 13, 7, 12, value 0. */
+/* leaf: the key of the leaf that holds one point. steps: the depth less its level, at most 15. Each call checks the whole tree
+ * first; for many points use lohandema_points_to_keys, which checks it once. Refused 1, 2, 13, 7, 12, value 0. */
 lohandema_ended lohandema_point_to_leaf(const double centre[3], double radius, size_t axes, const uint64_t *key,
                                         size_t key_len, const size_t *own, size_t own_len, const size_t *begin,
                                         size_t begin_len, const double point[3], uint64_t *leaf, uint64_t *steps);

@@ -1,5 +1,6 @@
 """The listing program's text, read back and held against the survey that it was made from."""
 
+import os
 import re
 from collections import Counter
 from dataclasses import dataclass
@@ -7,11 +8,17 @@ from dataclasses import dataclass
 import survey_file as house
 from survey_file import Refused
 
+REFUSALS = os.path.join(os.path.dirname(os.path.realpath(__file__)), "refusals.txt")
 # no number of a listing has more than 20 digits
 ONE = "([0-9]{1,20})"
 ROW = "((?: [0-9]{1,20})*)"
+REFUSED = re.compile("refused %s %s" % (ONE, ONE))
 TREE = re.compile("tree" + (" " + ONE) * 5)
 NODE = re.compile(" ".join([ONE] * 3) + " U" + ROW + " V" + ROW)
+
+
+class NoTree(Refused):
+    """A listing that says that the program refused the survey."""
 
 
 @dataclass
@@ -48,6 +55,10 @@ class Listing:
         around = [self.by_key[key] for key in house.ancestors(self.axes, leaf.key)]
         return [(house.level_of(leaf.key), leaf.near)] + [(house.level_of(node.key), node.far) for node in around]
 
+    def near_work_of_rows(self):
+        """The sum over leaves of own sources times sources in the U row."""
+        return sum(node.own * sum(self.by_key[key].own for key in node.near) for node in self.nodes)
+
     def meets_once(self, leaf):
         """Whether a leaf's rows hold each source exactly once: no cell of them lies in another, and none is missing."""
         listed = [key for _, row in self.rows_of(leaf) for key in row if self.held[key]]
@@ -64,6 +75,8 @@ def read_listing(path, survey, survey_name):
     check_survey(survey, survey_name)
     try:
         return checked_listing(path, survey, survey_name)
+    except NoTree:
+        raise
     except Refused as refused:
         raise Refused("%s; make the listing anew with ./listing %s" % (refused, survey_name))
 
@@ -88,12 +101,16 @@ def checked_listing(path, survey, survey_name):
     held = Counter(around for key in keys for around in house.ancestors(axes, key))
     listing = Listing(axes, depth, near_work, nodes, by_key, keys, held)
     check_sources(path, listing, survey_name)
+    if near_work != listing.near_work_of_rows():
+        raise Refused("%s: line 1: near work %d, but the U rows give %d" % (path, near_work, listing.near_work_of_rows()))
     return listing
 
 
 def read_first(path, text, survey, survey_name):
-    if text.startswith("refused"):
-        raise Refused("%s: line 1: the program refused the survey (%s): there is no tree to draw" % (path, text))
+    refused = REFUSED.fullmatch(text)
+    if refused:
+        raise NoTree("%s: no tree to draw, since the program refused %s (%s): %s"
+                     % (path, survey_name, text, meaning(*refused.groups())))
     found = TREE.fullmatch(text)
     if not found:
         raise Refused("%s: line 1: not 'tree' and five numbers" % path)
@@ -104,6 +121,15 @@ def read_first(path, text, survey, survey_name):
         raise Refused("%s: line 1: %d sources, but %s has %d"
                       % (path, figures[3], survey_name, len(survey.sources)))
     return figures
+
+
+def meaning(number, value):
+    """What a refusal says, and its cure: the first line of refusals.txt that fits, as ./listing tells it."""
+    for _, line in house.read_lines(REFUSALS):
+        fields = line.split(" ", 2)
+        if fields[0] == number and fields[1] in (value, "*"):
+            return fields[2].replace("%V", value)
+    return "docs/REFUSALS.md says why"
 
 
 def read_node(path, line, text, axes):

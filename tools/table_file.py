@@ -96,12 +96,22 @@ def is_whole(word):
 def check_whole(path, line, first, axes, option, has_header):
     """Without a choice: that every column may be taken for an axis."""
     if has_header and len(first) not in (1, axes) and not {name.lower() for name in first} <= PLACE_NAMES:
-        some = first[:min(3, len(first) - 1)]
         raise Refused("%s: line %d: the header names %d columns (%s) and none was chosen; say which are the axes, "
-                      "as %s=%s" % (path, line, len(first), ", ".join(first), option, ",".join(some)))
+                      "as %s=%s" % (path, line, len(first), ", ".join(first), option, example(first, axes)))
     if len(first) > 3:
         raise Refused("%s: line %d: %d columns, but at most 3 axes; say which are the axes, as %s=1,2"
                       % (path, line, len(first), option))
+
+
+def example(first, axes):
+    """A choice of columns to show: those with a place's name in theirs, by number if not each can be typed as it is; where
+    there are none, the first numbers."""
+    most = axes or 3
+    found = [i for i, name in enumerate(first, 1) if PLACE_NAMES & set(re.split("[^a-z]+", name.lower()))][:most]
+    names = [first[i - 1] for i in found]
+    if names and all(first.count(name) == 1 and re.fullmatch(r"[\w.-]+", name) for name in names):
+        return ",".join(names)
+    return ",".join(map(str, found or range(1, min(axes or 2, len(first) - 1) + 1)))
 
 
 def is_header(first, columns):

@@ -47,7 +47,8 @@ impl<'a> Columns<'a> {
     }
 }
 
-/// The key of the leaf that holds one point, and the steps climbed to it, at most 15.
+/// The key of the leaf that holds one point, and the steps climbed to it, at most 15. Each call checks the whole tree first;
+/// for many points use [`points_to_keys`], which checks it once.
 ///
 /// # Errors
 /// [`DIMS`](Refusal::DIMS), also if box and tree differ in their axes; [`BOX`](Refusal::BOX); [`SHAPE`](Refusal::SHAPE)

@@ -12,7 +12,7 @@ use crate::refusal::answered;
 #[derive(Clone, Copy, Debug, PartialEq)]
 #[must_use]
 pub struct Bounds {
-    /// The centre; entries past the axes are not read, and are 0 in an answer.
+    /// The centre; values past the axes do not matter, and are 0 in an answer.
     pub centre: [f64; 3],
     /// Half the length of the box along each axis.
     pub radius: f64,

@@ -11,7 +11,7 @@ use std::fmt;
 /// assert_eq!((refusal.number, refusal.value), (Refusal::SOURCE, 1));
 /// assert_eq!(
 ///     refusal.to_string(),
-///     "source 1 lies outside the box: enlarge the box or remove the source (refused 6 SOURCE)"
+///     "source 1 lies outside the box or is not a number: enlarge the box or remove the source (refused 6 SOURCE)"
 /// );
 /// ```
 #[derive(Clone, Copy, Debug, PartialEq, Eq, Hash)]
@@ -39,9 +39,10 @@ impl Refusal {
     pub const COUNT: u64 = 4;
     /// The order is not 1 to 64, and targets are used.
     pub const ORDER: u64 = 5;
-    /// A source is outside the box; the value is the lowest index of such.
+    /// A source is outside the box or not a number; the value is the lowest index of such.
     pub const SOURCE: u64 = 6;
-    /// A target or a point is outside the box; the value is the lowest index of such, 0 for a single point.
+    /// A target or a looked-up point is outside the box or not a number; the value is the lowest index of such, 0 for a
+    /// single point.
     pub const POINT: u64 = 7;
     /// A lent slice is short. The value says which: 1 work, 2 order, 3 a node column, 4 U starts, 5 V starts, 6 U keys,
     /// 7 V keys, 8 the output of a lookup or the starts or indices of a grouping, 9 sourced cells.
@@ -82,21 +83,23 @@ impl Refusal {
             }
             2 => "the order column is short: lend one entry for each source",
             3 => {
-                "a node column is short: lend one entry for each node, of which 1048576 count, or raise the limit of a cell"
+                "a node column is short: lend one entry for each node, or, where the most that count (1048576) were lent, raise the limit of a cell"
             }
             4 => "the U starts are short: lend one entry more than there are nodes",
             5 => "the V starts are short: lend one entry more than there are nodes",
             6 => {
-                "the U keys are short: lend more, of which 16777216 count, or raise the limit of a cell"
+                "the U keys are short: lend more, or, where the most that count (16777216) were lent, raise the limit of a cell"
             }
             7 => {
-                "the V keys are short: lend more, of which 16777216 count, or raise the limit of a cell"
+                "the V keys are short: lend more, or, where the most that count (16777216) were lent, raise the limit of a cell"
             }
             8 => {
                 "the lookup output or the grouping's starts or indices are short: lend one entry for each point, and one start more than there are nodes"
             }
             9 => "the sourced cells are short: lend one entry for each node",
-            _ => "a lent slice is short: lend a longer one",
+            _ => {
+                "a lent slice is short: lend a longer one, or, where the most was lent, raise the limit of a cell"
+            }
         }
     }
 
@@ -141,11 +144,11 @@ impl fmt::Display for Refusal {
         match self.number {
             Refusal::SOURCE => write!(
                 f,
-                "source {value} lies outside the box: enlarge the box or remove the source"
+                "source {value} lies outside the box or is not a number: enlarge the box or remove the source"
             ),
             Refusal::POINT => write!(
                 f,
-                "point {value} lies outside the box: enlarge the box or remove the point"
+                "target or looked-up point {value} lies outside the box or is not a number: enlarge the box or remove the point"
             ),
             Refusal::UNSTORED => write!(
                 f,

@@ -199,7 +199,8 @@ impl Tree {
         Ok((1..self.key.len()).filter(is_leaf).collect())
     }
 
-    /// The key of the leaf that holds one point, and the steps climbed to it.
+    /// The key of the leaf that holds one point, and the steps climbed to it. Each call checks the whole tree first; for
+    /// many points use [`points_to_keys`](Tree::points_to_keys), which checks it once.
     ///
     /// # Errors
     /// As [`lent::point_to_leaf`] with the tree's own box.

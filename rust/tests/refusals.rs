@@ -53,9 +53,41 @@ fn an_index_is_told() {
         assert!(sentence(Refusal::new(number, 17)).0.contains(" 17"));
     }
     let text = Refusal::new(Refusal::SOURCE, 17).to_string();
-    let right =
-        "source 17 lies outside the box: enlarge the box or remove the source (refused 6 SOURCE)";
+    let right = "source 17 lies outside the box or is not a number: enlarge the box or remove the source (refused 6 SOURCE)";
     assert_eq!(text, right);
+}
+
+/// A NaN is refused by the numbers of what lies outside, so their sentences fit it; and 7 fits a target of a build.
+#[test]
+fn a_nan_is_told_in_a_sentence_that_fits() {
+    let bounds = Bounds::new(&[4.0], 4.0);
+    let source = Tree::build(Asked::new(&bounds, &[0.5, f64::NAN], 1)).unwrap_err();
+    assert_eq!((source.number, source.value), (Refusal::SOURCE, 1));
+    let point = bounds.point_to_key(&[f64::NAN], 3).unwrap_err();
+    assert_eq!((point.number, point.value), (Refusal::POINT, 0));
+    for refusal in [source, point] {
+        let (cause, _) = sentence(refusal);
+        assert!(
+            cause.ends_with("lies outside the box or is not a number"),
+            "{cause}"
+        );
+    }
+    let (cause, cure) = sentence(point);
+    assert!(cause.starts_with("target or looked-up point 0 "), "{cause}");
+    assert_eq!(cure, "enlarge the box or remove the point");
+}
+
+/// The cures of a short slice whose length is not known before: a longer one, or a larger limit.
+#[test]
+fn room_has_both_cures() {
+    for value in [3, 6, 7, 12] {
+        let (_, cure) = sentence(Refusal::new(Refusal::ROOM, value));
+        assert!(
+            cure.starts_with("lend ") && cure.contains("where the most"),
+            "{cure}"
+        );
+        assert!(cure.ends_with("raise the limit of a cell"), "{cure}");
+    }
 }
 
 #[test]

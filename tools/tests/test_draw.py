@@ -143,7 +143,7 @@ class Draw(ToolTest):
         text = self.read("example.listing").decode()
         bad = {
             "": "in: empty",
-            "refused 6 3\n": "in: line 1: the program refused the survey (refused 6 3)",
+            "refused 6\n": "in: line 1: not 'tree' and five numbers",
             "tree 1 9 3 4\n": "in: line 1: not 'tree' and five numbers",
             text.replace("tree 1", "tree 2"): "in: line 1: 2 axes, but example.survey has 1",
             text.replace("3 4 8", "3 5 8"): "in: line 1: 5 sources, but example.survey has 4",
@@ -159,11 +159,28 @@ class Draw(ToolTest):
             text.replace("tree 1 9 3", "tree 1 9 4"): "in: line 1: depth 4, but the deepest node has level 3",
             text.replace("8 229379 1", "8 163843 1"): "in: line 10: key 163843 is not in the order",
             text.replace("3 2 0", "3 32770 0"): "in: line 7: the parent of key 3 is not listed",
+            text.replace("3 4 8", "3 4 9"): "in: line 1: near work 9, but the U rows give 8; make the listing anew",
+            text.replace("6 32771 1 U 3 ", "6 32771 1 U "): "in: line 1: near work 8, but the U rows give 7",
             text.replace("5 3 1", "5 3 2"): "in: line 7: 2 own sources, but 1 of example.survey lie there",
         }
         for content, message in bad.items():
             self.write("in", content)
             self.refused(message, "draw", "example.survey", "in", "-o", "out")
+
+    def test_refused_listing(self):
+        """A listing that is a refusal: what the refusal means, from refusals.txt, and not that it be made anew."""
+        means = {
+            "6 3": "source 3, counted from 0, is outside the box or is not a number; ",
+            "8 3": "the tree has more than 2048 nodes, which is all that the program has room for; make the file anew with ",
+            "8 77": "the program has too little room for the answer; ",
+            "99 0": "docs/REFUSALS.md says why",
+        }
+        for refusal, meaning in means.items():
+            self.write("in", "refused %s\n" % refusal)
+            self.refused("draw: in: no tree to draw, since the program refused example.survey (refused %s): %s"
+                         % (refusal, meaning), "draw", "example.survey", "in", "-o", "out")
+            told = self.run_tool("draw", "example.survey", "in", "-o", "out").stderr
+            self.assertNotIn("listing anew", told)
 
     def test_bad_choice(self):
         bad = {
@@ -177,6 +194,7 @@ class Draw(ToolTest):
             "--slice w": "the axis is x, y or z",
             "--slice z=low": "'low' is not a number; give coordinates as 2.5",
             "--at=1,here": "'here' is not a number",
+            "-o -": "-o -: nothing is written to standard output; name a file",
             "-o example.survey": "example.survey: would be written over example.survey; name another file",
         }
         for arguments, message in bad.items():

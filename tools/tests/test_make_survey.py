@@ -6,7 +6,7 @@ import struct
 import subprocess
 
 import survey_file as house
-from common import SAMPLES, TOOLS, ToolTest
+from common import ROOT, SAMPLES, TOOLS, ToolTest
 
 # how each sample survey is made; samples/README.md says the same
 SURVEYS = {
@@ -117,12 +117,20 @@ class MakeSurvey(ToolTest):
         self.write("two.csv", "distance,mag_nT\n1,50000\n")
         self.write("wide.csv", "a,b,b,d,e\n1,2,3,4,5\n")
         self.write("t.csv", "x,y\n1,2\n")
+        self.write("lines.csv", "line,when,utm_easting,utm_northing,mag_nT\n7,12:00,1,2,50000\n")
+        self.write("units.csv", "line,Easting (m),Northing (m)\n7,1,2\n")
+        self.write("twice.csv", "line,x,x,mag_nT\n7,1,2,50000\n")
         names = "the header names %d columns (%s) and none was chosen; say which are the axes, as --columns=%s"
         bad = {
             "s.csv": "s.csv: line 1: " + names % (3, "easting, northing, mag_nT", "easting,northing"),
             "s.csv --centre=0,0 --radius=9": names % (3, "easting, northing, mag_nT", "easting,northing"),
-            "two.csv": "two.csv: line 1: " + names % (2, "distance, mag_nT", "distance"),
-            "wide.csv": names % (5, "a, b, b, d, e", "a,b,b"),
+            "two.csv": "two.csv: line 1: " + names % (2, "distance, mag_nT", "1"),
+            "wide.csv": names % (5, "a, b, b, d, e", "1,2"),
+            "lines.csv": names % (5, "line, when, utm_easting, utm_northing, mag_nT", "utm_easting,utm_northing"),
+            "lines.csv --centre=0 --radius=9":
+                names % (5, "line, when, utm_easting, utm_northing, mag_nT", "utm_easting"),
+            "units.csv": names % (3, "line, Easting (m), Northing (m)", "2,3"),
+            "twice.csv": names % (4, "line, x, x, mag_nT", "2,3"),
             "s.csv --columns=easting,north":
                 "no column is called 'north'; choose with --columns from easting, northing, mag_nT",
             "s.csv --columns=1,4": "s.csv: line 1: no column 4; --columns takes 1 to 3",
@@ -137,12 +145,40 @@ class MakeSurvey(ToolTest):
             "t.csv s.csv": "s.csv: line 1: the header names 3 columns",
             "t.csv wide.csv --target-columns=1,2,4": "wide.csv: 3 axes, but t.csv has 2; make them agree",
             "t.csv --target-columns=1,2": "--target-columns goes with TARGETS.csv",
-            "--csv t.csv --columns=1,2": "go with SOURCES.csv, not with --csv",
+            "--csv t.csv --columns=1,2": "--csv writes a survey file as it is, without --columns; leave that out",
             "t.csv --columns=1,2 --centre=0 --radius=9": "--centre: 1 axis, but t.csv has 2",
             "t.csv --centre=0,a --radius=9": "--centre: 'a' is not a number; write one to three with commas between",
         }
         for arguments, message in bad.items():
             self.refused(message, "make-survey", *arguments.split(), "-o", "out")
+
+    def test_options_beside_csv(self):
+        """--csv refuses each option that only the making of a survey file has a use for, with status 2."""
+        self.copy_samples()
+        said = "--csv writes a survey file as it is, without %s; leave that out, or give SOURCES.csv and no --csv\n"
+        given = {"--limit 64": "--limit", "--limit 0": "--limit", "--order 1": "--order", "--centre=0": "--centre",
+                 "--radius=9": "--radius", "--keep-empty": "--keep-empty", "--as-is": "--as-is",
+                 "--target-columns=1": "--target-columns", "--centre=0 --radius=9 --limit 3": "--centre, --radius, --limit"}
+        for arguments, names in given.items():
+            command = ["make-survey", "--csv", "example.survey", "-o", "out", *arguments.split()]
+            self.refused(said % names, *command)
+            self.assertEqual(self.run_tool(*command).returncode, 2)
+        self.done("make-survey", "--csv", "example.survey", "-o", "out")
+
+    def test_no_standard_output(self):
+        """A file to be written is not -, which would be taken for a file of that name."""
+        self.copy_samples()
+        for arguments in ("example.csv -o -", "--csv example.survey -o -", "--csv example.survey -o out -t -"):
+            self.refused(" -: nothing is written to standard output; name a file", "make-survey", *arguments.split())
+            self.assertEqual(self.run_tool("make-survey", *arguments.split()).returncode, 2)
+        self.done("make-survey", "example.csv", "-o", "./-")
+
+    def test_version(self):
+        with open(os.path.join(ROOT, "VERSION")) as file:
+            version = file.read()
+        for tool in ("make-survey", "draw"):
+            result = self.run_tool(tool, "--version")
+            self.assertEqual((result.returncode, result.stdout, result.stderr), (0, version, ""))
 
     def test_box_from_extents(self):
         self.write("s.csv", "-0.5,10\n3.25,10.5\n")

@@ -22,6 +22,24 @@ class Shared(unittest.TestCase):
             with open(os.path.join(ROOT, name), encoding="utf-8") as file:
                 self.assertNotRegex(file.read(), "(?i)document 0", name)
 
+    def test_cures(self):
+        """The sentences of 6, 7 and 8 have the same cures in C, in Rust and for the listing."""
+        cures = {
+            "include/lohandema.h": ["enlarge the box or remove the source", "target or looked-up point lies outside the box or "
+                                    "is not a number", "where the most was lent, raise the limit"],
+            "rust/src/refusal.rs": ["enlarge the box or remove the source", "enlarge the box or remove the point",
+                                    "target or looked-up point {value} lies outside the box or is not a number",
+                                    "where the most was lent, raise the limit"],
+            "tools/refusals.txt": ["6 * source %V, counted from 0, is outside the box or is not a number; take that reading",
+                                   "7 * target %V, counted from 0, is outside the box or is not a number; take that target",
+                                   "or make the file anew with a larger box", "make the file anew with a larger --limit"],
+        }
+        for name, parts in cures.items():
+            with open(os.path.join(ROOT, name), encoding="utf-8") as file:
+                text = file.read()
+            for part in parts:
+                self.assertIn(part, text, name)
+
     def test_keys(self):
         """The keys that docs/RULES.md names."""
         self.assertEqual(house.key_of([3, 5], 3), 1277955)
