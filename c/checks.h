@@ -35,6 +35,7 @@ void test_keys(void);
 void test_points(void);
 void test_build(void);
 void test_trees(void);
+void test_totals(void);
 void test_null(void);
 
 #endif

@@ -12,7 +12,7 @@ static const double sources[AXES * SOURCES] = {0.5, 1.5, 6.5, 7.5};
 
 /* A tree: columns with room for so many nodes, of which the first `nodes` are used. */
 typedef struct {
-    size_t room, nodes, *own, *begin, *order;
+    size_t room, nodes, *own, *begin, *total, *order;
     uint64_t *key, depth;
 } tree;
 
@@ -47,7 +47,7 @@ static void stop_if_refused(lohandema_ended ended)
 /* Builds, with more room for nodes as long as that is short. */
 static tree build(void)
 {
-    tree t = {4, 0, NULL, NULL, (size_t *)slice(NULL, SOURCES), NULL, 0};
+    tree t = {4, 0, NULL, NULL, NULL, (size_t *)slice(NULL, SOURCES), NULL, 0};
     uint64_t *work = (uint64_t *)slice(NULL, 2 * SOURCES);
     lohandema_ended ended;
     do {
@@ -55,9 +55,10 @@ static tree build(void)
         t.key = (uint64_t *)slice(t.key, t.room);
         t.own = (size_t *)slice(t.own, t.room);
         t.begin = (size_t *)slice(t.begin, t.room);
+        t.total = (size_t *)slice(t.total, t.room);
         ended = lohandema_build_tree(centre, radius, AXES, sources, AXES * SOURCES, NULL, 0, 1, 1, false, false, work,
-                                     2 * SOURCES, t.order, SOURCES, t.key, t.room, t.own, t.room, t.begin, t.room, &t.nodes,
-                                     &t.depth);
+                                     2 * SOURCES, t.order, SOURCES, t.key, t.room, t.own, t.room, t.begin, t.room, t.total,
+                                     t.room, &t.nodes, &t.depth);
     } while (ended.number == LOHANDEMA_ROOM && ended.value == LOHANDEMA_ROOM_NODES && t.room < LOHANDEMA_MOST_NODES);
     free(work);
     stop_if_refused(ended);
@@ -75,9 +76,9 @@ static void make_lists(const tree *t, list *u, list *v)
         room *= 2;
         u->keys = (uint64_t *)slice(u->keys, room);
         v->keys = (uint64_t *)slice(v->keys, room);
-        ended = lohandema_get_interaction_lists(AXES, t->key, t->nodes, t->own, t->nodes, t->begin, t->nodes, u->starts,
-                                                t->nodes + 1, u->keys, room, v->starts, t->nodes + 1, v->keys, room, &u_len,
-                                                &v_len);
+        ended = lohandema_get_interaction_lists(AXES, t->key, t->nodes, t->own, t->nodes, t->begin, t->nodes, t->total,
+                                                t->nodes, u->starts, t->nodes + 1, u->keys, room, v->starts, t->nodes + 1,
+                                                v->keys, room, &u_len, &v_len);
     } while (ended.number == LOHANDEMA_ROOM && room < LOHANDEMA_MOST_LIST_KEYS);
     stop_if_refused(ended);
 }
@@ -87,8 +88,8 @@ static uint64_t near_work(const tree *t, const list *u)
 {
     size_t room = u->starts[t->nodes], *starts = (size_t *)slice(NULL, t->nodes + 1);
     uint64_t work, *keys = (uint64_t *)slice(NULL, room);
-    stop_if_refused(lohandema_get_near_work(AXES, t->key, t->nodes, t->own, t->nodes, t->begin, t->nodes, starts,
-                                            t->nodes + 1, keys, room, &work));
+    stop_if_refused(lohandema_get_near_work(AXES, t->key, t->nodes, t->own, t->nodes, t->begin, t->nodes, t->total,
+                                            t->nodes, starts, t->nodes + 1, keys, room, &work));
     free(starts);
     free(keys);
     return work;
@@ -113,8 +114,8 @@ int main(void)
         print_row('V', &v, node);
         printf("\n");
     }
-    void *slices[8] = {t.key, t.own, t.begin, t.order, u.starts, u.keys, v.starts, v.keys};
-    for (size_t i = 0; i < 8; i++)
+    void *slices[9] = {t.key, t.own, t.begin, t.total, t.order, u.starts, u.keys, v.starts, v.keys};
+    for (size_t i = 0; i < 9; i++)
         free(slices[i]);
     return 0;
 }

@@ -17,12 +17,12 @@ static const double centre[3] = {32.0, 32.0, 32.0};
 static size_t axes;
 static double sources[3 * POINTS], targets[3 * POINTS];
 static uint64_t work[3 * POINTS], key[NODES], u_keys[KEYS], v_keys[KEYS], output[POINTS], cells[NODES];
-static size_t order[POINTS], own[NODES], begin[NODES], u_starts[NODES + 1], v_starts[NODES + 1], starts[NODES + 1];
-static size_t indices[POINTS], nodes;
+static size_t order[POINTS], own[NODES], begin[NODES], total[NODES], u_starts[NODES + 1], v_starts[NODES + 1];
+static size_t starts[NODES + 1], indices[POINTS], nodes;
 static lohandema_ended last;
 
 #define BOX centre, 32.0, axes
-#define COLUMNS key, nodes, own, nodes, begin, nodes
+#define COLUMNS key, nodes, own, nodes, begin, nodes, total, nodes
 
 static void nothing(void)
 {
@@ -32,7 +32,7 @@ static void build_tree(void)
 {
     uint64_t depth;
     last = lohandema_build_tree(BOX, sources, axes * POINTS, targets, axes * POINTS, 2, 1, true, true, work, 3 * POINTS,
-                                order, POINTS, key, NODES, own, NODES, begin, NODES, &nodes, &depth);
+                                order, POINTS, key, NODES, own, NODES, begin, NODES, total, NODES, &nodes, &depth);
 }
 
 static void is_well_formed(void)

@@ -15,16 +15,16 @@ typedef struct {
     const double *sources, *targets;
     size_t sources_len, targets_len, limit, order;
     bool keep_empty, refine;
-    size_t work_len, indices_len, key_len, own_len, begin_len;
+    size_t work_len, indices_len, key_len, own_len, begin_len, total_len;
 } asked;
 
 static uint64_t work[ROOM], key[ROOM], depth;
-static size_t indices[ROOM], own[ROOM], begin[ROOM], nodes;
+static size_t indices[ROOM], own[ROOM], begin[ROOM], total[ROOM], nodes;
 
 /* The example: four sources on one axis, limit 1, and more room than it needs. */
 static asked example(void)
 {
-    asked a = {4.0, 1, four, NULL, 4, 0, 1, 1, false, true, 20, 21, 22, 23, 24};
+    asked a = {4.0, 1, four, NULL, 4, 0, 1, 1, false, true, 20, 21, 22, 23, 24, 25};
     return a;
 }
 
@@ -35,24 +35,27 @@ static lohandema_ended build(asked a)
     fill_with_junk(indices, sizeof indices);
     fill_with_junk(own, sizeof own);
     fill_with_junk(begin, sizeof begin);
+    fill_with_junk(total, sizeof total);
     nodes = 77;
     depth = 77;
     return lohandema_build_tree(centre, a.radius, a.axes, a.sources, a.sources_len, a.targets, a.targets_len, a.limit,
                                 a.order, a.keep_empty, a.refine, work, a.work_len, indices, a.indices_len, key, a.key_len,
-                                own, a.own_len, begin, a.begin_len, &nodes, &depth);
+                                own, a.own_len, begin, a.begin_len, total, a.total_len, &nodes, &depth);
 }
 
 #define BUILD_REFUSED(a, number, value)                                                                                      \
     do {                                                                                                                     \
         ENDED(build(a), (number), (value));                                                                                  \
         EXPECT(nodes == 0 && depth == 0 && ZEROED(work, (a).work_len) && ZEROED(indices, (a).indices_len));                  \
-        EXPECT(ZEROED(key, (a).key_len) && ZEROED(own, (a).own_len) && ZEROED(begin, (a).begin_len));                        \
+        EXPECT(ZEROED(key, (a).key_len) && ZEROED(own, (a).own_len));                                                        \
+        EXPECT(ZEROED(begin, (a).begin_len) && ZEROED(total, (a).total_len));                                                \
     } while (0)
 
 static void known_tree(void)
 {
     const uint64_t keys[9] = {0, 1, 32769, 2, 98306, 3, 32771, 196611, 229379};
-    const size_t owns[9] = {0, 0, 0, 0, 0, 1, 1, 1, 1}, begins[9] = {0, 0, 0, 0, 0, 0, 1, 2, 3}, order[4] = {0, 1, 2, 3};
+    const size_t owns[9] = {0, 0, 0, 0, 0, 1, 1, 1, 1}, begins[9] = {0, 0, 0, 0, 0, 0, 1, 2, 3};
+    const size_t totals[9] = {4, 2, 2, 2, 2, 1, 1, 1, 1}, order[4] = {0, 1, 2, 3};
     asked a = example();
     ENDED(build(a), 0, 0);
     EXPECT(nodes == 9 && depth == 3 && REST_ZEROED(work, 0, a.work_len));
@@ -60,11 +63,12 @@ static void known_tree(void)
     EXPECT(STARTS_WITH(key, keys) && REST_ZEROED(key, 9, a.key_len));
     EXPECT(STARTS_WITH(own, owns) && REST_ZEROED(own, 9, a.own_len));
     EXPECT(STARTS_WITH(begin, begins) && REST_ZEROED(begin, 9, a.begin_len));
+    EXPECT(STARTS_WITH(total, totals) && REST_ZEROED(total, 9, a.total_len));
     a.work_len = 8;
     a.indices_len = 4;
-    a.key_len = a.own_len = a.begin_len = 9;
+    a.key_len = a.own_len = a.begin_len = a.total_len = 9;
     ENDED(build(a), 0, 0);
-    EXPECT(nodes == 9 && STARTS_WITH(key, keys));
+    EXPECT(nodes == 9 && STARTS_WITH(key, keys) && STARTS_WITH(total, totals));
 }
 
 static void known_flags(void)
@@ -72,14 +76,14 @@ static void known_flags(void)
     asked a = example();
     a.keep_empty = true;
     ENDED(build(a), 0, 0);
-    EXPECT(nodes == 11 && depth == 3);
+    EXPECT(nodes == 11 && depth == 3 && total[0] == 4);
     a.keep_empty = false;
     a.limit = SIZE_MAX;
     ENDED(build(a), 0, 0);
     EXPECT(nodes == 3 && depth == 1);
     a.sources_len = 0;
     ENDED(build(a), 0, 0);
-    EXPECT(nodes == 1 && depth == 1 && key[0] == 0 && own[0] == 0);
+    EXPECT(nodes == 1 && depth == 1 && key[0] == 0 && own[0] == 0 && total[0] == 0);
 }
 
 /* With no source about, a cell with more than 32 targets splits; without both flags targets are not looked at. */
@@ -159,6 +163,12 @@ static void refused_by_room(void)
     a = example();
     a.begin_len = 8;
     BUILD_REFUSED(a, LOHANDEMA_ROOM, LOHANDEMA_ROOM_NODES);
+    a = example();
+    a.total_len = 8;
+    BUILD_REFUSED(a, LOHANDEMA_ROOM, LOHANDEMA_ROOM_NODES);
+    a.sources_len = 0;
+    a.total_len = 0;
+    BUILD_REFUSED(a, LOHANDEMA_ROOM, LOHANDEMA_ROOM_NODES);
 }
 
 static void refused_by_count(void)
@@ -188,8 +198,11 @@ static void refused_by_most_nodes(void)
     double *points = (double *)calloc(3 * POINTS, 8);
     uint64_t *codes = (uint64_t *)calloc(2 * POINTS, 8), *keys = (uint64_t *)malloc(bytes), state = 88172645463325252u;
     size_t *numbers = (size_t *)calloc(POINTS, 8), *owns = (size_t *)malloc(bytes), *begins = (size_t *)malloc(bytes);
-    if (points == NULL || codes == NULL || keys == NULL || numbers == NULL || owns == NULL || begins == NULL)
-        abort();
+    size_t *totals = (size_t *)malloc(bytes);
+    void *slices[7] = {points, codes, keys, numbers, owns, begins, totals};
+    for (size_t i = 0; i < 7; i++)
+        if (slices[i] == NULL)
+            abort();
     for (size_t i = 0; i < 3 * POINTS; i++) {
         state = state * 6364136223846793005u + 1442695040888963407u;
         points[i] = (double)(state >> 11) / 9007199254740992.0 * 7.99;
@@ -197,13 +210,14 @@ static void refused_by_most_nodes(void)
     fill_with_junk(keys, bytes);
     fill_with_junk(owns, bytes);
     fill_with_junk(begins, bytes);
+    fill_with_junk(totals, bytes);
     ENDED(lohandema_build_tree(centre, 4.0, 3, points, 3 * POINTS, NULL, 0, 0, 1, true, false, codes, 2 * POINTS, numbers,
-                               POINTS, keys, room, owns, room, begins, room, &nodes, &depth),
+                               POINTS, keys, room, owns, room, begins, room, totals, room, &nodes, &depth),
           LOHANDEMA_ROOM, LOHANDEMA_ROOM_NODES);
-    EXPECT(nodes == 0 && depth == 0 && all_zero(keys, bytes) && all_zero(owns, bytes) && all_zero(begins, bytes));
+    EXPECT(nodes == 0 && depth == 0 && all_zero(keys, bytes) && all_zero(owns, bytes));
+    EXPECT(all_zero(begins, bytes) && all_zero(totals, bytes));
     EXPECT(all_zero(codes, 2 * POINTS * 8) && all_zero(numbers, POINTS * 8));
-    void *slices[6] = {points, codes, keys, numbers, owns, begins};
-    for (size_t i = 0; i < 6; i++)
+    for (size_t i = 0; i < 7; i++)
         free(slices[i]);
 }
 

@@ -4,46 +4,55 @@
 /* The smallest tree: a root and nothing else. And the tree of one axis with a source in each half. */
 static const double centre[3] = {4.0, 4.0, 4.0}, point[3] = {1.0, 1.0, 1.0}, halves[2] = {1.0, 7.0};
 static const uint64_t root[1] = {0}, key[3] = {0, 1, 32769};
-static const size_t none[1] = {0}, own[3] = {0, 1, 1}, begin[3] = {0, 0, 1};
+static const size_t none[1] = {0}, own[3] = {0, 1, 1}, begin[3] = {0, 0, 1}, total[3] = {2, 1, 1};
+
+#define ROOT root, 1, none, 1, none, 1, none, 1
+#define COLUMNS key, 3, own, 3, begin, 3, total, 3
+#define NO_COLUMNS NULL, 0, NULL, 0, NULL, 0, NULL, 0
 
 static void builds(void)
 {
     uint64_t work[4] = {0}, keys[4] = {0}, depth = 7;
-    size_t indices[4] = {0}, owns[4] = {0}, begins[4] = {0}, nodes = 7;
+    size_t indices[4] = {0}, owns[4] = {0}, begins[4] = {0}, totals[4] = {0}, nodes = 7;
     ENDED(lohandema_build_tree(centre, 4.0, 1, NULL, 0, NULL, 0, 1, 1, true, true, NULL, 0, NULL, 0, keys, 3, owns, 3, begins,
-                               3, &nodes, &depth),
+                               3, totals, 3, &nodes, &depth),
           0, 0);
     EXPECT(nodes == 3 && depth == 1);
-    ENDED(lohandema_build_tree(centre, 4.0, 3, NULL, 0, NULL, 0, 1, 1, false, false, NULL, 0, NULL, 0, NULL, 0, NULL, 0, NULL,
-                               0, &nodes, &depth),
+    ENDED(lohandema_build_tree(centre, 4.0, 3, NULL, 0, NULL, 0, 1, 1, false, false, NULL, 0, NULL, 0, NO_COLUMNS, &nodes,
+                               &depth),
           LOHANDEMA_ROOM, LOHANDEMA_ROOM_NODES);
     EXPECT(nodes == 0 && depth == 0);
     ENDED(lohandema_build_tree(centre, 4.0, 1, halves, 2, NULL, 0, 1, 1, false, false, NULL, 0, indices, 2, keys, 3, owns, 3,
-                               begins, 3, &nodes, &depth),
+                               begins, 3, totals, 3, &nodes, &depth),
           LOHANDEMA_ROOM, LOHANDEMA_ROOM_WORK);
     ENDED(lohandema_build_tree(centre, 4.0, 1, halves, 2, NULL, 0, 1, 1, false, false, work, 4, NULL, 0, keys, 3, owns, 3,
-                               begins, 3, &nodes, &depth),
+                               begins, 3, totals, 3, &nodes, &depth),
           LOHANDEMA_ROOM, LOHANDEMA_ROOM_ORDER);
     ENDED(lohandema_build_tree(centre, 4.0, 1, halves, 2, NULL, 0, 1, 1, false, false, work, 4, indices, 2, NULL, 0, owns, 3,
-                               begins, 3, &nodes, &depth),
+                               begins, 3, totals, 3, &nodes, &depth),
           LOHANDEMA_ROOM, LOHANDEMA_ROOM_NODES);
     ENDED(lohandema_build_tree(centre, 4.0, 1, halves, 2, NULL, 0, 1, 1, false, false, work, 4, indices, 2, keys, 3, NULL, 0,
-                               begins, 3, &nodes, &depth),
+                               begins, 3, totals, 3, &nodes, &depth),
           LOHANDEMA_ROOM, LOHANDEMA_ROOM_NODES);
     ENDED(lohandema_build_tree(centre, 4.0, 1, halves, 2, NULL, 0, 1, 1, false, false, work, 4, indices, 2, keys, 3, owns, 3,
-                               NULL, 0, &nodes, &depth),
+                               NULL, 0, totals, 3, &nodes, &depth),
           LOHANDEMA_ROOM, LOHANDEMA_ROOM_NODES);
-    ENDED(lohandema_build_tree(centre, 0.0, 1, NULL, 0, NULL, 0, 1, 1, true, true, NULL, 0, NULL, 0, NULL, 0, NULL, 0, NULL,
-                               0, &nodes, &depth),
+    ENDED(lohandema_build_tree(centre, 4.0, 1, halves, 2, NULL, 0, 1, 1, false, false, work, 4, indices, 2, keys, 3, owns, 3,
+                               begins, 3, NULL, 0, &nodes, &depth),
+          LOHANDEMA_ROOM, LOHANDEMA_ROOM_NODES);
+    ENDED(lohandema_build_tree(centre, 0.0, 1, NULL, 0, NULL, 0, 1, 1, true, true, NULL, 0, NULL, 0, NO_COLUMNS, &nodes,
+                               &depth),
           LOHANDEMA_BOX, 0);
 }
 
 static void columns(void)
 {
     size_t start = 7;
-    EXPECT(!lohandema_is_well_formed(1, NULL, 0, NULL, 0, NULL, 0));
-    EXPECT(!lohandema_is_well_formed(1, key, 3, NULL, 0, begin, 3) && !lohandema_is_well_formed(1, key, 3, own, 3, NULL, 0));
-    EXPECT(!lohandema_is_well_formed(1, NULL, 0, own, 3, begin, 3));
+    EXPECT(lohandema_is_well_formed(1, COLUMNS) && !lohandema_is_well_formed(1, NO_COLUMNS));
+    EXPECT(!lohandema_is_well_formed(1, NULL, 0, own, 3, begin, 3, total, 3));
+    EXPECT(!lohandema_is_well_formed(1, key, 3, NULL, 0, begin, 3, total, 3));
+    EXPECT(!lohandema_is_well_formed(1, key, 3, own, 3, NULL, 0, total, 3));
+    EXPECT(!lohandema_is_well_formed(1, key, 3, own, 3, begin, 3, NULL, 0));
     EXPECT(lohandema_depth_of(NULL, 0) == 1);
     EXPECT(lohandema_leaf_sources(NULL, 0, NULL, 0, NULL, 0, 0, &start) == 0 && start == 0);
     EXPECT(lohandema_leaf_sources(own, 3, begin, 3, NULL, 0, 1, &start) == 0 && start == 0);
@@ -55,16 +64,20 @@ static void lookups(void)
 {
     uint64_t output[2] = {7, 7}, leaf = 7, climbed = 7;
     size_t steps = 7;
-    ENDED(lohandema_points_to_keys(centre, 4.0, 1, NULL, 0, NULL, 0, NULL, 0, NULL, 0, NULL, 0, &steps), LOHANDEMA_TREE, 0);
-    ENDED(lohandema_points_to_keys(centre, 4.0, 1, key, 3, own, 3, begin, 3, NULL, 0, NULL, 0, &steps), 0, 0);
+    ENDED(lohandema_points_to_keys(centre, 4.0, 1, NO_COLUMNS, NULL, 0, NULL, 0, &steps), LOHANDEMA_TREE, 0);
+    ENDED(lohandema_points_to_keys(centre, 4.0, 1, COLUMNS, NULL, 0, NULL, 0, &steps), 0, 0);
     EXPECT(steps == 0);
-    ENDED(lohandema_points_to_keys(centre, 4.0, 1, key, 3, own, 3, begin, 3, NULL, 0, output, 2, &steps), 0, 0);
+    ENDED(lohandema_points_to_keys(centre, 4.0, 1, COLUMNS, NULL, 0, output, 2, &steps), 0, 0);
     EXPECT(all_zero(output, sizeof output));
-    ENDED(lohandema_points_to_keys(centre, 4.0, 1, key, 3, own, 3, begin, 3, halves, 2, NULL, 0, &steps), LOHANDEMA_ROOM,
+    ENDED(lohandema_points_to_keys(centre, 4.0, 1, COLUMNS, halves, 2, NULL, 0, &steps), LOHANDEMA_ROOM,
           LOHANDEMA_ROOM_POINTS);
-    ENDED(lohandema_points_to_keys(centre, 4.0, 1, key, 3, NULL, 0, begin, 3, halves, 2, NULL, 0, &steps), LOHANDEMA_TREE, 0);
-    ENDED(lohandema_points_to_keys(centre, 4.0, 1, key, 3, own, 3, NULL, 0, halves, 2, NULL, 0, &steps), LOHANDEMA_TREE, 0);
-    ENDED(lohandema_point_to_leaf(centre, 4.0, 1, NULL, 0, NULL, 0, NULL, 0, point, &leaf, &climbed), LOHANDEMA_TREE, 0);
+    ENDED(lohandema_points_to_keys(centre, 4.0, 1, key, 3, NULL, 0, begin, 3, total, 3, halves, 2, NULL, 0, &steps),
+          LOHANDEMA_TREE, 0);
+    ENDED(lohandema_points_to_keys(centre, 4.0, 1, key, 3, own, 3, NULL, 0, total, 3, halves, 2, NULL, 0, &steps),
+          LOHANDEMA_TREE, 0);
+    ENDED(lohandema_points_to_keys(centre, 4.0, 1, key, 3, own, 3, begin, 3, NULL, 0, halves, 2, NULL, 0, &steps),
+          LOHANDEMA_TREE, 0);
+    ENDED(lohandema_point_to_leaf(centre, 4.0, 1, NO_COLUMNS, point, &leaf, &climbed), LOHANDEMA_TREE, 0);
     EXPECT(leaf == 0 && climbed == 0);
 }
 
@@ -73,18 +86,17 @@ static void groups_and_cells(void)
     const uint64_t leaves[1] = {1};
     uint64_t cells[2] = {7, 7};
     size_t starts[4] = {7, 7, 7, 7}, count = 7;
-    ENDED(lohandema_get_points_to_leaves_map(1, key, 3, own, 3, begin, 3, NULL, 0, starts, 4, NULL, 0), 0, 0);
+    ENDED(lohandema_get_points_to_leaves_map(1, COLUMNS, NULL, 0, starts, 4, NULL, 0), 0, 0);
     EXPECT(all_zero(starts, sizeof starts));
-    ENDED(lohandema_get_points_to_leaves_map(1, key, 3, own, 3, begin, 3, NULL, 0, NULL, 0, NULL, 0), LOHANDEMA_ROOM,
+    ENDED(lohandema_get_points_to_leaves_map(1, COLUMNS, NULL, 0, NULL, 0, NULL, 0), LOHANDEMA_ROOM, LOHANDEMA_ROOM_POINTS);
+    ENDED(lohandema_get_points_to_leaves_map(1, COLUMNS, leaves, 1, starts, 4, NULL, 0), LOHANDEMA_ROOM,
           LOHANDEMA_ROOM_POINTS);
-    ENDED(lohandema_get_points_to_leaves_map(1, key, 3, own, 3, begin, 3, leaves, 1, starts, 4, NULL, 0), LOHANDEMA_ROOM,
-          LOHANDEMA_ROOM_POINTS);
-    ENDED(lohandema_get_points_to_leaves_map(1, NULL, 0, NULL, 0, NULL, 0, NULL, 0, NULL, 0, NULL, 0), LOHANDEMA_TREE, 0);
-    ENDED(lohandema_get_sourced_cells(1, NULL, 0, NULL, 0, NULL, 0, NULL, 0, &count), LOHANDEMA_TREE, 0);
-    ENDED(lohandema_get_sourced_cells(1, key, 3, own, 3, begin, 3, NULL, 0, &count), LOHANDEMA_ROOM, LOHANDEMA_ROOM_CELLS);
-    ENDED(lohandema_get_sourced_cells(1, root, 1, none, 1, none, 1, NULL, 0, &count), 0, 0);
+    ENDED(lohandema_get_points_to_leaves_map(1, NO_COLUMNS, NULL, 0, NULL, 0, NULL, 0), LOHANDEMA_TREE, 0);
+    ENDED(lohandema_get_sourced_cells(1, NO_COLUMNS, NULL, 0, &count), LOHANDEMA_TREE, 0);
+    ENDED(lohandema_get_sourced_cells(1, COLUMNS, NULL, 0, &count), LOHANDEMA_ROOM, LOHANDEMA_ROOM_CELLS);
+    ENDED(lohandema_get_sourced_cells(1, ROOT, NULL, 0, &count), 0, 0);
     EXPECT(count == 0);
-    ENDED(lohandema_get_sourced_cells(1, root, 1, none, 1, none, 1, cells, 2, &count), 0, 0);
+    ENDED(lohandema_get_sourced_cells(1, ROOT, cells, 2, &count), 0, 0);
     EXPECT(all_zero(cells, sizeof cells));
 }
 
@@ -92,19 +104,16 @@ static void lists(void)
 {
     uint64_t u_keys[4] = {0}, v_keys[4] = {0};
     size_t u_starts[4] = {0}, v_starts[4] = {0}, u = 7, v = 7;
-    ENDED(lohandema_get_interaction_lists(1, NULL, 0, NULL, 0, NULL, 0, NULL, 0, NULL, 0, NULL, 0, NULL, 0, &u, &v),
-          LOHANDEMA_TREE, 0);
-    ENDED(lohandema_get_interaction_lists(1, key, 3, own, 3, begin, 3, NULL, 0, u_keys, 4, v_starts, 4, v_keys, 4, &u, &v),
+    ENDED(lohandema_get_interaction_lists(1, NO_COLUMNS, NULL, 0, NULL, 0, NULL, 0, NULL, 0, &u, &v), LOHANDEMA_TREE, 0);
+    ENDED(lohandema_get_interaction_lists(1, COLUMNS, NULL, 0, u_keys, 4, v_starts, 4, v_keys, 4, &u, &v),
           LOHANDEMA_ROOM, LOHANDEMA_ROOM_U_STARTS);
-    ENDED(lohandema_get_interaction_lists(1, key, 3, own, 3, begin, 3, u_starts, 4, u_keys, 4, NULL, 0, v_keys, 4, &u, &v),
+    ENDED(lohandema_get_interaction_lists(1, COLUMNS, u_starts, 4, u_keys, 4, NULL, 0, v_keys, 4, &u, &v),
           LOHANDEMA_ROOM, LOHANDEMA_ROOM_V_STARTS);
-    ENDED(lohandema_get_interaction_lists(1, key, 3, own, 3, begin, 3, u_starts, 4, NULL, 0, v_starts, 4, v_keys, 4, &u, &v),
+    ENDED(lohandema_get_interaction_lists(1, COLUMNS, u_starts, 4, NULL, 0, v_starts, 4, v_keys, 4, &u, &v),
           LOHANDEMA_ROOM, LOHANDEMA_ROOM_U_KEYS);
-    ENDED(lohandema_get_interaction_lists(1, key, 3, own, 3, begin, 3, u_starts, 4, u_keys, 4, v_starts, 4, NULL, 0, &u, &v),
-          0, 0);
+    ENDED(lohandema_get_interaction_lists(1, COLUMNS, u_starts, 4, u_keys, 4, v_starts, 4, NULL, 0, &u, &v), 0, 0);
     EXPECT(u == 4 && v == 0);
-    ENDED(lohandema_get_interaction_lists(1, root, 1, none, 1, none, 1, u_starts, 2, NULL, 0, v_starts, 2, NULL, 0, &u, &v),
-          0, 0);
+    ENDED(lohandema_get_interaction_lists(1, ROOT, u_starts, 2, NULL, 0, v_starts, 2, NULL, 0, &u, &v), 0, 0);
     EXPECT(u == 0 && v == 0);
 }
 
@@ -112,13 +121,11 @@ static void near_work(void)
 {
     uint64_t keys[4] = {0}, work = 7;
     size_t starts[4] = {0};
-    ENDED(lohandema_get_near_work(1, NULL, 0, NULL, 0, NULL, 0, NULL, 0, NULL, 0, &work), LOHANDEMA_TREE, 0);
-    ENDED(lohandema_get_near_work(1, key, 3, own, 3, begin, 3, NULL, 0, keys, 4, &work), LOHANDEMA_ROOM,
-          LOHANDEMA_ROOM_U_STARTS);
-    ENDED(lohandema_get_near_work(1, key, 3, own, 3, begin, 3, starts, 4, NULL, 0, &work), LOHANDEMA_ROOM,
-          LOHANDEMA_ROOM_U_KEYS);
+    ENDED(lohandema_get_near_work(1, NO_COLUMNS, NULL, 0, NULL, 0, &work), LOHANDEMA_TREE, 0);
+    ENDED(lohandema_get_near_work(1, COLUMNS, NULL, 0, keys, 4, &work), LOHANDEMA_ROOM, LOHANDEMA_ROOM_U_STARTS);
+    ENDED(lohandema_get_near_work(1, COLUMNS, starts, 4, NULL, 0, &work), LOHANDEMA_ROOM, LOHANDEMA_ROOM_U_KEYS);
     EXPECT(work == 0);
-    ENDED(lohandema_get_near_work(1, root, 1, none, 1, none, 1, starts, 2, NULL, 0, &work), 0, 0);
+    ENDED(lohandema_get_near_work(1, ROOT, starts, 2, NULL, 0, &work), 0, 0);
     EXPECT(work == 0);
 }
 

@@ -9,19 +9,20 @@ enum { NODES = 9, ROOM = 24 };
 static const double centre[3] = {4.0, 0.0, 0.0};
 static const uint64_t key[NODES] = {0, 1, 32769, 2, 98306, 3, 32771, 196611, 229379};
 static const size_t own[NODES] = {0, 0, 0, 0, 0, 1, 1, 1, 1}, begin[NODES] = {0, 0, 0, 0, 0, 0, 1, 2, 3};
+static const size_t total[NODES] = {4, 2, 2, 2, 2, 1, 1, 1, 1};
 
 /* Columns that are no tree: the root's child owns a source. */
 static const size_t lying[NODES] = {0, 1, 0, 0, 0, 1, 1, 1, 1};
+
+#define COLUMNS(owns) key, NODES, (owns), NODES, begin, NODES, total, NODES
 
 static void known_columns(void)
 {
     const size_t order[4] = {0, 1, 2, 3};
     size_t start = 77;
-    EXPECT(lohandema_is_well_formed(1, key, NODES, own, NODES, begin, NODES));
-    EXPECT(!lohandema_is_well_formed(1, key, NODES, lying, NODES, begin, NODES));
-    EXPECT(!lohandema_is_well_formed(2, key, NODES, own, NODES, begin, NODES - 1));
-    EXPECT(!lohandema_is_well_formed(0, key, NODES, own, NODES, begin, NODES));
-    EXPECT(!lohandema_is_well_formed(4, key, NODES, own, NODES, begin, NODES));
+    EXPECT(lohandema_is_well_formed(1, COLUMNS(own)) && !lohandema_is_well_formed(1, COLUMNS(lying)));
+    EXPECT(!lohandema_is_well_formed(1, key, NODES, own, NODES, begin, NODES - 1, total, NODES));
+    EXPECT(!lohandema_is_well_formed(0, COLUMNS(own)) && !lohandema_is_well_formed(4, COLUMNS(own)));
     EXPECT(lohandema_depth_of(key, NODES) == 3 && lohandema_depth_of(key, 1) == 1);
     EXPECT(lohandema_leaf_sources(own, NODES, begin, NODES, order, 4, 6, &start) == 1 && start == 1);
     EXPECT(lohandema_leaf_sources(own, NODES, begin, NODES, order, 4, 1, &start) == 0 && start == 0);
@@ -42,8 +43,7 @@ static lohandema_ended look_up(double radius, size_t axes, const size_t *owns, c
 {
     fill_with_junk(output, sizeof output);
     steps = 77;
-    return lohandema_points_to_keys(centre, radius, axes, key, NODES, owns, NODES, begin, NODES, points, len, output, room,
-                                    &steps);
+    return lohandema_points_to_keys(centre, radius, axes, COLUMNS(owns), points, len, output, room, &steps);
 }
 
 #define LOOKUP_REFUSED(call, room, number, value)                                                                            \
@@ -72,7 +72,7 @@ static lohandema_ended look_up_one(size_t axes, double radius, const size_t *own
 {
     const double point[3] = {x, NAN, NAN};
     *leaf = *climbed = 77;
-    return lohandema_point_to_leaf(centre, radius, axes, key, NODES, owns, NODES, begin, NODES, point, leaf, climbed);
+    return lohandema_point_to_leaf(centre, radius, axes, COLUMNS(owns), point, leaf, climbed);
 }
 
 static void lookup_of_one(void)
@@ -94,7 +94,7 @@ static void lookup_of_one(void)
     uint64_t leaf, climbed;
     ENDED(look_up_one(1, 4.0, own, 6.9, &leaf, &climbed), 0, 0);
     EXPECT(leaf == 196611 && climbed == 0);
-    ENDED(lohandema_point_to_leaf(centre, 4.0, 1, small, 3, none, 3, none, 3, point, &leaf, &climbed), 0, 0);
+    ENDED(lohandema_point_to_leaf(centre, 4.0, 1, small, 3, none, 3, none, 3, none, 3, point, &leaf, &climbed), 0, 0);
     EXPECT(leaf == 32769 && climbed == 0);
     for (size_t i = 0; i < 5; i++) {
         ENDED(look_up_one(refused[i].axes, refused[i].radius, refused[i].owns, refused[i].x, &leaf, &climbed),
@@ -107,14 +107,15 @@ static void lookup_of_one(void)
 static void lookup_with_steps(void)
 {
     const uint64_t uneven[5] = {0, 1, 32769, 98306, 229379};
-    const size_t owns[5] = {0, 2, 0, 0, 1}, begins[5] = {0, 0, 2, 2, 2};
+    const size_t owns[5] = {0, 2, 0, 0, 1}, begins[5] = {0, 0, 2, 2, 2}, totals[5] = {3, 2, 1, 1, 1};
     const double points[2] = {0.0, 7.5}, point[3] = {3.0, 0.0, 0.0};
     const uint64_t leaves[2] = {1, 229379};
     uint64_t leaf, climbed;
     fill_with_junk(output, sizeof output);
-    ENDED(lohandema_points_to_keys(centre, 4.0, 1, uneven, 5, owns, 5, begins, 5, points, 2, output, 2, &steps), 0, 0);
+    ENDED(lohandema_points_to_keys(centre, 4.0, 1, uneven, 5, owns, 5, begins, 5, totals, 5, points, 2, output, 2, &steps), 0,
+          0);
     EXPECT(steps == 2 && STARTS_WITH(output, leaves) && REST_ZEROED(output, 2, 2));
-    ENDED(lohandema_point_to_leaf(centre, 4.0, 1, uneven, 5, owns, 5, begins, 5, point, &leaf, &climbed), 0, 0);
+    ENDED(lohandema_point_to_leaf(centre, 4.0, 1, uneven, 5, owns, 5, begins, 5, totals, 5, point, &leaf, &climbed), 0, 0);
     EXPECT(leaf == 1 && climbed == 2);
 }
 
@@ -127,8 +128,7 @@ static lohandema_ended group(size_t axes, const size_t *owns, const uint64_t *po
 {
     fill_with_junk(starts, sizeof starts);
     fill_with_junk(indices, sizeof indices);
-    return lohandema_get_points_to_leaves_map(axes, key, NODES, owns, NODES, begin, NODES, points, len, starts, starts_len,
-                                              indices, indices_len);
+    return lohandema_get_points_to_leaves_map(axes, COLUMNS(owns), points, len, starts, starts_len, indices, indices_len);
 }
 
 #define GROUP_REFUSED(axes, owns, points, len, starts_len, indices_len, number, value)                                       \
@@ -170,18 +170,17 @@ static void sourced_cells(void)
     uint64_t cells[ROOM];
     size_t count = 77;
     fill_with_junk(cells, sizeof cells);
-    ENDED(lohandema_get_sourced_cells(1, key, NODES, own, NODES, begin, NODES, cells, 11, &count), 0, 0);
+    ENDED(lohandema_get_sourced_cells(1, COLUMNS(own), cells, 11, &count), 0, 0);
     EXPECT(count == NODES && STARTS_WITH(cells, ascending) && REST_ZEROED(cells, NODES, 11));
     fill_with_junk(cells, sizeof cells);
     count = 77;
-    ENDED(lohandema_get_sourced_cells(1, key, NODES, own, NODES, begin, NODES, cells, 8, &count), LOHANDEMA_ROOM,
-          LOHANDEMA_ROOM_CELLS);
+    ENDED(lohandema_get_sourced_cells(1, COLUMNS(own), cells, 8, &count), LOHANDEMA_ROOM, LOHANDEMA_ROOM_CELLS);
     EXPECT(count == 0 && ZEROED(cells, 8));
     fill_with_junk(cells, sizeof cells);
     count = 77;
-    ENDED(lohandema_get_sourced_cells(1, key, NODES, lying, NODES, begin, NODES, cells, 8, &count), LOHANDEMA_TREE, 0);
+    ENDED(lohandema_get_sourced_cells(1, COLUMNS(lying), cells, 8, &count), LOHANDEMA_TREE, 0);
     EXPECT(count == 0 && ZEROED(cells, 8));
-    ENDED(lohandema_get_sourced_cells(9, key, NODES, lying, NODES, begin, NODES, cells, 8, &count), LOHANDEMA_DIMS, 0);
+    ENDED(lohandema_get_sourced_cells(9, COLUMNS(lying), cells, 8, &count), LOHANDEMA_DIMS, 0);
 }
 
 /* ---- lists */
@@ -196,8 +195,7 @@ static lohandema_ended list(size_t axes, const size_t *owns, size_t us, size_t u
     fill_with_junk(u_keys, sizeof u_keys);
     fill_with_junk(v_keys, sizeof v_keys);
     u = v = 77;
-    return lohandema_get_interaction_lists(axes, key, NODES, owns, NODES, begin, NODES, u_starts, us, u_keys, uk, v_starts,
-                                           vs, v_keys, vk, &u, &v);
+    return lohandema_get_interaction_lists(axes, COLUMNS(owns), u_starts, us, u_keys, uk, v_starts, vs, v_keys, vk, &u, &v);
 }
 
 #define LISTS_REFUSED(axes, owns, us, uk, vs, vk, number, value)                                                             \
@@ -236,7 +234,7 @@ static lohandema_ended near_work(size_t axes, const size_t *owns, size_t us, siz
     fill_with_junk(u_starts, sizeof u_starts);
     fill_with_junk(u_keys, sizeof u_keys);
     work = 77;
-    return lohandema_get_near_work(axes, key, NODES, owns, NODES, begin, NODES, u_starts, us, u_keys, uk, &work);
+    return lohandema_get_near_work(axes, COLUMNS(owns), u_starts, us, u_keys, uk, &work);
 }
 
 #define WORK_REFUSED(axes, owns, us, uk, number, value)                                                                      \

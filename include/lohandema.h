@@ -49,9 +49,9 @@ extern "C" {
 #endif
 
 /* The version of this header and of the archive that was made with it. */
-#define LOHANDEMA_VERSION "0.1.0"
+#define LOHANDEMA_VERSION "0.2.0"
 #define LOHANDEMA_VERSION_MAJOR 0
-#define LOHANDEMA_VERSION_MINOR 1
+#define LOHANDEMA_VERSION_MINOR 2
 #define LOHANDEMA_VERSION_PATCH 0
 
 /* Limits. */
@@ -229,11 +229,13 @@ lohandema_ended lohandema_calculate_tree_center_and_radius(const double *extents
 lohandema_ended lohandema_reference_depth(size_t axes, size_t sources, uint64_t *depth);
 
 /* ---- Trees
- * A tree of N nodes is three columns of N entries: key; own, the sources in a leaf, 0 for other nodes; begin, the sum of own
- * before the node. Nodes stand by level, then ascending code; node 0 is the root. Pass the columns cut to N entries: zeros
- * behind the nodes are no tree. Source number order[begin[n] + i] is the i-th of leaf n. */
+ * A tree of N nodes is four columns of N entries: key; own, the sources in a leaf, 0 for other nodes; begin, the sum of own
+ * before the node; total, the number of sources in the cell and all below it. Nodes stand by level, then ascending code; node
+ * 0 is the root. Pass the columns cut to N entries: zeros behind the nodes are no tree. A wrong total is refused 13, as any
+ * other column that is wrong. Source number order[begin[n] + i] is the i-th of leaf n. */
 
-/* Builds the tree of the sources into key, own and begin, and its order column into indices; answers nodes, N, and depth.
+/* Builds the tree of the sources into key, own, begin and total, and its order column into indices; answers nodes, N, and
+ * depth.
  *   sources, targets  coordinates, point after point; the lengths count coordinates
  *   limit             a cell with more sources than this splits (any value)
  *   order             of the interpolation; it matters, and has to be 1 to 64, only where targets are used
@@ -241,18 +243,19 @@ lohandema_ended lohandema_reference_depth(size_t axes, size_t sources, uint64_t 
  *   refine            whether targets split cells too; targets are used with both flags, else not looked at
  *   work              two entries a source and one a used target
  *   indices           one entry a source
- *   key, own, begin   one entry a node each. The shortest of the three counts, at most 1,048,576 of its entries. N is not known
- *                     before: on 8 with value 3 lend longer ones and call again.
- * Refused 1, 2, 3 (sources, then targets), 4 (likewise), 5, 6, 7, 8 (1 work, 2 indices, 3 key, own or begin). */
+ *   key, own, begin,  one entry a node each. The shortest of the four counts, at most 1,048,576 of its entries. N is not known
+ *   total             before: on 8 with value 3 lend longer ones and call again.
+ * Refused 1, 2, 3 (sources, then targets), 4 (likewise), 5, 6, 7, 8 (1 work, 2 indices, 3 key, own, begin or total). */
 lohandema_ended lohandema_build_tree(const double centre[3], double radius, size_t axes, const double *sources,
                                      size_t sources_len, const double *targets, size_t targets_len, size_t limit,
                                      size_t order, bool keep_empty, bool refine, uint64_t *work, size_t work_len,
                                      size_t *indices, size_t indices_len, uint64_t *key, size_t key_len, size_t *own,
-                                     size_t own_len, size_t *begin, size_t begin_len, size_t *nodes, uint64_t *depth);
+                                     size_t own_len, size_t *begin, size_t begin_len, size_t *total, size_t total_len,
+                                     size_t *nodes, uint64_t *depth);
 
 /* Whether the columns are a well-formed tree (docs/RULES.md); false for axes other than 1 to 3. Never refused. */
 bool lohandema_is_well_formed(size_t axes, const uint64_t *key, size_t key_len, const size_t *own, size_t own_len,
-                              const size_t *begin, size_t begin_len);
+                              const size_t *begin, size_t begin_len, const size_t *total, size_t total_len);
 
 /* The level of the last node, at least 1; 1 for an empty column. For any column, and never refused. */
 uint64_t lohandema_depth_of(const uint64_t *key, size_t key_len);
@@ -268,35 +271,38 @@ size_t lohandema_leaf_sources(const size_t *own, size_t own_len, const size_t *b
  * Refused 1, 2, 3, 4, 13, 8 (value 8), and then for the first point that is outside (7) or in no leaf (12). */
 lohandema_ended lohandema_points_to_keys(const double centre[3], double radius, size_t axes, const uint64_t *key,
                                          size_t key_len, const size_t *own, size_t own_len, const size_t *begin,
-                                         size_t begin_len, const double *points, size_t points_len, uint64_t *output,
-                                         size_t output_len, size_t *steps);
+                                         size_t begin_len, const size_t *total, size_t total_len, const double *points,
+                                         size_t points_len, uint64_t *output, size_t output_len, size_t *steps);
 
 /* leaf: the key of the leaf that holds one point. steps: the depth less its level, at most 15. Each call checks the whole tree
  * first; for many points use lohandema_points_to_keys, which checks it once. Refused 1, 2, 13, 7, 12, value 0. */
 lohandema_ended lohandema_point_to_leaf(const double centre[3], double radius, size_t axes, const uint64_t *key,
                                         size_t key_len, const size_t *own, size_t own_len, const size_t *begin,
-                                        size_t begin_len, const double point[3], uint64_t *leaf, uint64_t *steps);
+                                        size_t begin_len, const size_t *total, size_t total_len, const double point[3],
+                                        uint64_t *leaf, uint64_t *steps);
 
 /* Groups points by leaf; points has the key of each point's leaf. The points of node n are indices[starts[n]] up to, and
  * without, indices[starts[n + 1]], ascending. starts needs N + 1 entries, indices one a point.
  * Refused 1, 4, 13, 8 (value 8 for either slice), 14. */
 lohandema_ended lohandema_get_points_to_leaves_map(size_t axes, const uint64_t *key, size_t key_len, const size_t *own,
                                                    size_t own_len, const size_t *begin, size_t begin_len,
-                                                   const uint64_t *points, size_t points_len, size_t *starts,
-                                                   size_t starts_len, size_t *indices, size_t indices_len);
+                                                   const size_t *total, size_t total_len, const uint64_t *points,
+                                                   size_t points_len, size_t *starts, size_t starts_len, size_t *indices,
+                                                   size_t indices_len);
 
-/* cells: the keys of the cells that own sources or have a descendant that does, ascending. count: how many. cells needs as
- * many entries; N are always enough. Refused 1, 13, 8 (value 9). */
+/* cells: the keys of the cells that own sources or have a descendant that does, which are those with a total above 0,
+ * ascending. count: how many. cells needs as many entries; N are always enough. Refused 1, 13, 8 (value 9). */
 lohandema_ended lohandema_get_sourced_cells(size_t axes, const uint64_t *key, size_t key_len, const size_t *own,
-                                            size_t own_len, const size_t *begin, size_t begin_len, uint64_t *cells,
-                                            size_t cells_len, size_t *count);
+                                            size_t own_len, const size_t *begin, size_t begin_len, const size_t *total,
+                                            size_t total_len, uint64_t *cells, size_t cells_len, size_t *count);
 
 /* The near (U) and far (V) rows of all nodes. Row n of U is u_keys[u_starts[n]] up to, and without, u_keys[u_starts[n + 1]],
  * ascending; V likewise. u and v: how many keys each list has. The starts need N + 1 entries each; the keys their number,
  * which is not known before: on 8 with value 6 or 7 lend more and call again. At most 16,777,216 entries count.
  * Refused 1, 13, 8 (4 u_starts, 5 v_starts, 6 u_keys, 7 v_keys). */
 lohandema_ended lohandema_get_interaction_lists(size_t axes, const uint64_t *key, size_t key_len, const size_t *own,
-                                                size_t own_len, const size_t *begin, size_t begin_len, size_t *u_starts,
+                                                size_t own_len, const size_t *begin, size_t begin_len,
+                                                const size_t *total, size_t total_len, size_t *u_starts,
                                                 size_t u_starts_len, uint64_t *u_keys, size_t u_keys_len, size_t *v_starts,
                                                 size_t v_starts_len, uint64_t *v_keys, size_t v_keys_len, size_t *u,
                                                 size_t *v);
@@ -304,8 +310,9 @@ lohandema_ended lohandema_get_interaction_lists(size_t axes, const uint64_t *key
 /* work: near work, the sum over leaves of own sources times sources in the U row. starts and keys: the U list, as above, which
  * it writes. Refused 1, 13, 8 (4 starts, 6 keys). */
 lohandema_ended lohandema_get_near_work(size_t axes, const uint64_t *key, size_t key_len, const size_t *own, size_t own_len,
-                                        const size_t *begin, size_t begin_len, size_t *starts, size_t starts_len,
-                                        uint64_t *keys, size_t keys_len, uint64_t *work);
+                                        const size_t *begin, size_t begin_len, const size_t *total, size_t total_len,
+                                        size_t *starts, size_t starts_len, uint64_t *keys, size_t keys_len,
+                                        uint64_t *work);
 
 #ifdef __cplusplus
 }

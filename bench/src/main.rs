@@ -46,6 +46,18 @@ fn rust_build(b: &Bounds, points: &[f64], keep: bool) -> (TreeLists, u64) {
     (lists, depth)
 }
 
+/// How many sources lie in each node's cell and all below it. Children stand behind their parents.
+fn totals(key: &[u64], own: &[usize]) -> Vec<usize> {
+    let number: HashMap<u64, usize> = key.iter().enumerate().map(|(i, k)| (*k, i)).collect();
+    let mut total = own.to_vec();
+    for node in (1..key.len()).rev() {
+        let (level, code) = (key[node] % 32768, key[node] / 32768);
+        let parent = number[&((code >> 3) * 32768 + level - 1)];
+        total[parent] += total[node];
+    }
+    total
+}
+
 /// The Rust's tree as columns.
 fn columns(b: Bounds, lists: &TreeLists) -> Tree {
     let mut key: Vec<u64> = lists.tree.iter().copied().collect();
@@ -57,7 +69,8 @@ fn columns(b: Bounds, lists: &TreeLists) -> Tree {
         own.push(sources.len());
         order.extend_from_slice(sources);
     }
-    Tree::from_columns(b, key, own, begin, order)
+    let total = totals(&key, &own);
+    Tree::from_columns(b, key, own, begin, total, order)
 }
 
 fn rust_lists(b: &Bounds, l: &TreeLists) -> usize {
@@ -120,6 +133,7 @@ struct Room {
     key: Vec<u64>,
     own: Vec<usize>,
     begin: Vec<usize>,
+    total: Vec<usize>,
 }
 
 impl Room {
@@ -130,6 +144,7 @@ impl Room {
             key: vec![0; nodes],
             own: vec![0; nodes],
             begin: vec![0; nodes],
+            total: vec![0; nodes],
         }
     }
 
@@ -143,6 +158,7 @@ impl Room {
             &mut self.key,
             &mut self.own,
             &mut self.begin,
+            &mut self.total,
         )
         .expect("room enough")
     }
@@ -194,7 +210,7 @@ impl Survey {
         let mut room = Room::new(POINTS, tree.key.len());
         let (nodes, _) = room.build(&b, &self.points, self.keep);
         assert!(nodes == tree.key.len() && room.key == tree.key && room.own == tree.own);
-        assert!(room.begin == tree.begin && room.order == tree.order);
+        assert!(room.begin == tree.begin && room.total == tree.total && room.order == tree.order);
         let ours = least(runs, || room.build(&b, &self.points, self.keep));
         let whole = least(runs.max(7), || rust_build(&b, &self.points, self.keep));
         let lists = least(runs.max(7), || rust_lists(&b, &self.built));
@@ -268,13 +284,14 @@ fn rust_keys(b: &Bounds, points: &[f64]) -> Vec<u64> {
 fn smallest_tree() -> Tree {
     let children = (0..8).map(|code| code * 32768 + 1);
     let begins = (0..8).map(|code| code * (POINTS / 8));
-    let mut own = vec![POINTS / 8; 9];
-    own[0] = 0;
+    let (mut own, mut total) = (vec![POINTS / 8; 9], vec![POINTS / 8; 9]);
+    (own[0], total[0]) = (0, POINTS);
     Tree::from_columns(
         shapes::bounds(),
         [0].into_iter().chain(children).collect(),
         own,
         [0].into_iter().chain(begins).collect(),
+        total,
         vec![],
     )
 }
@@ -316,6 +333,7 @@ fn build_and_lists(count: usize, runs: usize) -> f64 {
         room.key[..nodes].to_vec(),
         room.own[..nodes].to_vec(),
         room.begin[..nodes].to_vec(),
+        room.total[..nodes].to_vec(),
         room.order.clone(),
     );
     let rows = tree.get_interaction_lists().expect("room");

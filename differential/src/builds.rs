@@ -1,4 +1,5 @@
-//! The build: columns, order and depth against the Rust's; refusals and end contents against document 01.
+//! The build: columns, order and depth against the Rust's, the totals against the sums over its leaves; refusals and end
+//! contents against document 01.
 use crate::inputs;
 use crate::keys::refused;
 use crate::oracle::{self, Survey};
@@ -7,10 +8,12 @@ use crate::random::Random;
 use crate::refusals::{asked, left, lent_slice};
 use crate::tally::Tally;
 use crate::trees::show;
+use ferreus_bbfmm::bbfmm::TreeLists;
 use lohandema::Refusal;
 use lohandema::lent::{self, Asked};
 use lohandema::points::Bounds;
 use lohandema::trees::Tree;
+use std::collections::BTreeSet;
 
 pub fn asked_of(s: &Survey, refine: bool) -> Asked<'_> {
     let mut asked = Asked::new(&s.bounds, &s.sources, s.limit);
@@ -21,22 +24,37 @@ pub fn asked_of(s: &Survey, refine: bool) -> Asked<'_> {
     asked
 }
 
-/// The Rust's tree, with its targets or without.
-fn built(s: &Survey, refine: bool) -> (Tree, u64) {
+/// The Rust's build, with its targets or without.
+fn rust_build(s: &Survey, refine: bool) -> (TreeLists, u64) {
     let mut given = s.clone();
     if !refine {
         given.targets.clear();
     }
-    let (lists, depth) = oracle::build(&given);
+    oracle::build(&given)
+}
+
+/// The same, as columns.
+fn built(s: &Survey, refine: bool) -> (Tree, u64) {
+    let (lists, depth) = rust_build(s, refine);
     (oracle::columns(&s.bounds, &lists), depth)
 }
 
+/// The cells with a total above 0.
+fn with_total(tree: &Tree) -> BTreeSet<u64> {
+    let nodes = tree.key.iter().zip(&tree.total);
+    let sourced = nodes.filter(|node| *node.1 > 0);
+    sourced.map(|node| *node.0).collect()
+}
+
 pub fn compare(t: &mut Tally, s: &Survey, refine: bool) {
-    let (theirs, depth) = built(s, refine);
+    let (lists, depth) = rust_build(s, refine);
     let ours = Tree::build(asked_of(s, refine));
     if let Ok(tree) = &ours {
         t.same("depth", tree.depth(), depth, || show(s));
+        let sourced = lists.source_key_to_index_map.keys().copied().collect();
+        t.same("cells with a total", with_total(tree), sourced, || show(s));
     }
+    let theirs = oracle::columns(&s.bounds, &lists);
     t.same("tree", ours, Ok(theirs), || show(s));
 }
 
@@ -109,6 +127,7 @@ pub fn refusals(t: &mut Tally, r: &mut Random, _case: u64) {
     let mut key = lent_slice(r, n, u64::MAX);
     let mut own = lent_slice(r, n, usize::MAX);
     let mut begin = lent_slice(r, n, usize::MAX);
+    let mut total = lent_slice(r, n, usize::MAX);
     let right = checked(&s, used).and_then(|_| {
         // a damaged survey that passes is one whose damage is not looked at
         let tree = if whole {
@@ -118,11 +137,11 @@ pub fn refusals(t: &mut Tally, r: &mut Random, _case: u64) {
         };
         asked(2 * sources + targets <= work.len(), (8, 1))?;
         asked(sources <= order.len(), (8, 2))?;
-        let room = key.len().min(own.len()).min(begin.len());
+        let room = key.len().min(own.len()).min(begin.len()).min(total.len());
         asked(tree.0.key.len() <= room, (8, 3))?;
         Ok(tree)
     });
-    let empty = Tree::from_columns(s.bounds, vec![], vec![], vec![], vec![]);
+    let empty = Tree::from_columns(s.bounds, vec![], vec![], vec![], vec![], vec![]);
     let answer = right.as_ref().map_or(&empty, |(tree, _)| tree);
     let after = (
         vec![0; work.len()],
@@ -130,6 +149,7 @@ pub fn refusals(t: &mut Tally, r: &mut Random, _case: u64) {
         left(key.len(), &answer.key),
         left(own.len(), &answer.own),
         left(begin.len(), &answer.begin),
+        left(total.len(), &answer.total),
     );
     let ours = lent::build_tree(
         asked_of(&s, refine),
@@ -138,6 +158,7 @@ pub fn refusals(t: &mut Tally, r: &mut Random, _case: u64) {
         &mut key,
         &mut own,
         &mut begin,
+        &mut total,
     );
     if right.is_err() {
         t.refusal();
@@ -151,7 +172,7 @@ pub fn refusals(t: &mut Tally, r: &mut Random, _case: u64) {
     );
     t.same(
         "build's slices",
-        (work, order, key, own, begin),
+        (work, order, key, own, begin, total),
         after,
         input,
     );

@@ -11,6 +11,7 @@ mod points;
 mod random;
 mod refusals;
 mod tally;
+mod totals;
 mod trees;
 
 use apart::Slate;

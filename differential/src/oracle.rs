@@ -5,6 +5,8 @@ use ferreus_bbfmm::bbfmm::{Dimensions, TreeLists};
 use ferreus_bbfmm::{linear_tree, morton};
 use lohandema::points::Bounds;
 use lohandema::trees::Tree;
+use std::collections::HashMap;
+use std::iter::successors;
 
 pub fn dimensions(axes: usize) -> Dimensions {
     match axes {
@@ -99,7 +101,25 @@ pub fn any_box(axes: usize) -> Bounds {
     Bounds::new(&[0.0; 3][..axes], 1.0)
 }
 
-/// The Rust's tree as columns, in the order of nodes.
+/// A cell and all above it, up to the root.
+pub fn upwards(axes: usize, key: u64) -> impl Iterator<Item = u64> {
+    let d = dimensions(axes);
+    successors(Some(key), move |k| morton::get_parent(*k, &d))
+}
+
+/// How many sources lie in each cell and all below it, from how many each leaf has.
+pub fn totals(axes: usize, leaves: impl Iterator<Item = (u64, usize)>) -> HashMap<u64, usize> {
+    let mut sums = HashMap::new();
+    for (leaf, sources) in leaves {
+        for cell in upwards(axes, leaf) {
+            *sums.entry(cell).or_default() += sources;
+        }
+    }
+    sums
+}
+
+/// The Rust's tree as columns, in the order of nodes. The totals, which the Rust does not have, are sums over the sources of
+/// its leaves.
 pub fn columns(bounds: &Bounds, lists: &TreeLists) -> Tree {
     let mut key: Vec<u64> = lists.tree.iter().copied().collect();
     key.sort_by_key(|&k| rank(k));
@@ -113,5 +133,9 @@ pub fn columns(bounds: &Bounds, lists: &TreeLists) -> Tree {
         own.push(sources.len());
         order.extend_from_slice(sources);
     }
-    Tree::from_columns(*bounds, key, own, begin, order)
+    let leaves = lists.leaf_source_indices.iter();
+    let sums = totals(bounds.axes, leaves.map(|(k, sources)| (*k, sources.len())));
+    let total = key.iter().map(|k| sums.get(k).copied().unwrap_or(0));
+    let total = total.collect();
+    Tree::from_columns(*bounds, key, own, begin, total, order)
 }

@@ -4,16 +4,19 @@ use crate::keys::refused;
 use crate::oracle::{self, level, rank, valid};
 use crate::random::Random;
 use crate::tally::Tally;
+use crate::totals;
 use crate::trees::{self, show};
 use ferreus_bbfmm::{linear_tree, morton};
 use lohandema::Refusal;
 use lohandema::lent;
 use lohandema::trees::Tree;
+use std::collections::HashMap;
 
 /// Document 01's rule, written out plainly.
-fn well_formed(tree: &Tree) -> bool {
+pub fn well_formed(tree: &Tree) -> bool {
     let n = tree.key.len();
-    if !(1..=3).contains(&tree.axes()) || n < 1 || tree.own.len() != n || tree.begin.len() != n {
+    let lengths = [tree.own.len(), tree.begin.len(), tree.total.len()];
+    if !(1..=3).contains(&tree.axes()) || n < 1 || lengths != [n; 3] {
         return false;
     }
     if tree.key[0] != 0 || !tree.key.iter().all(|k| valid(tree.axes(), *k)) {
@@ -41,7 +44,19 @@ fn well_formed(tree: &Tree) -> bool {
             _ => return false,
         }
     }
-    run <= 1_048_576
+    run <= 1_048_576 && totals_right(tree)
+}
+
+/// Whether each total is the number of sources in the cell and all below it.
+fn totals_right(tree: &Tree) -> bool {
+    let mut sums: HashMap<u64, u128> = HashMap::new();
+    for (key, own) in tree.key.iter().zip(&tree.own) {
+        for cell in oracle::upwards(tree.axes(), *key) {
+            *sums.entry(cell).or_default() += *own as u128;
+        }
+    }
+    let mut nodes = tree.key.iter().zip(&tree.total);
+    nodes.all(|(key, total)| sums[key] == *total as u128)
 }
 
 /// A tree with something changed, which may leave it well formed.
@@ -49,7 +64,7 @@ fn damaged(r: &mut Random, tree: &Tree) -> Tree {
     let mut t = tree.clone();
     let n = t.key.len();
     let at = r.index(n);
-    match r.below(14) {
+    match r.below(17) {
         0 => t.bounds.axes = r.pick(&[0, 1, 2, 3, 4, usize::MAX]),
         1 => t.key[at] = r.next() >> r.below(64),
         2 => t.key[at] = t.key[at].wrapping_add(32768),
@@ -58,6 +73,7 @@ fn damaged(r: &mut Random, tree: &Tree) -> Tree {
             t.key.remove(at);
             t.own.remove(at);
             t.begin.remove(at);
+            t.total.remove(at);
         }
         5 => t.own[at] = r.pick(&[0, 1, 1 << 20, usize::MAX]),
         6 => t.begin[at] = r.pick(&[0, 1, 1 << 20, usize::MAX]),
@@ -65,21 +81,29 @@ fn damaged(r: &mut Random, tree: &Tree) -> Tree {
             t.own.pop();
         }
         8 => t.begin.push(0),
-        9 => (t.key, t.own, t.begin) = (vec![], vec![], vec![]),
+        9 => (t.key, t.own, t.begin, t.total) = (vec![], vec![], vec![], vec![]),
         10 => t.key[at] = t.key[r.index(n)],
         11 => {
-            // one more source in a leaf, and the begins after it
+            // one more source in a leaf, and the begins after it and the totals above it
             t.own[at] = t.own[at].wrapping_add(1);
             for b in &mut t.begin[at + 1..] {
                 *b = b.wrapping_add(1);
             }
+            totals::raise(&mut t, at, 1);
         }
         12 => {
             // as many sources as there may be, or one more
             let all = t.own.iter().fold(0usize, |a, b| a.wrapping_add(*b));
-            let most = r.pick(&[1 << 20, (1 << 20) + 1]);
-            t.own[n - 1] = t.own[n - 1].wrapping_add(most).wrapping_sub(all);
+            let most: usize = r.pick(&[1 << 20, (1 << 20) + 1]);
+            let more = most.wrapping_sub(all);
+            t.own[n - 1] = t.own[n - 1].wrapping_add(more);
+            totals::raise(&mut t, n - 1, more);
         }
+        13 => t.total[at] = r.pick(&[0, 1, 1 << 20, usize::MAX]),
+        14 => {
+            t.total.pop();
+        }
+        15 => t.total.push(0),
         _ => {}
     }
     t
@@ -104,18 +128,23 @@ fn compare_formed(t: &mut Tally, tree: &Tree) {
     );
 }
 
-/// A tree as it is, with one thing changed, and with two.
-pub fn trees_handed_in(t: &mut Tally, r: &mut Random, _case: u64) {
+/// A tree as it is, with one thing changed, and with two; and with wrong totals.
+pub fn trees_handed_in(t: &mut Tally, r: &mut Random, case: u64) {
+    if case == 0 {
+        totals::chosen(t);
+    }
     let tree = some_tree(r);
     compare_formed(t, &tree);
     for _ in 0..3 {
         let once = damaged(r, &tree);
         compare_formed(t, &once);
         let n = once.key.len();
-        if n > 0 && once.own.len() == n && once.begin.len() == n {
+        let lengths = [once.own.len(), once.begin.len(), once.total.len()];
+        if n > 0 && lengths == [n; 3] {
             compare_formed(t, &damaged(r, &once));
         }
     }
+    totals::wrong(t, r, &tree);
 }
 
 /// A slice that holds anything, some entries longer or shorter than what is needed.

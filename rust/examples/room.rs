@@ -14,9 +14,13 @@ const LIMIT: usize = 64;
 fn build_exactly(asked: Asked, tree: &Tree) -> Tree {
     let (rows, nodes) = (tree.order.len(), tree.key.len());
     let (mut work, mut order) = (vec![0; 2 * rows], vec![0; rows]);
-    let (mut key, mut own, mut begin) = (vec![0; nodes], vec![0; nodes], vec![0; nodes]);
-    lent::build_tree(asked, &mut work, &mut order, &mut key, &mut own, &mut begin).expect("room");
-    Tree::from_columns(*asked.bounds, key, own, begin, order)
+    let (mut key, mut own) = (vec![0; nodes], vec![0; nodes]);
+    let (mut begin, mut total) = (vec![0; nodes], vec![0; nodes]);
+    lent::build_tree(
+        asked, &mut work, &mut order, &mut key, &mut own, &mut begin, &mut total,
+    )
+    .expect("room");
+    Tree::from_columns(*asked.bounds, key, own, begin, total, order)
 }
 
 /// The lists with as much room as they need.

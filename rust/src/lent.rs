@@ -19,6 +19,8 @@ pub struct Columns<'a> {
     pub own: &'a [usize],
     /// The sum of the own sources of all nodes before.
     pub begin: &'a [usize],
+    /// The number of sources in each node's cell and all below it.
+    pub total: &'a [usize],
 }
 
 impl<'a> Columns<'a> {
@@ -28,12 +30,14 @@ impl<'a> Columns<'a> {
         key: &'a [u64],
         own: &'a [usize],
         begin: &'a [usize],
+        total: &'a [usize],
     ) -> Columns<'a> {
         Columns {
             axes,
             key,
             own,
             begin,
+            total,
         }
     }
 
@@ -74,6 +78,8 @@ pub fn point_to_leaf(
             tree.own.len(),
             tree.begin.as_ptr(),
             tree.begin.len(),
+            tree.total.as_ptr(),
+            tree.total.len(),
             &point,
             &mut leaf,
             &mut steps,
@@ -110,6 +116,8 @@ pub fn points_to_keys(
             tree.own.len(),
             tree.begin.as_ptr(),
             tree.begin.len(),
+            tree.total.as_ptr(),
+            tree.total.len(),
             points.as_ptr(),
             points.len(),
             output.as_mut_ptr(),
@@ -142,6 +150,8 @@ pub fn get_points_to_leaves_map(
             tree.own.len(),
             tree.begin.as_ptr(),
             tree.begin.len(),
+            tree.total.as_ptr(),
+            tree.total.len(),
             points.as_ptr(),
             points.len(),
             starts.as_mut_ptr(),
@@ -153,7 +163,8 @@ pub fn get_points_to_leaves_map(
     answered(ended, ())
 }
 
-/// The cells that own sources or have a descendant that does, by ascending key, into `cells`; answers how many.
+/// The cells that own sources or have a descendant that does, which are those with a total above 0, by ascending key, into
+/// `cells`; answers how many.
 ///
 /// # Errors
 /// [`DIMS`](Refusal::DIMS); [`TREE`](Refusal::TREE); [`ROOM`](Refusal::ROOM) 9.
@@ -169,6 +180,8 @@ pub fn get_sourced_cells(tree: Columns<'_>, cells: &mut [u64]) -> Result<usize, 
             tree.own.len(),
             tree.begin.as_ptr(),
             tree.begin.len(),
+            tree.total.as_ptr(),
+            tree.total.len(),
             cells.as_mut_ptr(),
             cells.len(),
             &mut count,
@@ -200,6 +213,8 @@ pub fn get_interaction_lists(
             tree.own.len(),
             tree.begin.as_ptr(),
             tree.begin.len(),
+            tree.total.as_ptr(),
+            tree.total.len(),
             u_starts.as_mut_ptr(),
             u_starts.len(),
             u_keys.as_mut_ptr(),
@@ -236,6 +251,8 @@ pub fn get_near_work(
             tree.own.len(),
             tree.begin.as_ptr(),
             tree.begin.len(),
+            tree.total.as_ptr(),
+            tree.total.len(),
             u_starts.as_mut_ptr(),
             u_starts.len(),
             u_keys.as_mut_ptr(),
@@ -312,8 +329,8 @@ impl<'a> Asked<'a> {
 }
 
 /// The tree of the sources, into its columns and the order column `indices`; answers the number of nodes and the depth.
-/// `work` has two entries for each source and one for each target that is used, `indices` one for each source, and each
-/// column one for each node.
+/// `work` has two entries for each source and one for each target that is used, `indices` one for each source, and each of
+/// the four columns one for each node.
 ///
 /// # Errors
 /// [`DIMS`](Refusal::DIMS); [`BOX`](Refusal::BOX); [`SHAPE`](Refusal::SHAPE) and [`COUNT`](Refusal::COUNT), sources before
@@ -326,9 +343,10 @@ pub fn build_tree(
     key: &mut [u64],
     own: &mut [usize],
     begin: &mut [usize],
+    total: &mut [usize],
 ) -> Result<(usize, u64), Refusal> {
     let (mut nodes, mut depth) = (0, 0);
-    // SAFETY: the points are read with their own lengths; the five slices, lent to us alone, are written within theirs.
+    // SAFETY: the points are read with their own lengths; the six slices, lent to us alone, are written within theirs.
     let ended = unsafe {
         raw::lohandema_build_tree(
             &asked.bounds.centre,
@@ -352,6 +370,8 @@ pub fn build_tree(
             own.len(),
             begin.as_mut_ptr(),
             begin.len(),
+            total.as_mut_ptr(),
+            total.len(),
             &mut nodes,
             &mut depth,
         )

@@ -55,7 +55,7 @@ impl Refusal {
     pub const DEEP: u64 = 11;
     /// A point is in the box, but no leaf of the tree holds it; the value is its index.
     pub const UNSTORED: u64 = 12;
-    /// The columns are not a well-formed tree.
+    /// The columns are not a well-formed tree; a wrong total is enough.
     pub const TREE: u64 = 13;
     /// A key to group is no leaf of the tree; the value is the lowest index of such.
     pub const NOTLEAF: u64 = 14;

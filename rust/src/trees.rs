@@ -14,13 +14,15 @@ pub use crate::rows::{Groups, Lists, Rows};
 /// A build makes a tree; [`Tree::from_columns`] takes one as it is. The fields may be changed: every call judges the columns
 /// anew, and what is no tree is refused, [`TREE`](Refusal::TREE). Well formed are columns of one length, at least 1, whose
 /// keys are valid and ascend by level, then code, the first being the root; in which each other node's parent is present,
-/// only leaves own sources, and `begin` has the running sums of `own`, which come to at most 1,048,576.
+/// only leaves own sources, `begin` has the running sums of `own`, which come to at most 1,048,576, and `total` has for each
+/// node the number of sources in the cell and all below it.
 ///
 /// ```
 /// use lohandema::{Bounds, Tree};
 /// // one axis: a root and its two children, with one and two sources
 /// let bounds = Bounds::new(&[4.0], 4.0);
-/// let tree = Tree::from_columns(bounds, vec![0, 1, 32769], vec![0, 1, 2], vec![0, 0, 1], vec![0, 1, 2]);
+/// let (key, own, begin, total) = (vec![0, 1, 32769], vec![0, 1, 2], vec![0, 0, 1], vec![3, 1, 2]);
+/// let tree = Tree::from_columns(bounds, key, own, begin, total, vec![0, 1, 2]);
 /// assert!(tree.is_well_formed());
 /// assert_eq!(tree.leaf_sources(2), [1, 2]);
 /// let lists = tree.get_interaction_lists()?;
@@ -40,6 +42,9 @@ pub struct Tree {
     pub own: Vec<usize>,
     /// The sum of the own sources of all nodes before.
     pub begin: Vec<usize>,
+    /// The number of sources in each node's cell and all below it: a leaf's own, and the sum of the children's for any other
+    /// node. That of the root is the number of all sources.
+    pub total: Vec<usize>,
     /// The indices of the sources, leaf by leaf, ascending within a leaf.
     pub order: Vec<usize>,
 }
@@ -76,12 +81,15 @@ impl Tree {
         let room = room::most_nodes(&asked);
         let mut work = vec![0; room::work(&asked)];
         let mut order = vec![0; room::rows(asked.bounds.axes, asked.sources.len())];
-        let (mut key, mut own, mut begin) = (vec![0; room], vec![0; room], vec![0; room]);
-        let (nodes, _) =
-            lent::build_tree(asked, &mut work, &mut order, &mut key, &mut own, &mut begin)?;
+        let (mut key, mut own) = (vec![0; room], vec![0; room]);
+        let (mut begin, mut total) = (vec![0; room], vec![0; room]);
+        let (nodes, _) = lent::build_tree(
+            asked, &mut work, &mut order, &mut key, &mut own, &mut begin, &mut total,
+        )?;
         let (key, own) = (room::cut(key, nodes), room::cut(own, nodes));
-        let begin = room::cut(begin, nodes);
-        Ok(Tree::from_columns(*asked.bounds, key, own, begin, order))
+        let (begin, total) = (room::cut(begin, nodes), room::cut(total, nodes));
+        let bounds = *asked.bounds;
+        Ok(Tree::from_columns(bounds, key, own, begin, total, order))
     }
 
     /// The tree of these columns, as they are.
@@ -90,6 +98,7 @@ impl Tree {
         key: Vec<u64>,
         own: Vec<usize>,
         begin: Vec<usize>,
+        total: Vec<usize>,
         order: Vec<usize>,
     ) -> Tree {
         Tree {
@@ -97,6 +106,7 @@ impl Tree {
             key,
             own,
             begin,
+            total,
             order,
         }
     }
@@ -109,7 +119,8 @@ impl Tree {
 
     /// The columns, lent.
     pub fn columns(&self) -> Columns<'_> {
-        Columns::new(self.bounds.axes, &self.key, &self.own, &self.begin)
+        let axes = self.bounds.axes;
+        Columns::new(axes, &self.key, &self.own, &self.begin, &self.total)
     }
 
     /// Whether the columns are a well-formed tree. The order column and the rest of the box are not looked at.
@@ -125,6 +136,8 @@ impl Tree {
                 self.own.len(),
                 self.begin.as_ptr(),
                 self.begin.len(),
+                self.total.as_ptr(),
+                self.total.len(),
             )
         }
     }

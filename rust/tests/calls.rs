@@ -35,6 +35,7 @@ fn the_example() {
     assert_eq!(tree.key, [0, 1, 32769, 2, 98306, 3, 32771, 196611, 229379]);
     assert_eq!(tree.own, [0, 0, 0, 0, 0, 1, 1, 1, 1]);
     assert_eq!(tree.begin, [0, 0, 0, 0, 0, 0, 1, 2, 3]);
+    assert_eq!(tree.total, [4, 2, 2, 2, 2, 1, 1, 1, 1]);
     assert_eq!(tree.order, [0, 1, 2, 3]);
     assert_eq!(tree.depth(), 3);
     assert!(tree.is_well_formed());
@@ -99,7 +100,7 @@ fn columns_that_lie_are_refused() {
     let tree = example();
     let mut own = tree.own.clone();
     own[1] = 1;
-    let lying = Columns::new(1, &tree.key, &own, &tree.begin);
+    let lying = Columns::new(1, &tree.key, &own, &tree.begin, &tree.total);
     let mut cells = [7; 9];
     let answer = lent::get_sourced_cells(lying, &mut cells);
     assert_eq!((answer.unwrap_err().number, cells), (13, [0; 9]));

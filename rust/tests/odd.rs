@@ -105,12 +105,17 @@ fn trees_of_any_columns() {
     for axes in AXES {
         let mut bounds = Bounds::new(&[4.0; 3], 4.0);
         bounds.axes = axes;
+        let mut tree = Tree::from_columns(bounds, vec![], vec![], vec![], vec![], vec![0, 1, 2]);
         for key in keys {
+            tree.key = key.to_vec();
             for own in sums {
+                tree.own = own.to_vec();
                 for begin in sums {
-                    let order = vec![0, 1, 2];
-                    let (key, own, begin) = (key.to_vec(), own.to_vec(), begin.to_vec());
-                    calls(&Tree::from_columns(bounds, key, own, begin, order));
+                    tree.begin = begin.to_vec();
+                    for total in sums {
+                        tree.total = total.to_vec();
+                        calls(&tree);
+                    }
                 }
             }
         }
@@ -120,8 +125,9 @@ fn trees_of_any_columns() {
 #[test]
 fn parts_of_unequal_columns_are_empty() {
     let bounds = Bounds::new(&[4.0], 4.0);
-    let key = vec![0, 1, 32769];
-    let mut tree = Tree::from_columns(bounds, key, vec![0, 1, 2], vec![0, 0, 1], vec![4, 5, 6]);
+    let (key, own, begin) = (vec![0, 1, 32769], vec![0, 1, 2], vec![0, 0, 1]);
+    // the totals are not looked at here
+    let mut tree = Tree::from_columns(bounds, key, own, begin, vec![], vec![4, 5, 6]);
     assert_eq!(tree.leaf_sources(2), [5, 6]);
     tree.order.pop();
     assert!(tree.leaf_sources(2).is_empty());
@@ -157,10 +163,10 @@ fn builds_of_any_argument() {
 fn slices_of_no_entries() {
     let bounds = Bounds::new(&[4.0], 4.0);
     let asked = Asked::new(&bounds, &[1.0], 1);
-    let built = lent::build_tree(asked, &mut [], &mut [], &mut [], &mut [], &mut []);
+    let built = lent::build_tree(asked, &mut [], &mut [], &mut [], &mut [], &mut [], &mut []);
     assert_eq!(built, Err(Refusal::new(Refusal::ROOM, 1)));
     for axes in AXES {
-        let columns = Columns::new(axes, &[], &[], &[]);
+        let columns = Columns::new(axes, &[], &[], &[], &[]);
         judged(axes, lent::get_sourced_cells(columns, &mut []));
         judged(axes, lent::get_near_work(columns, &mut [], &mut []));
         let lists = lent::get_interaction_lists(columns, &mut [], &mut [], &mut [], &mut []);
@@ -169,7 +175,7 @@ fn slices_of_no_entries() {
         judged(axes, map);
         assert!(lent::points_to_keys(&bounds, columns, &[], &mut []).is_err());
     }
-    let columns = Columns::new(1, &[0, 1, 32769], &[0; 3], &[0; 3]);
+    let columns = Columns::new(1, &[0, 1, 32769], &[0; 3], &[0; 3], &[0; 3]);
     let cells = lent::get_sourced_cells(columns, &mut []);
     assert_eq!(cells, Ok(0));
     let lists = lent::get_interaction_lists(columns, &mut [], &mut [], &mut [], &mut []);

@@ -116,8 +116,9 @@ fn a_box_of_other_axes_than_the_tree_is_refused() {
     // the same columns may be a tree in 1 axis and in 2
     let bounds = Bounds::new(&[4.0], 4.0);
     let (key, none) = ([0, 1, 32769], [0; 3]);
-    let point = lent::point_to_leaf(&bounds, Columns::new(1, &key, &none, &none), &[6.5]);
+    let columns = |axes| Columns::new(axes, &key, &none, &none, &none);
+    let point = lent::point_to_leaf(&bounds, columns(1), &[6.5]);
     assert_eq!(point, Ok((32769, 0)));
-    let point = lent::point_to_leaf(&bounds, Columns::new(2, &key, &none, &none), &[6.5]);
+    let point = lent::point_to_leaf(&bounds, columns(2), &[6.5]);
     assert_eq!(point, refused(Refusal::DIMS));
 }

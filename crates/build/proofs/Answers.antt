@@ -14,13 +14,14 @@ use Rattle.refusal.specs.Chain.{ask, _then_}
 use Rattle.refusal.proofs.Chain.{never}
 use Rattle.slices.specs.Lists.{filled}
 use Rattle.tree.specs.Nodes.{depthOf}
+use Rattle.tree.specs.Totals.{totalColumn}
 use Rattle.growth.specs.Columns.{ownColumn, beginColumn, orderColumn}
 use Rattle.space.specs.Rows.{rowsOf}
 use Rattle.laying.specs.Points.{codesOf}
 use Rattle.laying.specs.Outcomes.{askedOutcome, insideOutcome, workOutcome}
 use Rattle.build.specs.declared.Built.the-variants.{Tree, Refused as NotBuilt}
-use Rattle.build.specs.Asked.{Asked, builtKeys, builtOwn, builtBegins, builtOrder}
-use Rattle.build.specs.Outcomes.{columnOutcome, buildOutcome, treeOr, BuiltSlices}
+use Rattle.build.specs.Asked.{Asked, builtKeys, builtOwn, builtBegins, builtTotals, builtOrder}
+use Rattle.build.specs.Outcomes.{columnOutcome, buildOutcome, treeOr, Rooms, BuiltSlices}
 
 -- an answer that is a refusal, or a tree, tells the outcome
 pub told-refused : (o : Outcome) (key : List ℕ) (r : Refusal) → NotBuilt r ≡ treeOr o key → o ≡ Refused r
@@ -63,19 +64,21 @@ module _ (a : Asked) (work order nodes : ℕ) where
           ∙ sym (last ∙ ap (λ b. treeOr (ask b (Room 3)) (builtKeys a)) (le-leb (length (builtKeys a)) nodes (omega (arith, e, h))))
 
 -- the columns that were written, said of what was asked
-pub columns-are : (a : Asked) (n : ℕ) (key codes : List ℕ) → take n key ≡ builtKeys a → n ≡ length (builtKeys a) → codes ≡ codesOf (a .box) (a .sources)
-    → (work₁ work₂ order₂ key₂ own₂ begin₂ : List ℕ) (works orders keys owns begins : ℕ) → length work₁ ≡ works → length key ≡ keys
-    → work₂ ≡ replicate (length work₁) 0 → order₂ ≡ filled orders (orderColumn (a .box .axes) (take n key) codes)
-    → key₂ ≡ take n key ++ replicate (length key - n) 0 → own₂ ≡ filled owns (ownColumn (a .box .axes) (take n key) codes)
-    → begin₂ ≡ filled begins (beginColumn (ownColumn (a .box .axes) (take n key) codes))
-    → BuiltSlices a work₂ order₂ key₂ own₂ begin₂ works orders keys owns begins
-unfolding builtOrder builtOwn builtBegins
-columns-are a n key codes k e c work₁ work₂ order₂ key₂ own₂ begin₂ works orders keys owns begins lw lk iw io ik iown ib =
+pub columns-are : (a : Asked) (r : Rooms) (n : ℕ) (key codes : List ℕ) → take n key ≡ builtKeys a → n ≡ length (builtKeys a) → codes ≡ codesOf (a .box) (a .sources)
+    → (work₁ work₂ order₂ key₂ own₂ begin₂ total₂ : List ℕ) → length work₁ ≡ r .work → length key ≡ r .keys
+    → work₂ ≡ replicate (length work₁) 0 → order₂ ≡ filled (r .order) (orderColumn (a .box .axes) (take n key) codes)
+    → key₂ ≡ take n key ++ replicate (length key - n) 0 → own₂ ≡ filled (r .own) (ownColumn (a .box .axes) (take n key) codes)
+    → begin₂ ≡ filled (r .begins) (beginColumn (ownColumn (a .box .axes) (take n key) codes))
+    → total₂ ≡ filled (r .totals) (totalColumn (a .box .axes) (take n key) (ownColumn (a .box .axes) (take n key) codes))
+    → BuiltSlices a r work₂ order₂ key₂ own₂ begin₂ total₂
+unfolding builtOrder builtOwn builtBegins builtTotals
+columns-are a r n key codes k e c work₁ work₂ order₂ key₂ own₂ begin₂ total₂ lw lk iw io ik iown ib it =
     let d = a .box .axes in
     record {
       worked = iw ∙ ap (λ (x : ℕ). replicate x 0) lw;
-      ordered = io ∙ ap₂ (λ (x y : List ℕ). filled orders (orderColumn d x y)) k c;
+      ordered = io ∙ ap₂ (λ (x y : List ℕ). filled (r .order) (orderColumn d x y)) k c;
       keyed = ik ∙ ap₂ (λ (x : List ℕ) (m : ℕ). x ++ replicate m 0) k (ap₂ (λ (x y : ℕ). x - y) lk e);
-      owned = iown ∙ ap₂ (λ (x y : List ℕ). filled owns (ownColumn d x y)) k c;
-      begun = ib ∙ ap₂ (λ (x y : List ℕ). filled begins (beginColumn (ownColumn d x y))) k c;
+      owned = iown ∙ ap₂ (λ (x y : List ℕ). filled (r .own) (ownColumn d x y)) k c;
+      begun = ib ∙ ap₂ (λ (x y : List ℕ). filled (r .begins) (beginColumn (ownColumn d x y))) k c;
+      summed = it ∙ ap₂ (λ (x y : List ℕ). filled (r .totals) (totalColumn d x (ownColumn d x y))) k c;
     }

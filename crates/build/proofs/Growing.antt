@@ -16,12 +16,15 @@ use Rattle.space.specs.declared.Frame.{Frame}
 use Rattle.space.specs.Cells.{frameOf, anchors16, code16}
 use Rattle.space.proofs.Batches.{codes-length, code-at-row}
 use Rattle.space.proofs.Points.{code-small}
+use Rattle.tree.specs.WellFormed.{SoundTree}
 use Rattle.growth.specs.declared.Rule.{Rule}
 use Rattle.growth.specs.Nodes.{nodes}
+use Rattle.growth.specs.Columns.{ownColumn, beginColumn}
 use Rattle.growth.proofs.AnyOrder.{nodes-sorted}
 use Rattle.growth.proofs.Arranged.{Codes}
 use Rattle.growth.proofs.Order.{nodes-ascend, parents-stored}
 use Rattle.growth.proofs.Found.{sources-held}
+use Rattle.growth.proofs.Formed.{formed-grown}
 use Rattle.grow.specs.declared.Grown.{Grown}
 use Rattle.grow.specs.declared.Grown.the-variants.{Nodes, Full}
 use Rattle.grow.specs.Queue.{Points, Grows}
@@ -104,6 +107,18 @@ module _ (a : Asked) (room : ℕ) (p : Passed (a .box) (a .sources) (a .targets)
         in-leaf = sources-held (ruleOf a) s t known (codes-lt (a .box) (a .sources));
       }
 
+  -- the rule that totals ask for
+  tree-sound : SoundTree (a .box .axes) (builtKeys a) (ownColumn (a .box .axes) (builtKeys a) s)
+  unfolding builtKeys
+  tree-sound =
+      let known = axes-known (a .box .axes) (p .call .box .least) (p .call .box .most) in
+      record {
+        some = p .call .box .least;
+        most = p .call .box .most;
+        begin = beginColumn (ownColumn (a .box .axes) (nodes (ruleOf a) s t) s);
+        sound = formed-grown (ruleOf a) s t known (codes-lt (a .box) (a .sources)) (omega (arith, s-long, p .call .few));
+      }
+
   module _ (work old : List ℕ) (e : work ≡ laid s (ascending s) (ascending t) old) where
     pub first-part : take n work ≡ s
     first-part = ap (take n) e ∙ laid-first s (ascending s) (ascending t) old n s-long
@@ -127,6 +142,11 @@ module _ (a : Asked) (room : ℕ) (p : Passed (a .box) (a .sources) (a .targets)
     work-leaves m key q =
         subst (λ (z : List ℕ). InLeaves (a .box .axes) (take m key) z) (sym first-part)
         (subst (λ (z : List ℕ). InLeaves (a .box .axes) z s) (sym q) tree-leaves)
+
+    pub work-sound : (m : ℕ) (key : List ℕ) → take m key ≡ builtKeys a → SoundTree (a .box .axes) (take m key) (ownColumn (a .box .axes) (take m key) (take n work))
+    work-sound m key q =
+        subst (λ (z : List ℕ). SoundTree (a .box .axes) (take m key) (ownColumn (a .box .axes) (take m key) z)) (sym first-part)
+        (subst (λ (z : List ℕ). SoundTree (a .box .axes) z (ownColumn (a .box .axes) z s)) (sym q) tree-sound)
 
     -- the nodes as they are grown into the key column
     pub work-grown : (key : List ℕ) (m : ℕ) (n′ : ℕ) (result : Grown) → result ≡ Nodes n′ → Grows key m (nodes (ruleOf a) (part n n work) (part (n + n) k work)) result

@@ -1,6 +1,6 @@
 -- What a build returns, for every build that is not refused: a well-formed tree over all sources, each in one leaf's part of the
 -- order column, and the tender's third demand for the sources handed in.
-use mathlib.Core.Path.{_≡_, sym, ap, ap₂, _∙_}
+use mathlib.Core.Path.{_≡_, sym, ap, _∙_}
 use mathlib.Core.Bool.{Bool, true, cond}
 use mathlib.Core.List.{List, []}
 use Prim.Native.Nat.{ℕ, _*_, _≤_, _<_}
@@ -8,7 +8,7 @@ use native.Mathlib.Omega.{arith}
 use lib.Dec.{eqb}
 use lib.ListN.{length, getD, drop}
 use borrow.Author.Tests.{eqb-true}
-use Rattle.refusal.specs.declared.Refusal.the-variants.{Source, Point}
+use Rattle.refusal.specs.declared.Refusal.the-variants.{Source}
 use Rattle.refusal.specs.declared.Outcome.the-variants.{Done}
 use Rattle.refusal.specs.Chain.{ask, _then_}
 use Rattle.refusal.proofs.Chain.{asked, both-done}
@@ -22,13 +22,15 @@ use Rattle.space.proofs.Batches.{codes-length, row-inside}
 use Rattle.tree.specs.Nodes.{leaf, depthOf}
 use Rattle.tree.specs.WellFormed.{wellFormed, mostSources, Run}
 use Rattle.tree.specs.Sources.{leafSources}
+use Rattle.tree.proofs.Verdict.{formed-of}
 use Rattle.rows.specs.Lists.{uRow, vRow}
 use Rattle.rows.specs.Demand3.{brings, meetings, Far, Few}
 use Rattle.rows.proofs.Demand3.{demand-3}
 use Rattle.climb.specs.Leaves.{leafKey}
 use Rattle.growth.specs.Columns.{holds, indicesIn}
-use Rattle.growth.proofs.Arranged.{order-arranged}
+use Rattle.growth.proofs.Arranged.{length-indices, order-arranged}
 use Rattle.growth.proofs.Formed.{well-formed, own-total, depth-most}
+use Rattle.growth.proofs.Totals.{total-here, root-here}
 use Rattle.growth.proofs.Found.{source-found}
 use Rattle.growth.proofs.Runs.{leaf-part}
 use Rattle.growth.proofs.Meets.{meets-once, meets-near}
@@ -36,7 +38,7 @@ use Rattle.space.specs.Rows.{rowsOf, rowsInside}
 use Rattle.laying.specs.Points.{codesOf}
 use Rattle.laying.specs.Outcomes.{askedOutcome, insideOutcome, workOutcome}
 use Rattle.laying.proofs.Prepared.{Passed, passed}
-use Rattle.build.specs.Asked.{Asked, ruleOf, builtKeys, builtOwn, builtBegins, builtOrder}
+use Rattle.build.specs.Asked.{Asked, ruleOf, builtKeys, builtOwn, builtBegins, builtTotals, builtOrder}
 use Rattle.build.specs.Outcomes.{columnOutcome, buildOutcome}
 use Rattle.build.proofs.Growing.{codes-lt}
 
@@ -105,11 +107,25 @@ module _ (a : Asked) (work order nodes : ℕ) (done : buildOutcome a work order 
       row-inside (count a) x (frameOf (a .box)) (a .sources) (omega (arith, all))
 
   -- the tree is well formed
-  pub built-formed : wellFormed (axes a) (builtKeys a) (builtOwn a) (builtBegins a) ≡ true
-  unfolding builtKeys builtOwn builtBegins
+  pub built-formed : wellFormed (axes a) (builtKeys a) (builtOwn a) (builtBegins a) (builtTotals a) ≡ true
+  unfolding builtKeys builtOwn builtBegins builtTotals
   built-formed = well-formed (ruleOf a) (sources a) (targets a) built-axes (codes-lt (a .box) (a .sources)) few
 
-  -- its total is the number of sources
+  -- each total is the number of the sources whose code lies in that cell
+  pub built-totals : (j : ℕ) → j < length (builtKeys a) → getD (builtTotals a) j 0 ≡ length (filter (λ x. holds (axes a) (getD (builtKeys a) j 0) (getD (sources a) x 0)) (range 0 (count a)))
+  unfolding builtKeys builtOwn builtTotals indicesIn
+  built-totals j h =
+      total-here (ruleOf a) (sources a) (targets a) built-axes (codes-lt (a .box) (a .sources)) j h
+      ∙ sym (length-indices (axes a) (sources a) (getD (builtKeys a) j 0))
+      ∙ ap (λ (n : ℕ). length (filter (λ x. holds (axes a) (getD (builtKeys a) j 0) (getD (sources a) x 0)) (range 0 n))) (as-many a)
+
+  -- the root's is the number of sources
+  pub built-root : getD (builtTotals a) 0 0 ≡ count a
+  unfolding builtKeys builtOwn builtTotals
+  built-root =
+      root-here (ruleOf a) (sources a) (targets a) built-axes (codes-lt (a .box) (a .sources)) few ∙ as-many a
+
+  -- and so is what all leaves own
   pub built-total : sum (builtOwn a) ≡ count a
   unfolding builtKeys builtOwn
   built-total = own-total (ruleOf a) (sources a) (targets a) built-axes (codes-lt (a .box) (a .sources)) ∙ as-many a
@@ -149,5 +165,5 @@ module _ (a : Asked) (work order nodes : ℕ) (done : buildOutcome a work order 
 
   pub built-demand-3 : Demand3 a
   built-demand-3 =
-      let whole = demand-3 (axes a) (builtKeys a) (builtOwn a) (builtBegins a) built-formed built-axes in
+      let whole = demand-3 (axes a) (builtKeys a) (builtOwn a) (builtBegins a) (formed-of (axes a) (builtKeys a) (builtOwn a) (builtBegins a) (builtTotals a) built-formed) built-axes in
       record { once = built-once; near = built-near; far = whole .3; few = whole .4 }

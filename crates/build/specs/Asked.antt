@@ -5,6 +5,7 @@ use Prim.Native.Nat.{ℕ}
 use lib.Ieee.{Float}
 use Rattle.space.specs.declared.Box.{Box}
 use Rattle.tree.specs.Columns.{Columns, columns}
+use Rattle.tree.specs.Totals.{totalColumn}
 use Rattle.growth.specs.declared.Rule.{Rule}
 use Rattle.growth.specs.Nodes.{nodes}
 use Rattle.growth.specs.Columns.{ownColumn, beginColumn, orderColumn}
@@ -43,8 +44,12 @@ builtOwn a = ownColumn (a .box .axes) (builtKeys a) (codesOf (a .box) (a .source
 unfoldable pub builtBegins : Asked → List ℕ
 builtBegins a = beginColumn (builtOwn a)
 
+-- the number of sources in each cell and all below it
+unfoldable pub builtTotals : Asked → List ℕ
+builtTotals a = totalColumn (a .box .axes) (builtKeys a) (builtOwn a)
+
 abbrev pub builtColumns : Asked → Columns
-builtColumns a = columns (builtKeys a) (builtOwn a) (builtBegins a)
+builtColumns a = columns (builtKeys a) (builtOwn a) (builtBegins a) (builtTotals a)
 
 unfoldable pub builtOrder : Asked → List ℕ
 builtOrder a = orderColumn (a .box .axes) (builtKeys a) (codesOf (a .box) (a .sources))

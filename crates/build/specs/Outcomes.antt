@@ -15,11 +15,11 @@ use Rattle.space.specs.Rows.{rowsOf}
 use Rattle.laying.specs.Outcomes.{askedOutcome, insideOutcome, workOutcome}
 use Rattle.build.specs.declared.Built.{Built}
 use Rattle.build.specs.declared.Built.the-variants.{Tree, Refused as NotBuilt}
-use Rattle.build.specs.Asked.{Asked, builtKeys, builtOwn, builtBegins, builtOrder}
+use Rattle.build.specs.Asked.{Asked, builtKeys, builtOwn, builtBegins, builtTotals, builtOrder}
 
--- the shortest of the three node columns, of which at most 1,048,576 entries count
-abbrev pub nodeRoom : ℕ → ℕ → ℕ → ℕ
-nodeRoom key own begin = min 1048576 (min key (min own begin))
+-- the shortest of the four node columns, of which at most 1,048,576 entries count
+abbrev pub nodeRoom : ℕ → ℕ → ℕ → ℕ → ℕ
+nodeRoom key own begin total = min 1048576 (min key (min own (min begin total)))
 
 -- 8 ROOM: 2 the order, 3 the node columns, of which `nodes` entries count
 unfoldable pub columnOutcome : Asked → ℕ → ℕ → Outcome
@@ -37,21 +37,23 @@ abbrev pub treeOr : Outcome → List ℕ → Built
 treeOr Done key = Tree (length key) (depthOf key)
 treeOr (Refused r) key = NotBuilt r
 
--- how many entries the lent slices have: the work, the order column, and the three node columns
+-- how many entries the lent slices have: the work, the order column, and the four node columns
 pub record Rooms : Type 0 where
   pub work : ℕ
   pub order : ℕ
   pub keys : ℕ
   pub own : ℕ
   pub begins : ℕ
+  pub totals : ℕ
 
-abbrev pub rooms : (work order keys own begins : ℕ) → Rooms
-rooms work order keys own begins = record { work = work; order = order; keys = keys; own = own; begins = begins }
+abbrev pub rooms : (work order keys own begins totals : List ℕ) → Rooms
+rooms work order keys own begins totals =
+    record { work = length work; order = length order; keys = length keys; own = length own; begins = length begins; totals = length totals }
 
 -- ---- a build with so much room
 module _ (a : Asked) (r : Rooms) where
   abbrev pub buildCheck : Outcome
-  buildCheck = buildOutcome a (r .work) (r .order) (nodeRoom (r .keys) (r .own) (r .begins))
+  buildCheck = buildOutcome a (r .work) (r .order) (nodeRoom (r .keys) (r .own) (r .begins) (r .totals))
 
   abbrev pub buildAnswer : Built
   buildAnswer = treeOr buildCheck (builtKeys a)
@@ -69,10 +71,14 @@ module _ (a : Asked) (r : Rooms) where
   abbrev pub beginsLeft : List ℕ
   beginsLeft = left buildCheck (r .begins) (builtBegins a)
 
--- the slices after a build that is not refused, by the length of each
-pub record BuiltSlices (a : Asked) (work order key own begin : List ℕ) (works orders keys owns begins : ℕ) : Type 0 where
-  pub worked : work ≡ replicate works 0
-  pub ordered : order ≡ filled orders (builtOrder a)
-  pub keyed : key ≡ filled keys (builtKeys a)
-  pub owned : own ≡ filled owns (builtOwn a)
-  pub begun : begin ≡ filled begins (builtBegins a)
+  abbrev pub totalsLeft : List ℕ
+  totalsLeft = left buildCheck (r .totals) (builtTotals a)
+
+-- the slices after a build that is not refused
+pub record BuiltSlices (a : Asked) (r : Rooms) (works orders keys owns begins totals : List ℕ) : Type 0 where
+  pub worked : works ≡ replicate (r .work) 0
+  pub ordered : orders ≡ filled (r .order) (builtOrder a)
+  pub keyed : keys ≡ filled (r .keys) (builtKeys a)
+  pub owned : owns ≡ filled (r .own) (builtOwn a)
+  pub begun : begins ≡ filled (r .begins) (builtBegins a)
+  pub summed : totals ≡ filled (r .totals) (builtTotals a)

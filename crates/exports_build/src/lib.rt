@@ -5,7 +5,7 @@ use refusal::Outcome;
 ghost use mathlib.Core.Path.{_≡_};
 ghost use lib.ListN.{length, replicate};
 ghost use Rattle.build.specs.Asked.{asksFor};
-ghost use Rattle.build.specs.Outcomes.{rooms, buildAnswer, orderLeft, keysLeft, ownLeft, beginsLeft};
+ghost use Rattle.build.specs.Outcomes.{rooms, buildAnswer, orderLeft, keysLeft, ownLeft, beginsLeft, totalsLeft};
 ghost use Rattle.exports_keys.specs.Told.{told};
 ghost use Rattle.exports_points.specs.Boxes.{boxAt};
 ghost use Rattle.exports_build.specs.Told.{builtEnd, nodesIn, depthIn};
@@ -47,24 +47,27 @@ pub extern "C" fn lohandema_build_tree(
     key: &mut [u64],
     own: &mut [usize],
     begin: &mut [usize],
+    total: &mut [usize],
     nodes: &mut usize,
     depth: &mut u64,
 ) -> Ended
     ensures ended { λ r. ⌜ r ≡ told (builtEnd (buildAnswer (asksFor (boxAt (now (centre .entry)) radius axes) (now (sources .entry)) (now (targets .entry)) limit order keep refine)
-        (rooms (length (now (work .entry))) (length (now (indices .entry))) (length (now (key .entry))) (length (now (own .entry))) (length (now (begin .entry)))))) ⌝ }
+        (rooms (now (work .entry)) (now (indices .entry)) (now (key .entry)) (now (own .entry)) (now (begin .entry)) (now (total .entry))))) ⌝ }
     ensures work { λ _. ⌜ now (work .exit) ≡ replicate (length (now (work .entry))) 0 ⌝ }
     ensures indices { λ _. ⌜ now (indices .exit) ≡ orderLeft (asksFor (boxAt (now (centre .entry)) radius axes) (now (sources .entry)) (now (targets .entry)) limit order keep refine)
-        (rooms (length (now (work .entry))) (length (now (indices .entry))) (length (now (key .entry))) (length (now (own .entry))) (length (now (begin .entry)))) ⌝ }
+        (rooms (now (work .entry)) (now (indices .entry)) (now (key .entry)) (now (own .entry)) (now (begin .entry)) (now (total .entry))) ⌝ }
     ensures key { λ _. ⌜ now (key .exit) ≡ keysLeft (asksFor (boxAt (now (centre .entry)) radius axes) (now (sources .entry)) (now (targets .entry)) limit order keep refine)
-        (rooms (length (now (work .entry))) (length (now (indices .entry))) (length (now (key .entry))) (length (now (own .entry))) (length (now (begin .entry)))) ⌝ }
+        (rooms (now (work .entry)) (now (indices .entry)) (now (key .entry)) (now (own .entry)) (now (begin .entry)) (now (total .entry))) ⌝ }
     ensures own { λ _. ⌜ now (own .exit) ≡ ownLeft (asksFor (boxAt (now (centre .entry)) radius axes) (now (sources .entry)) (now (targets .entry)) limit order keep refine)
-        (rooms (length (now (work .entry))) (length (now (indices .entry))) (length (now (key .entry))) (length (now (own .entry))) (length (now (begin .entry)))) ⌝ }
+        (rooms (now (work .entry)) (now (indices .entry)) (now (key .entry)) (now (own .entry)) (now (begin .entry)) (now (total .entry))) ⌝ }
     ensures begin { λ _. ⌜ now (begin .exit) ≡ beginsLeft (asksFor (boxAt (now (centre .entry)) radius axes) (now (sources .entry)) (now (targets .entry)) limit order keep refine)
-        (rooms (length (now (work .entry))) (length (now (indices .entry))) (length (now (key .entry))) (length (now (own .entry))) (length (now (begin .entry)))) ⌝ }
+        (rooms (now (work .entry)) (now (indices .entry)) (now (key .entry)) (now (own .entry)) (now (begin .entry)) (now (total .entry))) ⌝ }
+    ensures total { λ _. ⌜ now (total .exit) ≡ totalsLeft (asksFor (boxAt (now (centre .entry)) radius axes) (now (sources .entry)) (now (targets .entry)) limit order keep refine)
+        (rooms (now (work .entry)) (now (indices .entry)) (now (key .entry)) (now (own .entry)) (now (begin .entry)) (now (total .entry))) ⌝ }
     ensures nodes { λ _. ⌜ now (nodes .exit) ≡ nodesIn (buildAnswer (asksFor (boxAt (now (centre .entry)) radius axes) (now (sources .entry)) (now (targets .entry)) limit order keep refine)
-        (rooms (length (now (work .entry))) (length (now (indices .entry))) (length (now (key .entry))) (length (now (own .entry))) (length (now (begin .entry))))) ⌝ }
+        (rooms (now (work .entry)) (now (indices .entry)) (now (key .entry)) (now (own .entry)) (now (begin .entry)) (now (total .entry)))) ⌝ }
     ensures depth { λ _. ⌜ now (depth .exit) ≡ depthIn (buildAnswer (asksFor (boxAt (now (centre .entry)) radius axes) (now (sources .entry)) (now (targets .entry)) limit order keep refine)
-        (rooms (length (now (work .entry))) (length (now (indices .entry))) (length (now (key .entry))) (length (now (own .entry))) (length (now (begin .entry))))) ⌝ }
+        (rooms (now (work .entry)) (now (indices .entry)) (now (key .entry)) (now (own .entry)) (now (begin .entry)) (now (total .entry)))) ⌝ }
 {
     let b = exports_points::box_at(centre, radius, axes);
     let answer = build::build_tree(
@@ -80,6 +83,7 @@ pub extern "C" fn lohandema_build_tree(
         key,
         own,
         begin,
+        total,
     );
     tell_built(answer, nodes, depth)
 }

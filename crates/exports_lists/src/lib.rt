@@ -37,6 +37,7 @@ pub extern "C" fn lohandema_get_interaction_lists(
     key: &[u64],
     own: &[usize],
     begin: &[usize],
+    total: &[usize],
     u_starts: &mut [usize],
     u_keys: &mut [u64],
     v_starts: &mut [usize],
@@ -44,19 +45,19 @@ pub extern "C" fn lohandema_get_interaction_lists(
     u: &mut usize,
     v: &mut usize,
 ) -> Ended
-    ensures ended { λ r. ⌜ r ≡ told (listsEnd (listsAnswer axes (columns (now (key .entry)) (now (own .entry)) (now (begin .entry)))
+    ensures ended { λ r. ⌜ r ≡ told (listsEnd (listsAnswer axes (columns (now (key .entry)) (now (own .entry)) (now (begin .entry)) (now (total .entry)))
         (length (now («u_starts» .entry))) (length (now («u_keys» .entry))) (length (now («v_starts» .entry))) (length (now («v_keys» .entry))))) ⌝ }
-    ensures u_starts { λ _. ⌜ now («u_starts» .exit) ≡ uStartsLeft axes (columns (now (key .entry)) (now (own .entry)) (now (begin .entry)))
+    ensures u_starts { λ _. ⌜ now («u_starts» .exit) ≡ uStartsLeft axes (columns (now (key .entry)) (now (own .entry)) (now (begin .entry)) (now (total .entry)))
         (length (now («u_starts» .entry))) (length (now («u_keys» .entry))) (length (now («v_starts» .entry))) (length (now («v_keys» .entry))) ⌝ }
-    ensures u_keys { λ _. ⌜ now («u_keys» .exit) ≡ uKeysLeft axes (columns (now (key .entry)) (now (own .entry)) (now (begin .entry)))
+    ensures u_keys { λ _. ⌜ now («u_keys» .exit) ≡ uKeysLeft axes (columns (now (key .entry)) (now (own .entry)) (now (begin .entry)) (now (total .entry)))
         (length (now («u_starts» .entry))) (length (now («u_keys» .entry))) (length (now («v_starts» .entry))) (length (now («v_keys» .entry))) ⌝ }
-    ensures v_starts { λ _. ⌜ now («v_starts» .exit) ≡ vStartsLeft axes (columns (now (key .entry)) (now (own .entry)) (now (begin .entry)))
+    ensures v_starts { λ _. ⌜ now («v_starts» .exit) ≡ vStartsLeft axes (columns (now (key .entry)) (now (own .entry)) (now (begin .entry)) (now (total .entry)))
         (length (now («u_starts» .entry))) (length (now («u_keys» .entry))) (length (now («v_starts» .entry))) (length (now («v_keys» .entry))) ⌝ }
-    ensures v_keys { λ _. ⌜ now («v_keys» .exit) ≡ vKeysLeft axes (columns (now (key .entry)) (now (own .entry)) (now (begin .entry)))
+    ensures v_keys { λ _. ⌜ now («v_keys» .exit) ≡ vKeysLeft axes (columns (now (key .entry)) (now (own .entry)) (now (begin .entry)) (now (total .entry)))
         (length (now («u_starts» .entry))) (length (now («u_keys» .entry))) (length (now («v_starts» .entry))) (length (now («v_keys» .entry))) ⌝ }
-    ensures u { λ _. ⌜ now (u .exit) ≡ uIn (listsAnswer axes (columns (now (key .entry)) (now (own .entry)) (now (begin .entry)))
+    ensures u { λ _. ⌜ now (u .exit) ≡ uIn (listsAnswer axes (columns (now (key .entry)) (now (own .entry)) (now (begin .entry)) (now (total .entry)))
         (length (now («u_starts» .entry))) (length (now («u_keys» .entry))) (length (now («v_starts» .entry))) (length (now («v_keys» .entry)))) ⌝ }
-    ensures v { λ _. ⌜ now (v .exit) ≡ vIn (listsAnswer axes (columns (now (key .entry)) (now (own .entry)) (now (begin .entry)))
+    ensures v { λ _. ⌜ now (v .exit) ≡ vIn (listsAnswer axes (columns (now (key .entry)) (now (own .entry)) (now (begin .entry)) (now (total .entry)))
         (length (now («u_starts» .entry))) (length (now («u_keys» .entry))) (length (now («v_starts» .entry))) (length (now («v_keys» .entry)))) ⌝ }
 {
     let answer = interaction::get_interaction_lists(
@@ -64,6 +65,7 @@ pub extern "C" fn lohandema_get_interaction_lists(
         key,
         own,
         begin,
+        total,
         u_starts,
         u_keys,
         v_starts,
@@ -79,19 +81,20 @@ pub extern "C" fn lohandema_get_near_work(
     key: &[u64],
     own: &[usize],
     begin: &[usize],
+    total: &[usize],
     starts: &mut [usize],
     flat: &mut [u64],
     work: &mut u64,
 ) -> Ended
-    ensures ended { λ r. ⌜ r ≡ told (workEnd (workAnswer axes (columns (now (key .entry)) (now (own .entry)) (now (begin .entry)))
+    ensures ended { λ r. ⌜ r ≡ told (workEnd (workAnswer axes (columns (now (key .entry)) (now (own .entry)) (now (begin .entry)) (now (total .entry)))
         (length (now (starts .entry))) (length (now (flat .entry))))) ⌝ }
-    ensures starts { λ _. ⌜ now (starts .exit) ≡ workStartsLeft axes (columns (now (key .entry)) (now (own .entry)) (now (begin .entry)))
+    ensures starts { λ _. ⌜ now (starts .exit) ≡ workStartsLeft axes (columns (now (key .entry)) (now (own .entry)) (now (begin .entry)) (now (total .entry)))
         (length (now (starts .entry))) (length (now (flat .entry))) ⌝ }
-    ensures flat { λ _. ⌜ now (flat .exit) ≡ workKeysLeft axes (columns (now (key .entry)) (now (own .entry)) (now (begin .entry))) (length (now (starts .entry))) (length (now (flat .entry))) ⌝ }
-    ensures work { λ _. ⌜ now (work .exit) ≡ workIn (workAnswer axes (columns (now (key .entry)) (now (own .entry)) (now (begin .entry)))
+    ensures flat { λ _. ⌜ now (flat .exit) ≡ workKeysLeft axes (columns (now (key .entry)) (now (own .entry)) (now (begin .entry)) (now (total .entry))) (length (now (starts .entry))) (length (now (flat .entry))) ⌝ }
+    ensures work { λ _. ⌜ now (work .exit) ≡ workIn (workAnswer axes (columns (now (key .entry)) (now (own .entry)) (now (begin .entry)) (now (total .entry)))
         (length (now (starts .entry))) (length (now (flat .entry)))) ⌝ }
 {
-    let answer = near_work::get_near_work(axes, key, own, begin, starts, flat);
+    let answer = near_work::get_near_work(axes, key, own, begin, total, starts, flat);
     match answer {
         WorkAnswer::Work(sum) => {
             *work = sum;

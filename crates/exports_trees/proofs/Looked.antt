@@ -22,18 +22,18 @@ looked-end : (o : Outcome) (steps : ℕ) → lookedEnd (foundOr o steps) ≡ o
 looked-end Done steps = refl
 looked-end (Refused r) steps = refl
 
-module _ {b x : Box} (keys own begin : List ℕ) (points : List Float) (room : ℕ) (e : b ≡ x) where
-  pub told-end : (a : LookedUp) → a ≡ lookupAnswer b (columns keys own begin) points room
-      → lookedEnd a ≡ lookupOutcome x (columns keys own begin) points room
-  told-end a f = ap lookedEnd f ∙ looked-end (lookupOutcome b (columns keys own begin) points room) (stepsSum (b .axes) keys (codesInside b points)) ∙ ap (λ b. lookupOutcome b (columns keys own begin) points room) e
+module _ {b x : Box} (keys own begin total : List ℕ) (points : List Float) (room : ℕ) (e : b ≡ x) where
+  pub told-end : (a : LookedUp) → a ≡ lookupAnswer b (columns keys own begin total) points room
+      → lookedEnd a ≡ lookupOutcome x (columns keys own begin total) points room
+  told-end a f = ap lookedEnd f ∙ looked-end (lookupOutcome b (columns keys own begin total) points room) (stepsSum (b .axes) keys (codesInside b points)) ∙ ap (λ b. lookupOutcome b (columns keys own begin total) points room) e
 
-  pub told-steps : (a : LookedUp) → a ≡ lookupAnswer b (columns keys own begin) points room
-      → stepsIn a ≡ stepsIn (lookupAnswer x (columns keys own begin) points room)
-  told-steps a f = ap stepsIn f ∙ ap (λ b. stepsIn (lookupAnswer b (columns keys own begin) points room)) e
+  pub told-steps : (a : LookedUp) → a ≡ lookupAnswer b (columns keys own begin total) points room
+      → stepsIn a ≡ stepsIn (lookupAnswer x (columns keys own begin total) points room)
+  told-steps a f = ap stepsIn f ∙ ap (λ b. stepsIn (lookupAnswer b (columns keys own begin total) points room)) e
 
-  pub told-output : (out : List ℕ) → out ≡ lookupLeft b (columns keys own begin) points room
-      → out ≡ lookupLeft x (columns keys own begin) points room
-  told-output out f = f ∙ ap (λ b. lookupLeft b (columns keys own begin) points room) e
+  pub told-output : (out : List ℕ) → out ≡ lookupLeft b (columns keys own begin total) points room
+      → out ≡ lookupLeft x (columns keys own begin total) points room
+  told-output out f = f ∙ ap (λ b. lookupLeft b (columns keys own begin total) points room) e
 
   pub told-few : (n : ℕ) → BatchSteps (b .axes) keys (codesInside b points) (rowsOf b points) n → n ≤ 15 * rowsOf x points
   told-few n s = subst (λ (b : Box). n ≤ 15 * rowsOf b points) e (s .few)

@@ -28,10 +28,11 @@ pub extern "C" fn lohandema_is_well_formed(
     key: &[u64],
     own: &[usize],
     begin: &[usize],
+    total: &[usize],
 ) -> bool
-    ensures { λ r. ⌜ r ≡ (axesKnown axes && wellFormed axes (now (key .entry)) (now (own .entry)) (now (begin .entry))) ⌝ }
+    ensures { λ r. ⌜ r ≡ (axesKnown axes && wellFormed axes (now (key .entry)) (now (own .entry)) (now (begin .entry)) (now (total .entry))) ⌝ }
 {
-    tree::is_well_formed(axes, key, own, begin)
+    tree::is_well_formed(axes, key, own, begin, total)
 }
 
 #[no_mangle]
@@ -72,20 +73,21 @@ pub extern "C" fn lohandema_points_to_keys(
     key: &[u64],
     own: &[usize],
     begin: &[usize],
+    total: &[usize],
     points: &[f64],
     output: &mut [u64],
     steps: &mut usize,
 ) -> Ended
-    ensures ended { λ r. ⌜ r ≡ told (lookupOutcome (boxAt (now (centre .entry)) radius axes) (columns (now (key .entry)) (now (own .entry)) (now (begin .entry)))
+    ensures ended { λ r. ⌜ r ≡ told (lookupOutcome (boxAt (now (centre .entry)) radius axes) (columns (now (key .entry)) (now (own .entry)) (now (begin .entry)) (now (total .entry)))
         (now (points .entry)) (length (now (output .entry)))) ⌝ }
-    ensures output { λ _. ⌜ now (output .exit) ≡ lookupLeft (boxAt (now (centre .entry)) radius axes) (columns (now (key .entry)) (now (own .entry)) (now (begin .entry)))
+    ensures output { λ _. ⌜ now (output .exit) ≡ lookupLeft (boxAt (now (centre .entry)) radius axes) (columns (now (key .entry)) (now (own .entry)) (now (begin .entry)) (now (total .entry)))
         (now (points .entry)) (length (now (output .entry))) ⌝ }
-    ensures steps { λ _. ⌜ now (steps .exit) ≡ stepsIn (lookupAnswer (boxAt (now (centre .entry)) radius axes) (columns (now (key .entry)) (now (own .entry)) (now (begin .entry)))
+    ensures steps { λ _. ⌜ now (steps .exit) ≡ stepsIn (lookupAnswer (boxAt (now (centre .entry)) radius axes) (columns (now (key .entry)) (now (own .entry)) (now (begin .entry)) (now (total .entry)))
         (now (points .entry)) (length (now (output .entry)))) ⌝ }
     ensures few { λ _. ⌜ now (steps .exit) ≤ 15 * rowsOf (boxAt (now (centre .entry)) radius axes) (now (points .entry)) ⌝ }
 {
     let b = exports_points::box_at(centre, radius, axes);
-    let answer = lookup::points_to_keys(b, key, own, begin, points, output);
+    let answer = lookup::points_to_keys(b, key, own, begin, total, points, output);
     match answer {
         LookedUp::Found(climbed) => {
             *steps = climbed;
@@ -107,21 +109,22 @@ pub extern "C" fn lohandema_point_to_leaf(
     key: &[u64],
     own: &[usize],
     begin: &[usize],
+    total: &[usize],
     point: &[f64; 3],
     leaf: &mut u64,
     steps: &mut u64,
 ) -> Ended
     ensures ended { λ r. ⌜ r ≡ told (leafEnd (pointToLeaf (boxAt (now (centre .entry)) radius axes)
-        (columns (now (key .entry)) (now (own .entry)) (now (begin .entry))) (now (point .entry)))) ⌝ }
+        (columns (now (key .entry)) (now (own .entry)) (now (begin .entry)) (now (total .entry))) (now (point .entry)))) ⌝ }
     ensures leaf { λ _. ⌜ now (leaf .exit) ≡ leafIn (pointToLeaf (boxAt (now (centre .entry)) radius axes)
-        (columns (now (key .entry)) (now (own .entry)) (now (begin .entry))) (now (point .entry))) ⌝ }
+        (columns (now (key .entry)) (now (own .entry)) (now (begin .entry)) (now (total .entry))) (now (point .entry))) ⌝ }
     ensures steps { λ _. ⌜ now (steps .exit) ≡ climbedIn (pointToLeaf (boxAt (now (centre .entry)) radius axes)
-        (columns (now (key .entry)) (now (own .entry)) (now (begin .entry))) (now (point .entry))) ⌝ }
+        (columns (now (key .entry)) (now (own .entry)) (now (begin .entry)) (now (total .entry))) (now (point .entry))) ⌝ }
     ensures few { λ _. ⌜ now (steps .exit) ≤ 15 ⌝ }
 {
     let b = exports_points::box_at(centre, radius, axes);
     let place = *point;
-    let answer = lookup::point_to_leaf(b, key, own, begin, place);
+    let answer = lookup::point_to_leaf(b, key, own, begin, total, place);
     match answer {
         PointLeaf::Leaf(k, climbed) => {
             *leaf = k;
@@ -142,18 +145,28 @@ pub extern "C" fn lohandema_get_points_to_leaves_map(
     key: &[u64],
     own: &[usize],
     begin: &[usize],
+    total: &[usize],
     points: &[u64],
     starts: &mut [usize],
     indices: &mut [usize],
 ) -> Ended
-    ensures ended { λ r. ⌜ r ≡ told (groupOutcome axes (columns (now (key .entry)) (now (own .entry)) (now (begin .entry)))
+    ensures ended { λ r. ⌜ r ≡ told (groupOutcome axes (columns (now (key .entry)) (now (own .entry)) (now (begin .entry)) (now (total .entry)))
         (now (points .entry)) (length (now (starts .entry))) (length (now (indices .entry)))) ⌝ }
-    ensures starts { λ _. ⌜ now (starts .exit) ≡ groupStartsLeft axes (columns (now (key .entry)) (now (own .entry)) (now (begin .entry)))
+    ensures starts { λ _. ⌜ now (starts .exit) ≡ groupStartsLeft axes (columns (now (key .entry)) (now (own .entry)) (now (begin .entry)) (now (total .entry)))
         (now (points .entry)) (length (now (starts .entry))) (length (now (indices .entry))) ⌝ }
-    ensures indices { λ _. ⌜ now (indices .exit) ≡ groupIndicesLeft axes (columns (now (key .entry)) (now (own .entry)) (now (begin .entry)))
+    ensures indices { λ _. ⌜ now (indices .exit) ≡ groupIndicesLeft axes (columns (now (key .entry)) (now (own .entry)) (now (begin .entry)) (now (total .entry)))
         (now (points .entry)) (length (now (starts .entry))) (length (now (indices .entry))) ⌝ }
 {
-    let end = leaf_points::get_points_to_leaves_map(axes, key, own, begin, points, starts, indices);
+    let end = leaf_points::get_points_to_leaves_map(
+        axes,
+        key,
+        own,
+        begin,
+        total,
+        points,
+        starts,
+        indices,
+    );
     exports_keys::end_of(end)
 }
 
@@ -163,14 +176,15 @@ pub extern "C" fn lohandema_get_sourced_cells(
     key: &[u64],
     own: &[usize],
     begin: &[usize],
+    total: &[usize],
     cells: &mut [u64],
     count: &mut usize,
 ) -> Ended
-    ensures ended { λ r. ⌜ r ≡ told (cellsEnd (cellsAnswer axes (columns (now (key .entry)) (now (own .entry)) (now (begin .entry))) (length (now (cells .entry))))) ⌝ }
-    ensures cells { λ _. ⌜ now (cells .exit) ≡ cellsLeft axes (columns (now (key .entry)) (now (own .entry)) (now (begin .entry))) (length (now (cells .entry))) ⌝ }
-    ensures count { λ _. ⌜ now (count .exit) ≡ cellsIn (cellsAnswer axes (columns (now (key .entry)) (now (own .entry)) (now (begin .entry))) (length (now (cells .entry)))) ⌝ }
+    ensures ended { λ r. ⌜ r ≡ told (cellsEnd (cellsAnswer axes (columns (now (key .entry)) (now (own .entry)) (now (begin .entry)) (now (total .entry))) (length (now (cells .entry))))) ⌝ }
+    ensures cells { λ _. ⌜ now (cells .exit) ≡ cellsLeft axes (columns (now (key .entry)) (now (own .entry)) (now (begin .entry)) (now (total .entry))) (length (now (cells .entry))) ⌝ }
+    ensures count { λ _. ⌜ now (count .exit) ≡ cellsIn (cellsAnswer axes (columns (now (key .entry)) (now (own .entry)) (now (begin .entry)) (now (total .entry))) (length (now (cells .entry)))) ⌝ }
 {
-    let answer = sourced::get_sourced_cells(axes, key, own, begin, cells);
+    let answer = sourced::get_sourced_cells(axes, key, own, begin, total, cells);
     match answer {
         CellsAnswer::Cells(n) => {
             *count = n;

@@ -14,19 +14,14 @@ use Rattle.slices.proofs.Tests.{and-l, and-r, both, clash, refute, same-test}
 use Rattle.morton.specs.Keys.{ValidKey, levelOf, codeOf, parent}
 use Rattle.morton.proofs.Cells.{level-parent, code-parent}
 use Rattle.tree.specs.Nodes.{childOf}
-use Rattle.tree.specs.Finding.{Children}
+use Rattle.tree.specs.Finding.{Parts, Children}
 use Rattle.tree.proofs.Rules.{WellFormed}
 use Rattle.tree.proofs.Stored.{Earlier, earlier-at, distinct, level-le, code-lt, parent-mem}
 use Rattle.tree.proofs.Walk.{node-level}
-use Rattle.sourced.specs.Trees.{SoundTree}
-use Rattle.sourced.proofs.Below.{child-level, tree-facts}
-use Rattle.firsts.specs.Firsts.{Parts, firstOf, FirstChildren}
-
--- of two cells in order the first one's parent is not after the other's
-parents-ascend : (d a b : ℕ) → 0 < levelOf a → Earlier a b → Earlier (parent d b) (parent d a) → ⊥
-parents-ascend d a b p h q =
-    let same : levelOf a ≡ levelOf b = omega (arith, h .0, q .0, level-parent d a, level-parent d b) in
-    omega (arith, h .1 same, q .1 (omega (arith, level-parent d a, level-parent d b)), code-parent d a, code-parent d b, shr-mono {a = codeOf a} {b = codeOf b} d (omega (arith, h .1 same)))
+use Rattle.tree.specs.WellFormed.{SoundTree}
+use Rattle.tree.proofs.Summing.{parents-ascend, tree-facts}
+use Rattle.sourced.proofs.Below.{child-level}
+use Rattle.firsts.specs.Firsts.{firstOf, FirstChildren}
 
 -- the nodes from a up to b are children of node i
 pub record Passed (d : ℕ) (keys : List ℕ) (i a b : ℕ) : Type 0 where
@@ -54,10 +49,6 @@ module _ (d : ℕ) (keys own : List ℕ) (t : SoundTree d keys own) where
       later : (j m : ℕ) → j < length keys → childOf d (getD keys m 0) (getD keys j 0) ≡ true → 1 ≤ j
       later zero m lj c = absurd (omega (arith, child-level d (getD keys m 0) (getD keys 0 0) c, w .ascending .root))
       later (suc j) m lj c = omega arith
-
-  -- a node is valid, and below the root if it is not the first
-  pub node-valid : (j : ℕ) → 0 < j → j < length keys → ValidKey d (getD keys j 0) × (0 < levelOf (getD keys j 0))
-  node-valid j h l = (record { some = t .some; most = t .most; level = level-le d keys (w .ascending) _ (j, l, refl); code = code-lt d keys (w .ascending) _ (j, l, refl) }, node-level d keys own (w .ascending) j h l)
 
   module _ (i a b : ℕ) (li : i < length keys) (p : Parts d keys i a) (s : Passed d keys i a b) where
     pub parts-next : (b < length keys → parent d (getD keys b 0) ≡ getD keys i 0 → ⊥) → Parts d keys (i + 1) b

@@ -6,12 +6,17 @@ use Prim.Native.Nat.{ℕ, _-_, _≤_, _<_}
 use native.Mathlib.Omega.{arith}
 use native.Mathlib.Nat.{eq-or-lt-of-le}
 use mathlib.Core.Logic.{_⊎_, inl, inr}
-use lib.ListN.{length, getD}
+use lib.Dec.{eqb}
+use lib.ListN.{length, getD, length-map}
+use borrow.Author.Tests.{eq-eqb}
 use Rattle.slices.specs.Lists.{sum, Mem}
+use Rattle.slices.proofs.Tests.{both}
+use Rattle.slices.proofs.Every.{every-all}
 use Rattle.morton.specs.Keys.{levelOf, axesKnown}
 use Rattle.refine.specs.Counts.{sourcesIn}
 use Rattle.tree.specs.Nodes.{depthOf}
-use Rattle.tree.specs.WellFormed.{mostSources, wellFormed}
+use Rattle.tree.specs.Totals.{totalIn, totalColumn}
+use Rattle.tree.specs.WellFormed.{mostSources, formed, totalsRight, wellFormed}
 use Rattle.tree.proofs.Rules.{WellFormed, tested}
 use Rattle.growth.specs.declared.Rule.{Rule}
 use Rattle.growth.specs.Nodes.{nodes}
@@ -19,7 +24,15 @@ use Rattle.growth.specs.Columns.{ownColumn, beginColumn}
 use Rattle.growth.proofs.Kids.{node-good}
 use Rattle.growth.proofs.Order.{nodes-rows, rows-at, nodes-some, nodes-ascending, nodes-parents}
 use Rattle.growth.proofs.Arranged.{Codes, order-length}
-use Rattle.growth.proofs.Runs.{length-own, length-begin, begin-at, own-at, own-order}
+use Rattle.growth.proofs.Runs.{map-at, length-own, length-begin, begin-at, own-at, own-order}
+
+-- the column of totals is right for the columns that it is made from
+totals-right : (d : ℕ) (keys own : List ℕ) → totalsRight d keys own (totalColumn d keys own) ≡ true
+unfolding totalsRight
+totals-right d keys own =
+    both (eq-eqb (length (totalColumn d keys own)) (length keys) (length-map keys (totalIn d keys own)))
+    (every-all (λ i. eqb (getD (totalColumn d keys own) i 0) (totalIn d keys own (getD keys i 0))) (length keys)
+    (λ i l. eq-eqb (getD (totalColumn d keys own) i 0) (totalIn d keys own (getD keys i 0)) (map-at (totalIn d keys own) keys i l)))
 
 module _ (g : Rule) (s t : List ℕ) (known : axesKnown (g .axes) ≡ true) where
   -- no node is below level 16
@@ -48,8 +61,8 @@ module _ (g : Rule) (s t : List ℕ) (known : axesKnown (g .axes) ≡ true) wher
     pub own-total : sum (ownColumn (g .axes) (nodes g s t) s) ≡ length s
     own-total = own-order (g .axes) (nodes g s t) s ∙ order-length g s t known codes
 
-    pub formed : length s ≤ mostSources → WellFormed (g .axes) (nodes g s t) (ownColumn (g .axes) (nodes g s t) s) (beginColumn (ownColumn (g .axes) (nodes g s t) s))
-    formed h = record {
+    pub facts-grown : length s ≤ mostSources → WellFormed (g .axes) (nodes g s t) (ownColumn (g .axes) (nodes g s t) s) (beginColumn (ownColumn (g .axes) (nodes g s t) s))
+    facts-grown h = record {
       owns = length-own (g .axes) (nodes g s t) s;
       begins = length-begin (g .axes) (nodes g s t) s;
       some = nodes-some g s t known;
@@ -60,5 +73,11 @@ module _ (g : Rule) (s t : List ℕ) (known : axesKnown (g .axes) ≡ true) wher
       total = omega (arith, own-total);
     }
 
-    pub well-formed : length s ≤ mostSources → wellFormed (g .axes) (nodes g s t) (ownColumn (g .axes) (nodes g s t) s) (beginColumn (ownColumn (g .axes) (nodes g s t) s)) ≡ true
-    well-formed h = tested (g .axes) (nodes g s t) (ownColumn (g .axes) (nodes g s t) s) (beginColumn (ownColumn (g .axes) (nodes g s t) s)) (formed h)
+    -- the rule but for the totals
+    pub formed-grown : length s ≤ mostSources → formed (g .axes) (nodes g s t) (ownColumn (g .axes) (nodes g s t) s) (beginColumn (ownColumn (g .axes) (nodes g s t) s)) ≡ true
+    formed-grown h = tested (g .axes) (nodes g s t) (ownColumn (g .axes) (nodes g s t) s) (beginColumn (ownColumn (g .axes) (nodes g s t) s)) (facts-grown h)
+
+    pub well-formed : length s ≤ mostSources → wellFormed (g .axes) (nodes g s t) (ownColumn (g .axes) (nodes g s t) s) (beginColumn (ownColumn (g .axes) (nodes g s t) s))
+        (totalColumn (g .axes) (nodes g s t) (ownColumn (g .axes) (nodes g s t) s)) ≡ true
+    unfolding wellFormed
+    well-formed h = both (formed-grown h) (totals-right (g .axes) (nodes g s t) (ownColumn (g .axes) (nodes g s t) s))

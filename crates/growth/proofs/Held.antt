@@ -14,6 +14,7 @@ use Rattle.slices.proofs.Counts.{count-one}
 use Rattle.morton.specs.Keys.{deepest, levelOf, codeOf, above, axesKnown, under}
 use Rattle.tree.specs.Nodes.{leaf}
 use Rattle.tree.proofs.Stored.{stored-mem, distinct, leaf-under}
+use Rattle.tree.proofs.Sourced.{under-facts}
 use Rattle.climb.specs.Leaves.{cellOf}
 use Rattle.growth.specs.declared.Rule.{Rule}
 use Rattle.growth.specs.Nodes.{nodes}
@@ -30,7 +31,7 @@ above-above : (d m n c : ℕ) → above d n (above d m c) ≡ above d (m + n) c
 above-above d m n c = shr-shr c (d * m) (d * n) ∙ ap (λ (x : ℕ). c / 2 ^ x) (sym (mul-add d m n))
 
 -- of two cells that hold a code the deeper lies in the other
-held-under : (d j k c : ℕ) → levelOf j ≤ levelOf k → levelOf k ≤ 16 → holds d j c ≡ true → holds d k c ≡ true → under d j k ≡ true
+pub held-under : (d j k c : ℕ) → levelOf j ≤ levelOf k → levelOf k ≤ 16 → holds d j c ≡ true → holds d k c ≡ true → under d j k ≡ true
 held-under d j k c l h hj hk =
     let e : (deepest - levelOf k) + (levelOf k - levelOf j) ≡ deepest - levelOf j = omega arith in
     both (le-leb (levelOf j) (levelOf k) l)
@@ -39,6 +40,17 @@ held-under d j k c l h hj hk =
     ∙ above-above d (deepest - levelOf k) (levelOf k - levelOf j) c
     ∙ ap (λ (n : ℕ). above d n c) e
     ∙ holds-code d j c hj))
+
+-- a cell holds what a cell under it holds
+pub under-holds : (d k j c : ℕ) → levelOf j ≤ 16 → under d k j ≡ true → holds d j c ≡ true → holds d k c ≡ true
+under-holds d k j c l u h =
+    let f = under-facts d k j u in
+    let e : deepest - levelOf k ≡ (deepest - levelOf j) + (levelOf j - levelOf k) = omega (arith, f .level) in
+    eq-eqb (above d (deepest - levelOf k) c) (codeOf k)
+    (ap (λ (n : ℕ). above d n c) e
+    ∙ sym (above-above d (deepest - levelOf j) (levelOf j - levelOf k) c)
+    ∙ ap (above d (levelOf j - levelOf k)) (holds-code d j c h)
+    ∙ f .code)
 
 module _ (g : Rule) (s t : List ℕ) (known : axesKnown (g .axes) ≡ true) where
   ordered-leaf : (j k c : ℕ) → levelOf j ≤ levelOf k → leaf (g .axes) (nodes g s t) j ≡ true → leaf (g .axes) (nodes g s t) k ≡ true

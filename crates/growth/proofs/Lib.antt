@@ -10,5 +10,6 @@ pub mod Held
 pub mod Arranged
 pub mod Runs
 pub mod Formed
+pub mod Totals
 pub mod Found
 pub mod Meets

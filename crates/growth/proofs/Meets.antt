@@ -18,7 +18,7 @@ use Rattle.growth.specs.Nodes.{nodes}
 use Rattle.growth.specs.Columns.{ownColumn, beginColumn}
 use Rattle.growth.proofs.Held.{leaf-mem}
 use Rattle.growth.proofs.Arranged.{Codes}
-use Rattle.growth.proofs.Formed.{well-formed}
+use Rattle.growth.proofs.Formed.{formed-grown}
 use Rattle.growth.proofs.Found.{source-place, place-run, source-found}
 
 module _ (g : Rule) (s t : List ℕ) (known : axesKnown (g .axes) ≡ true) (codes : Codes (g .axes) s) (few : length s ≤ mostSources) where
@@ -52,7 +52,7 @@ module _ (g : Rule) (s t : List ℕ) (known : axesKnown (g .axes) ≡ true) (cod
     meets-once =
         let (i, l, e) = leaf-mem (g .axes) (nodes g s t) b lb in
         let (j, p, r, q) = source-run x h in
-        let once = demand-3 (g .axes) (nodes g s t) own begin (well-formed g s t known codes few) known .1 .once i j p l (subst (λ (k : ℕ). leaf (g .axes) (nodes g s t) k ≡ true) (sym e) lb) r in
+        let once = demand-3 (g .axes) (nodes g s t) own begin (formed-grown g s t known codes few) known .1 .once i j p l (subst (λ (k : ℕ). leaf (g .axes) (nodes g s t) k ≡ true) (sym e) lb) r in
         sym (ap (λ (k : ℕ). meetings (g .axes) u v k (leafOf x)) e) ∙ sym (ap (meetings (g .axes) u v (getD (nodes g s t) i 0)) q) ∙ once
 
     -- and in U exactly when the two leaves' cells at the coarser one's level coincide or touch
@@ -60,6 +60,6 @@ module _ (g : Rule) (s t : List ℕ) (known : axesKnown (g .axes) ≡ true) (cod
     meets-near =
         let (i, l, e) = leaf-mem (g .axes) (nodes g s t) b lb in
         let (j, p, r, q) = source-run x h in
-        let near = demand-3 (g .axes) (nodes g s t) own begin (well-formed g s t known codes few) known .2 .near i j p l (subst (λ (k : ℕ). leaf (g .axes) (nodes g s t) k ≡ true) (sym e) lb) r in
+        let near = demand-3 (g .axes) (nodes g s t) own begin (formed-grown g s t known codes few) known .2 .near i j p l (subst (λ (k : ℕ). leaf (g .axes) (nodes g s t) k ≡ true) (sym e) lb) r in
         subst (λ (k : ℕ). brings (g .axes) (leafOf x) (u k) ≡ bit (close (g .axes) k (leafOf x))) e
         (subst (λ (k : ℕ). brings (g .axes) k (u (getD (nodes g s t) i 0)) ≡ bit (close (g .axes) (getD (nodes g s t) i 0) k)) q near)

@@ -19,7 +19,7 @@ use Rattle.tree.proofs.Runs.{sum-take, sum-whole}
 use Rattle.growth.specs.Columns.{holds, ownColumn, beginColumn, indicesIn, orderColumn}
 use Rattle.growth.proofs.Arranged.{length-indices, indices-hold}
 
-map-at : (f : ℕ → ℕ) (xs : List ℕ) (i : ℕ) → i < length xs → getD (map f xs) i 0 ≡ f (getD xs i 0)
+pub map-at : (f : ℕ → ℕ) (xs : List ℕ) (i : ℕ) → i < length xs → getD (map f xs) i 0 ≡ f (getD xs i 0)
 map-at f [] i h = absurd (not-suc-le-zero h)
 map-at f (x ∷ xs) zero h = refl
 map-at f (x ∷ xs) (suc i) h = map-at f xs i (le-of-suc-le-suc h)

@@ -13,6 +13,7 @@ use Rattle.slices.proofs.Lists.{getD-filled}
 use Rattle.morton.specs.Keys.{axesKnown}
 use Rattle.tree.specs.Columns.{columns}
 use Rattle.tree.specs.WellFormed.{wellFormed}
+use Rattle.tree.proofs.Verdict.{formed-of}
 use Rattle.rows.specs.Lists.{uRow, vRow}
 use Rattle.rows.specs.Written.{startsFrom, rowStarts, rowKeys, rowOf, Written}
 use Rattle.rows.specs.Demand3.{Once, Near, Far, Few}
@@ -38,12 +39,12 @@ pub filled-written : (row : ℕ → List ℕ) (keys starts flat : List ℕ) (m n
 filled-written row keys starts flat m n a b = record { more = _; rest = _; starts-are = a; keys-are = b }
 
 -- ---- demand 3 of what was written
-module _ (d : ℕ) (keys own begin us uk vs vk : List ℕ) (m n p q : ℕ) where
-  pub demand-3 : treeCheck d (columns keys own begin) ≡ Done
+module _ (d : ℕ) (keys own begin total us uk vs vk : List ℕ) (m n p q : ℕ) where
+  pub demand-3 : treeCheck d (columns keys own begin total) ≡ Done
       → us ≡ filled m (rowStarts (uRow d keys own) keys) → uk ≡ filled n (rowKeys (uRow d keys own) keys)
       → vs ≡ filled p (rowStarts (vRow d keys own) keys) → vk ≡ filled q (rowKeys (vRow d keys own) keys)
       → Once d keys own begin (rowOf keys us uk) (rowOf keys vs vk) × Near d keys own begin (rowOf keys us uk) × Far d keys (rowOf keys vs vk) × Few d keys (rowOf keys vs vk)
   demand-3 h a b e f =
-      let checks = both-done (ask (axesKnown d) Dims) (ask (wellFormed d keys own begin) Tree) h in
-      let formed = asked (wellFormed d keys own begin) Tree (checks .1) in
+      let checks = both-done (ask (axesKnown d) Dims) (ask (wellFormed d keys own begin total) Tree) h in
+      let formed = formed-of d keys own begin total (asked (wellFormed d keys own begin total) Tree (checks .1)) in
       demand.written d keys own begin formed (asked (axesKnown d) Dims (checks .0)) us uk vs vk (filled-written _ keys us uk m n a b) (filled-written _ keys vs vk p q e f)

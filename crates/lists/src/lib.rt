@@ -1,18 +1,17 @@
-// The U and V rows of a tree's nodes, from the Rust's `get_interaction_lists`.
+// The U rows of a tree's nodes by a descent from the root, for near work, which is lent no column to work in.
 ghost use mathlib.Core.Path.{_≡_};
-ghost use mathlib.Core.Bool.{true, _&&_, _||_};
+ghost use mathlib.Core.Bool.{false, _&&_};
 ghost use Prim.Native.Nat.{ℕ, _+_, _≤_, _<_};
 ghost use lib.Dec.{eqb};
 ghost use lib.ListN.{length, getD};
 ghost use Rattle.slices.specs.Lists.{Mem};
-ghost use Rattle.morton.specs.Keys.{axesKnown, levelOf, under, ValidKey};
+ghost use Rattle.morton.specs.Keys.{levelOf, under, ValidKey};
 ghost use Rattle.morton.specs.Anchors.{close};
-ghost use Rattle.tree.specs.Nodes.{cellAt, leaf};
-ghost use Rattle.tree.specs.WellFormed.{keysAscend};
-ghost use Rattle.rows.specs.Lists.{inU, inV};
+ghost use Rattle.tree.specs.Nodes.{cellAt};
+ghost use Rattle.rows.specs.Lists.{inU};
 ghost use Rattle.sourced.specs.Trees.{SoundTree, LevelsLeft};
 ghost use Rattle.rows.specs.Written.{keysRoom};
-ghost use Rattle.lists.specs.Descent.{takes as takesTest, leads, underOne, PutsThose, listRow, PutsRow, WritesRows, WritesList};
+ghost use Rattle.lists.specs.Descent.{takes as takesTest, underOne, PutsThose, listRow, PutsRow, WritesRows, WritesList};
 
 pub const MOST_KEYS: usize = 16777216;
 
@@ -50,55 +49,7 @@ fn is_near(axes: usize, key: &[u64], own: &[usize], b: u64, node: usize) -> bool
     if !tree::is_leaf(axes, key, node) {
         return false;
     }
-    sourced::is_sourced(axes, key, own, node)
-}
-
-// Whether a node is in the V row of a node: a sourced cell of its level that does not touch it, and their parents do.
-fn is_far(axes: usize, key: &[u64], own: &[usize], b: u64, node: usize) -> bool
-    requires { ⌜ SoundTree axes (now key) (now own) × Mem b (now key) × (node < length (now key)) ⌝ }
-    ensures { λ r. ⌜ r ≡ inV axes (now (key .entry)) (now (own .entry)) b (getD (now (key .entry)) node 0) ⌝ }
-{
-    let k = key[node];
-    let level = b % 32768;
-    if k % 32768 != level {
-        return false;
-    }
-    if level == 0 {
-        return false;
-    }
-    if is_close(axes, b, k) {
-        return false;
-    }
-    let above = holder_of(axes, k, level - 1);
-    if !is_close(axes, b, above) {
-        return false;
-    }
-    sourced::is_sourced(axes, key, own, node)
-}
-
-// Whether a node is in the row of b: its V row if `far`, else its U row.
-fn takes(axes: usize, key: &[u64], own: &[usize], far: bool, b: u64, node: usize) -> bool
-    requires { ⌜ SoundTree axes (now key) (now own) × Mem b (now key) × (node < length (now key)) ⌝ }
-    ensures { λ r. ⌜ r ≡ takesTest axes (now (key .entry)) (now (own .entry)) far b (getD (now (key .entry)) node 0) ⌝ }
-{
-    if far {
-        return is_far(axes, key, own, b, node);
-    }
-    is_near(axes, key, own, b, node)
-}
-
-// Whether a cell under k can be in the row of b.
-fn leads_on(axes: usize, far: bool, b: u64, k: u64) -> bool
-    requires { ⌜ ValidKey axes b × ValidKey axes k ⌝ }
-    ensures { λ r. ⌜ r ≡ leads axes far b k ⌝ }
-{
-    if !is_close(axes, b, k) {
-        return false;
-    }
-    if far {
-        return k % 32768 < b % 32768;
-    }
-    true
+    0 < own[node]
 }
 
 // Puts a node's key if the node is in the row.
@@ -106,16 +57,15 @@ fn put_taken(
     axes: usize,
     key: &[u64],
     own: &[usize],
-    far: bool,
     b: u64,
     node: usize,
     out: &mut [u64],
     n: usize,
 ) -> usize
     requires { ⌜ SoundTree axes (now key) (now own) × Mem b (now key) × (node < length (now key)) ⌝ }
-    ensures { λ r. ⌜ PutsThose (now (key .entry)) (λ x. eqb (getD (now (key .entry)) node 0) x && takesTest axes (now (key .entry)) (now (own .entry)) far b x) (now (out .entry)) n (now (out .exit)) r ⌝ }
+    ensures { λ r. ⌜ PutsThose (now (key .entry)) (λ x. eqb (getD (now (key .entry)) node 0) x && takesTest axes (now (key .entry)) (now (own .entry)) false b x) (now (out .entry)) n (now (out .exit)) r ⌝ }
 {
-    if takes(axes, key, own, far, b, node) {
+    if is_near(axes, key, own, b, node) {
         return sourced::put(out, n, key[node]);
     }
     n
@@ -126,7 +76,6 @@ fn cell_step(
     axes: usize,
     key: &[u64],
     own: &[usize],
-    far: bool,
     b: u64,
     node: usize,
     left: usize,
@@ -134,10 +83,10 @@ fn cell_step(
     n: usize,
 ) -> usize
     requires { ⌜ SoundTree axes (now key) (now own) × Mem b (now key) × (node < length (now key)) × (levelOf (getD (now key) node 0) + left ≡ 17) ⌝ }
-    ensures { λ r. ⌜ PutsThose (now (key .entry)) (λ x. under axes (getD (now (key .entry)) node 0) x && takesTest axes (now (key .entry)) (now (own .entry)) far b x) (now (out .entry)) n (now (out .exit)) r ⌝ }
+    ensures { λ r. ⌜ PutsThose (now (key .entry)) (λ x. under axes (getD (now (key .entry)) node 0) x && takesTest axes (now (key .entry)) (now (own .entry)) false b x) (now (out .entry)) n (now (out .exit)) r ⌝ }
 {
-    let m = put_taken(axes, key, own, far, b, node, out, n);
-    if !leads_on(axes, far, b, key[node]) {
+    let m = put_taken(axes, key, own, b, node, out, n);
+    if !is_close(axes, b, key[node]) {
         return m;
     }
     let children = tree::children_of(axes, key, key[node]);
@@ -145,7 +94,6 @@ fn cell_step(
         axes,
         key,
         own,
-        far,
         b,
         children.from,
         children.to,
@@ -160,7 +108,6 @@ fn children_step(
     axes: usize,
     key: &[u64],
     own: &[usize],
-    far: bool,
     b: u64,
     from: usize,
     to: usize,
@@ -169,43 +116,31 @@ fn children_step(
     n: usize,
 ) -> usize
     requires { ⌜ SoundTree axes (now key) (now own) × Mem b (now key) × (to ≤ length (now key)) × LevelsLeft (now key) from to left ⌝ }
-    ensures { λ r. ⌜ PutsThose (now (key .entry)) (λ x. underOne axes (now (key .entry)) from to x && takesTest axes (now (key .entry)) (now (own .entry)) far b x) (now (out .entry)) n (now (out .exit)) r ⌝ }
+    ensures { λ r. ⌜ PutsThose (now (key .entry)) (λ x. underOne axes (now (key .entry)) from to x && takesTest axes (now (key .entry)) (now (own .entry)) false b x) (now (out .entry)) n (now (out .exit)) r ⌝ }
 {
     if to <= from {
         return n;
     }
-    let m = cell_step(axes, key, own, far, b, from, left, out, n);
-    children_step(axes, key, own, far, b, from + 1, to, left, out, m)
+    let m = cell_step(axes, key, own, b, from, left, out, n);
+    children_step(axes, key, own, b, from + 1, to, left, out, m)
 }
 
-// Whether a node has a row: each node a V row, and each leaf a U row.
-fn has_row(axes: usize, key: &[u64], far: bool, node: usize) -> bool
-    requires { ⌜ (axesKnown axes ≡ true) × (keysAscend axes (now key) ≡ true) × (node < length (now key)) ⌝ }
-    ensures { λ r. ⌜ r ≡ (far || leaf axes (now (key .entry)) (getD (now (key .entry)) node 0)) ⌝ }
-{
-    if far {
-        return true;
-    }
-    tree::is_leaf(axes, key, node)
-}
-
-// Puts the row of a node, in some order: the descent from the root.
+// Puts the U row of a node, in some order: the descent from the root. A node that is no leaf has none.
 pub fn put_row(
     axes: usize,
     key: &[u64],
     own: &[usize],
-    far: bool,
     node: usize,
     out: &mut [u64],
     n: usize,
 ) -> usize
     requires { ⌜ SoundTree axes (now key) (now own) × (node < length (now key)) ⌝ }
-    ensures { λ r. ⌜ PutsRow (listRow axes (now (key .entry)) (now (own .entry)) far (getD (now (key .entry)) node 0)) (now (out .entry)) n (now (out .exit)) r ⌝ }
+    ensures { λ r. ⌜ PutsRow (listRow axes (now (key .entry)) (now (own .entry)) false (getD (now (key .entry)) node 0)) (now (out .entry)) n (now (out .exit)) r ⌝ }
 {
-    if !has_row(axes, key, far, node) {
+    if !tree::is_leaf(axes, key, node) {
         return n;
     }
-    cell_step(axes, key, own, far, key[node], 0, 17, out, n)
+    cell_step(axes, key, own, key[node], 0, 17, out, n)
 }
 
 // Writes the row of each node, ascending, one after the other, and where each begins and the last one ends.
@@ -214,18 +149,17 @@ fn write_rows(
     axes: usize,
     key: &[u64],
     own: &[usize],
-    far: bool,
     starts: &mut [usize],
     out: &mut [u64],
 ) -> usize
     requires { ⌜ SoundTree axes (now key) (now own) × (length (now key) < length (now starts)) ⌝ }
-    ensures { λ r. ⌜ WritesRows (listRow axes (now (key .entry)) (now (own .entry)) far) (now (key .entry)) (now (starts .exit)) (now (out .exit)) r ⌝ }
+    ensures { λ r. ⌜ WritesRows (listRow axes (now (key .entry)) (now (own .entry)) false) (now (key .entry)) (now (starts .exit)) (now (out .exit)) r ⌝ }
 {
     starts[0] = 0;
     let mut n: usize = 0;
     let mut i: usize = 0;
     while i < key.len() {
-        let m = put_row(axes, key, own, far, i, out, n);
+        let m = put_row(axes, key, own, i, out, n);
         if out.len() < m {
             return m;
         }
@@ -252,15 +186,14 @@ pub fn write_list(
     axes: usize,
     key: &[u64],
     own: &[usize],
-    far: bool,
     starts: &mut [usize],
     out: &mut [u64],
 ) -> bool
     requires { ⌜ SoundTree axes (now key) (now own) × (length (now key) < length (now starts)) ⌝ }
-    ensures { λ r. ⌜ WritesList (listRow axes (now (key .entry)) (now (own .entry)) far) (now (key .entry)) (length (now (starts .entry))) (length (now (out .entry))) (now (starts .exit)) (now (out .exit)) r ⌝ }
+    ensures { λ r. ⌜ WritesList (listRow axes (now (key .entry)) (now (own .entry)) false) (now (key .entry)) (length (now (starts .entry))) (length (now (out .entry))) (now (starts .exit)) (now (out .exit)) r ⌝ }
 {
     let room = room_of(out.len());
-    let n = write_rows(axes, key, own, far, starts, &mut out[..room]);
+    let n = write_rows(axes, key, own, starts, &mut out[..room]);
     if room < n {
         return false;
     }

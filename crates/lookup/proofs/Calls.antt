@@ -32,6 +32,7 @@ use Rattle.morton.specs.Keys.{axesKnown}
 use Rattle.morton.proofs.Checks.{axes-known}
 use Rattle.tree.specs.Columns.{columns}
 use Rattle.tree.specs.WellFormed.{wellFormed}
+use Rattle.tree.proofs.Verdict.{formed-of}
 use Rattle.lookup.specs.Owned.{Owned}
 use Rattle.lookup.proofs.Owners.{owned-tree}
 use Rattle.lookup.specs.declared.Climbs.{Climbs}
@@ -133,32 +134,32 @@ module _ (b : Box) (keys : List ℕ) (xs : List Float) (old out : List ℕ) (row
       ∙ ap₂ (λ (s t : List ℕ). leafKeys (b .axes) keys s ++ t) codes-are (rest-is ∙ ap (λ (n : ℕ). drop n old) (first-is ∙ whole))
 
 -- ---- the checks
-module _ (b : Box) (keys own begin : List ℕ) (xs : List Float) (room : ℕ) where
-  pub box-refused : (r : Refusal) → boxOutcome b ≡ Refused r → Refused r ≡ callOutcome b (columns keys own begin) xs room
+module _ (b : Box) (keys own begin total : List ℕ) (xs : List Float) (room : ℕ) where
+  pub box-refused : (r : Refusal) → boxOutcome b ≡ Refused r → Refused r ≡ callOutcome b (columns keys own begin total) xs room
   unfolding callOutcome
   box-refused r e = rw e
 
   module _ (o : boxOutcome b ≡ Done) where
-    pub no-shape : (length xs % b .axes ≡ 0 → ⊥) → Refused Shape ≡ callOutcome b (columns keys own begin) xs room
+    pub no-shape : (length xs % b .axes ≡ 0 → ⊥) → Refused Shape ≡ callOutcome b (columns keys own begin total) xs room
     unfolding callOutcome
     no-shape n = rw (o, ne-eqb (length xs % b .axes) 0 n)
 
     module _ (s : length xs % b .axes ≡ 0) where
-      pub too-many : mostPoints < rowsOf b xs → Refused Count ≡ callOutcome b (columns keys own begin) xs room
+      pub too-many : mostPoints < rowsOf b xs → Refused Count ≡ callOutcome b (columns keys own begin total) xs room
       unfolding callOutcome
       too-many n = rw (o, eq-eqb (length xs % b .axes) 0 s, lt-leb (rowsOf b xs) mostPoints n)
 
       module _ (few : rowsOf b xs ≤ mostPoints) where
-        pub not-tree : wellFormed (b .axes) keys own begin ≡ false → Refused Tree ≡ callOutcome b (columns keys own begin) xs room
+        pub not-tree : wellFormed (b .axes) keys own begin total ≡ false → Refused Tree ≡ callOutcome b (columns keys own begin total) xs room
         unfolding callOutcome
         not-tree t = rw (o, eq-eqb (length xs % b .axes) 0 s, le-leb (rowsOf b xs) mostPoints few, t)
 
-        module _ (t : wellFormed (b .axes) keys own begin ≡ true) where
-          pub short : room < rowsOf b xs → Refused (Room 8) ≡ callOutcome b (columns keys own begin) xs room
+        module _ (t : wellFormed (b .axes) keys own begin total ≡ true) where
+          pub short : room < rowsOf b xs → Refused (Room 8) ≡ callOutcome b (columns keys own begin total) xs room
           unfolding callOutcome
           short n = rw (o, eq-eqb (length xs % b .axes) 0 s, le-leb (rowsOf b xs) mostPoints few, t, lt-leb (rowsOf b xs) room n)
 
-          pub called : rowsOf b xs ≤ room → Done ≡ callOutcome b (columns keys own begin) xs room
+          pub called : rowsOf b xs ≤ room → Done ≡ callOutcome b (columns keys own begin total) xs room
           unfolding callOutcome
           called n = rw (o, eq-eqb (length xs % b .axes) 0 s, le-leb (rowsOf b xs) mostPoints few, t, le-leb (rowsOf b xs) room n)
 
@@ -168,19 +169,19 @@ module _ (b : Box) (keys own begin : List ℕ) (xs : List Float) (room : ℕ) wh
     pub owned : Owned (b .axes) keys own
     pub fits : rowsOf b xs ≤ room
 
-  pub checked : callOutcome b (columns keys own begin) xs room ≡ Done → Called
+  pub checked : callOutcome b (columns keys own begin total) xs room ≡ Done → Called
   unfolding callOutcome
   checked h =
       let fifth = both-done _ (ask (leb (rowsOf b xs) room) (Room 8)) h in
-      let fourth = both-done _ (ask (wellFormed (b .axes) keys own begin) Tree) (fifth .0) in
+      let fourth = both-done _ (ask (wellFormed (b .axes) keys own begin total) Tree) (fifth .0) in
       let third = both-done _ (ask (leb (rowsOf b xs) mostPoints) Count) (fourth .0) in
       let second = both-done (boxOutcome b) (ask (eqb (length xs % b .axes) 0) Shape) (third .0) in
-      let t = asked (wellFormed (b .axes) keys own begin) Tree (fourth .1) in
+      let t = asked (wellFormed (b .axes) keys own begin total) Tree (fourth .1) in
       let box = fine b (second .0) in
       record {
         box = box;
         few = leb-true (rowsOf b xs) mostPoints (asked _ Count (third .1));
-        owned = owned-tree (b .axes) keys own begin (axes-known (b .axes) (box .least) (box .most)) t;
+        owned = owned-tree (b .axes) keys own begin (axes-known (b .axes) (box .least) (box .most)) (formed-of (b .axes) keys own begin total t);
         fits = leb-true (rowsOf b xs) room (asked _ (Room 8) (fifth .1));
       }
 
@@ -193,7 +194,7 @@ refused-is : (o : Outcome) (s : ℕ) (r : Refusal) → foundOr o s ≡ NotFound 
 refused-is Done s r e = let z : _≡_ {A = ℕ} 0 1 = cc in absurd (omega arith)
 refused-is (Refused q) s r e = cc
 
-module _ (b : Box) (keys own begin : List ℕ) (xs : List Float) (room : ℕ) where
+module _ (b : Box) (keys own begin total : List ℕ) (xs : List Float) (room : ℕ) where
   abbrev answer : ℕ
   answer = stepsSum (b .axes) keys (codesInside b xs)
 
@@ -201,29 +202,29 @@ module _ (b : Box) (keys own begin : List ℕ) (xs : List Float) (room : ℕ) wh
   output = leafKeys (b .axes) keys (codesInside b xs)
 
   -- refused by a check
-  module _ (r : Refusal) (e : callOutcome b (columns keys own begin) xs room ≡ Refused r) where
-    early : lookupOutcome b (columns keys own begin) xs room ≡ Refused r
-    early = after-refused (callOutcome b (columns keys own begin) xs room) (pointsOutcome b keys xs) r e
+  module _ (r : Refusal) (e : callOutcome b (columns keys own begin total) xs room ≡ Refused r) where
+    early : lookupOutcome b (columns keys own begin total) xs room ≡ Refused r
+    early = after-refused (callOutcome b (columns keys own begin total) xs room) (pointsOutcome b keys xs) r e
 
-    pub early-answer : NotFound r ≡ foundOr (lookupOutcome b (columns keys own begin) xs room) answer
+    pub early-answer : NotFound r ≡ foundOr (lookupOutcome b (columns keys own begin total) xs room) answer
     early-answer = sym (ap (λ o. foundOr o answer) early)
 
-    pub early-output : (final : List ℕ) → final ≡ replicate room 0 → final ≡ left (lookupOutcome b (columns keys own begin) xs room) room output
+    pub early-output : (final : List ℕ) → final ≡ replicate room 0 → final ≡ left (lookupOutcome b (columns keys own begin total) xs room) room output
     early-output final z = z ∙ sym (ap (λ o. left o room output) early)
 
-  module _ (done : callOutcome b (columns keys own begin) xs room ≡ Done) (result : LookedUp) (q : result ≡ foundOr (pointsOutcome b keys xs) answer) where
-    same : lookupOutcome b (columns keys own begin) xs room ≡ pointsOutcome b keys xs
-    same = after-done (callOutcome b (columns keys own begin) xs room) (pointsOutcome b keys xs) done
+  module _ (done : callOutcome b (columns keys own begin total) xs room ≡ Done) (result : LookedUp) (q : result ≡ foundOr (pointsOutcome b keys xs) answer) where
+    same : lookupOutcome b (columns keys own begin total) xs room ≡ pointsOutcome b keys xs
+    same = after-done (callOutcome b (columns keys own begin total) xs room) (pointsOutcome b keys xs) done
 
     -- refused for a point
     module _ (r : Refusal) (e : result ≡ NotFound r) where
-      late : lookupOutcome b (columns keys own begin) xs room ≡ Refused r
+      late : lookupOutcome b (columns keys own begin total) xs room ≡ Refused r
       late = same ∙ refused-is (pointsOutcome b keys xs) answer r (sym q ∙ e)
 
-      pub late-answer : NotFound r ≡ foundOr (lookupOutcome b (columns keys own begin) xs room) answer
+      pub late-answer : NotFound r ≡ foundOr (lookupOutcome b (columns keys own begin total) xs room) answer
       late-answer = sym (ap (λ o. foundOr o answer) late)
 
-      pub late-output : (n : ℕ) (final : List ℕ) → n ≡ room → final ≡ replicate n 0 → final ≡ left (lookupOutcome b (columns keys own begin) xs room) room output
+      pub late-output : (n : ℕ) (final : List ℕ) → n ≡ room → final ≡ replicate n 0 → final ≡ left (lookupOutcome b (columns keys own begin total) xs room) room output
       late-output n final l z = z ∙ ap (λ (n : ℕ). replicate n 0) l ∙ sym (ap (λ o. left o room output) late)
 
     -- found
@@ -231,7 +232,7 @@ module _ (b : Box) (keys own begin : List ℕ) (xs : List Float) (room : ℕ) wh
       fine-points : pointsOutcome b keys xs ≡ Done
       fine-points = found-is (pointsOutcome b keys xs) answer steps (sym q ∙ e) .0
 
-      pub found-answer : Found steps ≡ foundOr (lookupOutcome b (columns keys own begin) xs room) answer
+      pub found-answer : Found steps ≡ foundOr (lookupOutcome b (columns keys own begin total) xs room) answer
       found-answer = ap Found (found-is (pointsOutcome b keys xs) answer steps (sym q ∙ e) .1) ∙ sym (ap (λ o. foundOr o answer) (same ∙ fine-points))
 
       all-inside : rowsInside b xs ≡ rowsOf b xs
@@ -244,7 +245,7 @@ module _ (b : Box) (keys own begin : List ℕ) (xs : List Float) (room : ℕ) wh
       size-is = length-map (codesInside b xs) (leafKey (b .axes) keys) ∙ codes-length (rowsInside b xs) (frameOf b) xs ∙ all-inside
 
       pub found-output : (old mid final : List ℕ) → length mid ≡ room → (pointsOutcome b keys xs ≡ Done → mid ≡ output ++ drop (rowsOf b xs) old)
-          → final ≡ take (rowsOf b xs) mid ++ replicate (length mid - rowsOf b xs) 0 → final ≡ left (lookupOutcome b (columns keys own begin) xs room) room output
+          → final ≡ take (rowsOf b xs) mid ++ replicate (length mid - rowsOf b xs) 0 → final ≡ left (lookupOutcome b (columns keys own begin total) xs room) room output
       found-output old mid final l m z =
           z
           ∙ ap₂ (λ (s : List ℕ) (n : ℕ). s ++ replicate n 0)

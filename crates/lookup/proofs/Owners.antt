@@ -11,7 +11,7 @@ use borrow.Author.Tests.{lt-ltb}
 use Rattle.morton.specs.Keys.{levelOf, above, axesKnown}
 use Rattle.morton.proofs.Cells.{key-level}
 use Rattle.tree.specs.Nodes.{nodeNumber, leaf, depthOf}
-use Rattle.tree.specs.WellFormed.{wellFormed}
+use Rattle.tree.specs.WellFormed.{formed}
 use Rattle.tree.specs.declared.Found.the-variants.{At, Nothing}
 use Rattle.tree.proofs.Rules.{Ascending, facts, ascend-facts, facts-ascend, parents-facts, facts-parents, leaves-facts, facts-leaves}
 use Rattle.tree.proofs.Stored.{distinct}
@@ -20,7 +20,7 @@ use Rattle.climb.proofs.Climbing.{place-is}
 use Rattle.climb.proofs.Answers.{climb-le, depth-most, answer-cell}
 use Rattle.lookup.specs.Owned.{Parented, Owned, NodeAt}
 
-pub owned-tree : (d : ℕ) (keys own begin : List ℕ) → axesKnown d ≡ true → wellFormed d keys own begin ≡ true → Owned d keys own
+pub owned-tree : (d : ℕ) (keys own begin : List ℕ) → axesKnown d ≡ true → formed d keys own begin ≡ true → Owned d keys own
 owned-tree d keys own begin a t =
     let f = facts d keys own begin t in
     record {

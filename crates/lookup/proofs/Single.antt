@@ -45,27 +45,27 @@ module _ (d : ℕ) (keys : List ℕ) (code depth : ℕ) (e : depth ≡ depthOf k
   code-none f = sym (ap (λ t. leafOrRefusal (ask t (Unstored 0)) (leafKey d keys code) (stepsTo d keys code)) (climb-not d keys code (sym from-depth ∙ f)))
 
 -- ---- the box and the tree
-module _ (b : Box) (keys own begin : List ℕ) where
-  pub box-stops : (r : Refusal) → boxOutcome b ≡ Refused r → Refused r ≡ treeOutcome b (columns keys own begin)
-  box-stops r e = sym (after-refused (boxOutcome b) (ask (wellFormed (b .axes) keys own begin) Tree) r e)
+module _ (b : Box) (keys own begin total : List ℕ) where
+  pub box-stops : (r : Refusal) → boxOutcome b ≡ Refused r → Refused r ≡ treeOutcome b (columns keys own begin total)
+  box-stops r e = sym (after-refused (boxOutcome b) (ask (wellFormed (b .axes) keys own begin total) Tree) r e)
 
-  pub tree-tested : (t : Bool) → boxOutcome b ≡ Done → wellFormed (b .axes) keys own begin ≡ t → ask t Tree ≡ treeOutcome b (columns keys own begin)
-  tree-tested t e w = sym (after-done (boxOutcome b) (ask (wellFormed (b .axes) keys own begin) Tree) e ∙ ap (λ t. ask t Tree) w)
+  pub tree-tested : (t : Bool) → boxOutcome b ≡ Done → wellFormed (b .axes) keys own begin total ≡ t → ask t Tree ≡ treeOutcome b (columns keys own begin total)
+  tree-tested t e w = sym (after-done (boxOutcome b) (ask (wellFormed (b .axes) keys own begin total) Tree) e ∙ ap (λ t. ask t Tree) w)
 
   module _ (xs : List Float) where
-    pub tree-stops : (r : Refusal) → treeOutcome b (columns keys own begin) ≡ Refused r → NoLeaf r ≡ pointToLeaf b (columns keys own begin) xs
+    pub tree-stops : (r : Refusal) → treeOutcome b (columns keys own begin total) ≡ Refused r → NoLeaf r ≡ pointToLeaf b (columns keys own begin total) xs
     tree-stops r e =
         sym (ap (λ o. leafOrRefusal ((o then ask (inside (frameOf b) xs) (Point 0)) then ask (held (b .axes) keys (code16 (frameOf b) xs)) (Unstored 0)) (leafKey (b .axes) keys (code16 (frameOf b) xs)) (stepsTo (b .axes) keys (code16 (frameOf b) xs))) e)
 
-    module _ (e : treeOutcome b (columns keys own begin) ≡ Done) where
-      pub tree-fine : (boxOutcome b ≡ Done) × (wellFormed (b .axes) keys own begin ≡ true)
-      tree-fine = let p = both-done (boxOutcome b) (ask (wellFormed (b .axes) keys own begin) Tree) e in (p .0, asked (wellFormed (b .axes) keys own begin) Tree (p .1))
+    module _ (e : treeOutcome b (columns keys own begin total) ≡ Done) where
+      pub tree-fine : (boxOutcome b ≡ Done) × (wellFormed (b .axes) keys own begin total ≡ true)
+      tree-fine = let p = both-done (boxOutcome b) (ask (wellFormed (b .axes) keys own begin total) Tree) e in (p .0, asked (wellFormed (b .axes) keys own begin total) Tree (p .1))
 
       level-done : levelOutcome b 16 ≡ Done
       level-done = sym (level-fine b 16 (tree-fine .0) (omega arith))
 
       after-tree : (t : Bool) → inside (frameOf b) xs ≡ t
-          → pointToLeaf b (columns keys own begin) xs ≡ leafOrRefusal (ask t (Point 0) then ask (held (b .axes) keys (code16 (frameOf b) xs)) (Unstored 0)) (leafKey (b .axes) keys (code16 (frameOf b) xs)) (stepsTo (b .axes) keys (code16 (frameOf b) xs))
+          → pointToLeaf b (columns keys own begin total) xs ≡ leafOrRefusal (ask t (Point 0) then ask (held (b .axes) keys (code16 (frameOf b) xs)) (Unstored 0)) (leafKey (b .axes) keys (code16 (frameOf b) xs)) (stepsTo (b .axes) keys (code16 (frameOf b) xs))
       after-tree t i =
           ap₂ (λ o s. leafOrRefusal ((o then ask s (Point 0)) then ask (held (b .axes) keys (code16 (frameOf b) xs)) (Unstored 0)) (leafKey (b .axes) keys (code16 (frameOf b) xs)) (stepsTo (b .axes) keys (code16 (frameOf b) xs))) e i
 
@@ -85,13 +85,13 @@ module _ (b : Box) (keys own begin : List ℕ) where
                 let z : _≡_ {A = ℕ} 0 1 = cc in
                 absurd (omega arith)
 
-        pub single-in : (k : ℕ) → r ≡ Cell k → codeLeaf (b .axes) keys (k / 32768) ≡ pointToLeaf b (columns keys own begin) xs
+        pub single-in : (k : ℕ) → r ≡ Cell k → codeLeaf (b .axes) keys (k / 32768) ≡ pointToLeaf b (columns keys own begin total) xs
         single-in k f = let c = cell-code k f in ap (codeLeaf (b .axes) keys) (c .1) ∙ sym (after-tree true (c .0))
 
-        pub single-out : (x : Refusal) → r ≡ NoCell x → NoLeaf x ≡ pointToLeaf b (columns keys own begin) xs
+        pub single-out : (x : Refusal) → r ≡ NoCell x → NoLeaf x ≡ pointToLeaf b (columns keys own begin total) xs
         single-out x f = go (inside (frameOf b) xs) refl
           where
-            go : (t : Bool) → inside (frameOf b) xs ≡ t → NoLeaf x ≡ pointToLeaf b (columns keys own begin) xs
+            go : (t : Bool) → inside (frameOf b) xs ≡ t → NoLeaf x ≡ pointToLeaf b (columns keys own begin total) xs
             go true i =
                 let same : Cell (code16 (frameOf b) xs / 2 ^ (b .axes * (16 - 16)) * 32768 + 16) ≡ NoCell x = done-key b xs 16 (code16 (frameOf b) xs) (omega arith) level-done i refl ∙ sym q ∙ f in
                 let z : _≡_ {A = ℕ} 0 1 = cc in

@@ -60,7 +60,7 @@ callOutcome b t points room =
     boxOutcome b
     then ask (eqb (length points % b .axes) 0) Shape
     then ask (leb (rowsOf b points) mostPoints) Count
-    then ask (wellFormed (b .axes) (t .keys) (t .own) (t .begin)) Tree
+    then ask (wellFormed (b .axes) (t .keys) (t .own) (t .begin) (t .total)) Tree
     then ask (leb (rowsOf b points) room) (Room 8)
 
 -- 12 UNSTORED for one before the first that is outside, else 7 POINT for that one

@@ -17,7 +17,7 @@ use Rattle.lookup.specs.declared.PointLeaf.the-variants.{Leaf, Refused a
 
 -- 1 DIMS, 2 BOX, 13 TREE
 abbrev pub treeOutcome : Box → Columns → Outcome
-treeOutcome b t = boxOutcome b then ask (wellFormed (b .axes) (t .keys) (t .own) (t .begin)) Tree
+treeOutcome b t = boxOutcome b then ask (wellFormed (b .axes) (t .keys) (t .own) (t .begin) (t .total)) Tree
 
 -- a leaf's key and the steps to it, or a refusal
 abbrev pub leafOrRefusal : Outcome → ℕ → ℕ → PointLeaf

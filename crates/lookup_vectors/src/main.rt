@@ -42,6 +42,7 @@ fn look_up(
     key: &[u64],
     own: &[usize],
     begin: &[usize],
+    total: &[usize],
     nodes: usize,
     points: &[f64],
     rows: usize,
@@ -55,12 +56,16 @@ fn look_up(
     if begin.len() < nodes {
         return;
     }
+    if total.len() < nodes {
+        return;
+    }
     let mut leaves = [0u64; 4088];
     let found = lookup::points_to_keys(
         b,
         &key[..nodes],
         &own[..nodes],
         &begin[..nodes],
+        &total[..nodes],
         points,
         &mut leaves,
     );
@@ -85,6 +90,7 @@ fn build(
     let mut key = [0u64; 2048];
     let mut own = [0usize; 2048];
     let mut begin = [0usize; 2048];
+    let mut total = [0usize; 2048];
     let built = build::build_tree(
         b,
         sources,
@@ -98,10 +104,11 @@ fn build(
         &mut key,
         &mut own,
         &mut begin,
+        &mut total,
     );
     match built {
         Built::Refused(refusal) => write_refusal(refusal),
-        Built::Tree(nodes, _) => look_up(b, &key, &own, &begin, nodes, targets, rows),
+        Built::Tree(nodes, _) => look_up(b, &key, &own, &begin, &total, nodes, targets, rows),
     }
 }
 

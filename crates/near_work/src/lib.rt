@@ -90,21 +90,22 @@ fn write_and_sum(
     key: &[u64],
     own: &[usize],
     begin: &[usize],
+    total: &[usize],
     starts: &mut [usize],
     flat: &mut [u64],
 ) -> WorkAnswer
-    ensures { λ r. ⌜ r ≡ workAnswer axes (columns (now (key .entry)) (now (own .entry)) (now (begin .entry))) (length (now (starts .entry))) (length (now (flat .entry))) ⌝ }
+    ensures { λ r. ⌜ r ≡ workAnswer axes (columns (now (key .entry)) (now (own .entry)) (now (begin .entry)) (now (total .entry))) (length (now (starts .entry))) (length (now (flat .entry))) ⌝ }
     ensures { λ r. ⌜ (isWork r ≡ true → now (starts .exit) ≡ filled (length (now (starts .entry))) (rowStarts (uRow axes (now (key .entry)) (now (own .entry))) (now (key .entry)))) ⌝ }
     ensures { λ r. ⌜ (isWork r ≡ true → now (flat .exit) ≡ filled (length (now (flat .entry))) (rowKeys (uRow axes (now (key .entry)) (now (own .entry))) (now (key .entry)))) ⌝ }
 {
-    let checked = sourced::check_tree(axes, key, own, begin);
+    let checked = sourced::check_tree(axes, key, own, begin, total);
     if let Outcome::Refused(refusal) = checked {
         return WorkAnswer::Refused(refusal);
     }
     if starts.len() <= key.len() {
         return WorkAnswer::Refused(Refusal::Room(4));
     }
-    if !lists::write_list(axes, key, own, false, starts, flat) {
+    if !lists::write_list(axes, key, own, starts, flat) {
         return WorkAnswer::Refused(Refusal::Room(6));
     }
     WorkAnswer::Work(near_work(axes, key, own, starts, flat))
@@ -116,15 +117,16 @@ pub fn get_near_work(
     key: &[u64],
     own: &[usize],
     begin: &[usize],
+    total: &[usize],
     starts: &mut [usize],
     flat: &mut [u64],
 ) -> WorkAnswer
-    ensures answer { λ r. ⌜ r ≡ workAnswer axes (columns (now (key .entry)) (now (own .entry)) (now (begin .entry))) (length (now (starts .entry))) (length (now (flat .entry))) ⌝ }
-    ensures starts { λ _. ⌜ now (starts .exit) ≡ workStartsLeft axes (columns (now (key .entry)) (now (own .entry)) (now (begin .entry)))
+    ensures answer { λ r. ⌜ r ≡ workAnswer axes (columns (now (key .entry)) (now (own .entry)) (now (begin .entry)) (now (total .entry))) (length (now (starts .entry))) (length (now (flat .entry))) ⌝ }
+    ensures starts { λ _. ⌜ now (starts .exit) ≡ workStartsLeft axes (columns (now (key .entry)) (now (own .entry)) (now (begin .entry)) (now (total .entry)))
         (length (now (starts .entry))) (length (now (flat .entry))) ⌝ }
-    ensures flat { λ _. ⌜ now (flat .exit) ≡ workKeysLeft axes (columns (now (key .entry)) (now (own .entry)) (now (begin .entry))) (length (now (starts .entry))) (length (now (flat .entry))) ⌝ }
+    ensures flat { λ _. ⌜ now (flat .exit) ≡ workKeysLeft axes (columns (now (key .entry)) (now (own .entry)) (now (begin .entry)) (now (total .entry))) (length (now (starts .entry))) (length (now (flat .entry))) ⌝ }
 {
-    let answer = write_and_sum(axes, key, own, begin, starts, flat);
+    let answer = write_and_sum(axes, key, own, begin, total, starts, flat);
     match answer {
         WorkAnswer::Refused(refusal) => {
             slices::clear_usize(starts);

@@ -18,7 +18,7 @@ use Rattle.rows.specs.Lists.{uRow, vRow, nearWork}
 use Rattle.sourced.specs.Answers.{treeCheck}
 use Rattle.interaction.specs.Answers.{keysOf, startsCheck, listsCheck}
 use Rattle.rows.specs.Written.{keysRoom}
-use Rattle.build.specs.Asked.{builtKeys, builtOwn, builtBegins}
+use Rattle.build.specs.Asked.{builtKeys, builtOwn, builtBegins, builtTotals}
 use Rattle.build.specs.Outcomes.{buildOutcome}
 use Rattle.survey.specs.declared.Survey.{Survey}
 use Rattle.survey.specs.File.{fileOutcome, survey, sourceRows, targetRows}
@@ -30,15 +30,15 @@ text-most : (o : Outcome) (text : List ℕ) → (o ≡ Done → length text ≤ 
 text-most Done text f = f refl
 text-most (Refused r) text f = omega (arith, refusal-most r)
 
-columns-most : (d : ℕ) (key own begin : List ℕ) (sources : ℕ) → length (columnsText d (columns key own begin) sources) ≤ 481390
-columns-most d key own begin sources = text-most (listsCheck d (columns key own begin) 2049 8192 2049 8192) (treeListing d (columns key own begin) sources) fits
+columns-most : (d : ℕ) (key own begin total : List ℕ) (sources : ℕ) → length (columnsText d (columns key own begin total) sources) ≤ 481390
+columns-most d key own begin total sources = text-most (listsCheck d (columns key own begin total) 2049 8192 2049 8192) (treeListing d (columns key own begin total) sources) fits
   where
-    fits : listsCheck d (columns key own begin) 2049 8192 2049 8192 ≡ Done → length (treeListing d (columns key own begin) sources) ≤ 481390
+    fits : listsCheck d (columns key own begin total) 2049 8192 2049 8192 ≡ Done → length (treeListing d (columns key own begin total) sources) ≤ 481390
     fits e =
-        let p = both-done (startsCheck d (columns key own begin) 2049 2049 then ask (leb (keysOf (uRow d key own) key) (keysRoom 8192)) (Room 6)) (ask (leb (keysOf (vRow d key own) key) (keysRoom 8192)) (Room 7)) e in
-        let q = both-done (startsCheck d (columns key own begin) 2049 2049) (ask (leb (keysOf (uRow d key own) key) (keysRoom 8192)) (Room 6)) (p .0) in
-        let s = both-done (treeCheck d (columns key own begin) then ask (ltb (length key) 2049) (Room 4)) (ask (ltb (length key) 2049) (Room 5)) (q .0) in
-        let t = both-done (treeCheck d (columns key own begin)) (ask (ltb (length key) 2049) (Room 4)) (s .0) in
+        let p = both-done (startsCheck d (columns key own begin total) 2049 2049 then ask (leb (keysOf (uRow d key own) key) (keysRoom 8192)) (Room 6)) (ask (leb (keysOf (vRow d key own) key) (keysRoom 8192)) (Room 7)) e in
+        let q = both-done (startsCheck d (columns key own begin total) 2049 2049) (ask (leb (keysOf (uRow d key own) key) (keysRoom 8192)) (Room 6)) (p .0) in
+        let s = both-done (treeCheck d (columns key own begin total) then ask (ltb (length key) 2049) (Room 4)) (ask (ltb (length key) 2049) (Room 5)) (q .0) in
+        let t = both-done (treeCheck d (columns key own begin total)) (ask (ltb (length key) 2049) (Room 4)) (s .0) in
         let n : length key < 2049 = ltb-true (length key) 2049 (asked (ltb (length key) 2049) (Room 4) (t .1)) in
         let u : keysOf (uRow d key own) key ≤ 8192 = leb-true (keysOf (uRow d key own) key) (keysRoom 8192) (asked (leb (keysOf (uRow d key own) key) (keysRoom 8192)) (Room 6) (q .1)) in
         let v : keysOf (vRow d key own) key ≤ 8192 = leb-true (keysOf (vRow d key own) key) (keysRoom 8192) (asked (leb (keysOf (vRow d key own) key) (keysRoom 8192)) (Room 7) (p .1)) in
@@ -47,7 +47,7 @@ columns-most d key own begin sources = text-most (listsCheck d (columns key own 
 survey-most : (s : Survey) (sources targets : List Float) → length (surveyText s sources targets) ≤ 481390
 survey-most s sources targets =
     let a = askedBy s sources targets in
-    text-most (buildOutcome a 8176 4088 2048) (columnsText (s .b .axes) (columns (builtKeys a) (builtOwn a) (builtBegins a)) (s .sources)) (λ _. columns-most (s .b .axes) (builtKeys a) (builtOwn a) (builtBegins a) (s .sources))
+    text-most (buildOutcome a 8176 4088 2048) (columnsText (s .b .axes) (columns (builtKeys a) (builtOwn a) (builtBegins a) (builtTotals a)) (s .sources)) (λ _. columns-most (s .b .axes) (builtKeys a) (builtOwn a) (builtBegins a) (builtTotals a) (s .sources))
 
 pub file-most : (file : List ℕ) → length (fileText file) ≤ 481390
 file-most file = text-most (fileOutcome file) (surveyText (survey file) (sourceRows file) (targetRows file)) (λ _. survey-most (survey file) (sourceRows file) (targetRows file))

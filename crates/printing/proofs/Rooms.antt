@@ -24,7 +24,7 @@ use Rattle.laying.specs.Outcomes.{askedOutcome, insideOutcome, workOutcome}
 use Rattle.space.specs.Rows.{rowsOf}
 use Rattle.build.specs.declared.Built.{Built}
 use Rattle.build.specs.declared.Built.the-variants.{Tree, Refused as NotBuilt}
-use Rattle.build.specs.Asked.{Asked, builtKeys, builtOwn, builtBegins}
+use Rattle.build.specs.Asked.{Asked, builtKeys, builtOwn, builtBegins, builtTotals}
 use Rattle.build.specs.Outcomes.{columnOutcome, buildOutcome, treeOr}
 use Rattle.survey.specs.declared.Survey.{Survey}
 use Rattle.space.specs.Floats.{nought}
@@ -56,6 +56,10 @@ begin-length : (a : Asked) → length (builtBegins a) ≡ length (builtKeys a)
 unfolding builtBegins beginColumn
 begin-length a = length-map (range 0 (length (builtOwn a))) (λ i. sum (take i (builtOwn a))) ∙ length-range 0 (length (builtOwn a)) ∙ own-length a
 
+totals-length : (a : Asked) → length (builtTotals a) ≡ length (builtKeys a)
+unfolding builtTotals
+totals-length a = length-map (builtKeys a) _
+
 -- a column that is left by a build: its first entries
 column-front : (o : Outcome) (s xs : List ℕ) (n room : ℕ) → s ≡ left o room xs → o ≡ Done → n ≡ length xs → take n s ≡ xs
 column-front o s xs n room e f k = ap (take n) (e ∙ ap (λ (o : Outcome). left o room xs) f) ∙ take-at xs (replicate (room - length xs) 0) n (sym k)
@@ -72,7 +76,7 @@ module _ (s : Survey) (sources targets : List Float) (work order nodes : ℕ) (r
 
   pub built-refused : (x : Refusal) → r ≡ NotBuilt x → refusalLine x ≡ surveyTextIn work order nodes s sources targets
   built-refused x f =
-      sym (ap (λ (o : Outcome). textOr o (columnsText (s .b .axes) (columns (builtKeys a) (builtOwn a) (builtBegins a)) (s .sources))) (was-not o (builtKeys a) x (sym f ∙ e)))
+      sym (ap (λ (o : Outcome). textOr o (columnsText (s .b .axes) (columns (builtKeys a) (builtOwn a) (builtBegins a) (builtTotals a)) (s .sources))) (was-not o (builtKeys a) x (sym f ∙ e)))
 
   module _ (n d : ℕ) (f : r ≡ Tree n d) where
     done : o ≡ Done
@@ -90,12 +94,16 @@ module _ (s : Survey) (sources targets : List Float) (work order nodes : ℕ) (r
     pub begin-long : (begin : List ℕ) (room : ℕ) → begin ≡ left o room (builtBegins a) → n ≤ length begin
     begin-long begin room g = column-long o begin (builtBegins a) n room g done (count ∙ sym (begin-length a))
 
-    pub built-text : (key own begin : List ℕ) (keys owns begins : ℕ) → key ≡ left o keys (builtKeys a) → own ≡ left o owns (builtOwn a) → begin ≡ left o begins (builtBegins a)
-        → columnsText (s .b .axes) (columns (take n key) (take n own) (take n begin)) (s .sources) ≡ surveyTextIn work order nodes s sources targets
-    built-text key own begin keys owns begins g h i =
-        ap₂ (λ (k w : List ℕ). columnsText (s .b .axes) (columns k w (take n begin)) (s .sources)) (column-front o key (builtKeys a) n keys g done count) (column-front o own (builtOwn a) n owns h done (count ∙ sym (own-length a)))
-        ∙ ap (λ (b : List ℕ). columnsText (s .b .axes) (columns (builtKeys a) (builtOwn a) b) (s .sources)) (column-front o begin (builtBegins a) n begins i done (count ∙ sym (begin-length a)))
-        ∙ sym (ap (λ (o : Outcome). textOr o (columnsText (s .b .axes) (columns (builtKeys a) (builtOwn a) (builtBegins a)) (s .sources))) done)
+    pub total-long : (total : List ℕ) (room : ℕ) → total ≡ left o room (builtTotals a) → n ≤ length total
+    total-long total room g = column-long o total (builtTotals a) n room g done (count ∙ sym (totals-length a))
+
+    pub built-text : (key own begin total : List ℕ) (keys owns begins totals : ℕ)
+        → key ≡ left o keys (builtKeys a) → own ≡ left o owns (builtOwn a) → begin ≡ left o begins (builtBegins a) → total ≡ left o totals (builtTotals a)
+        → columnsText (s .b .axes) (columns (take n key) (take n own) (take n begin) (take n total)) (s .sources) ≡ surveyTextIn work order nodes s sources targets
+    built-text key own begin total keys owns begins totals g h i j =
+        ap₂ (λ (k w : List ℕ). columnsText (s .b .axes) (columns k w (take n begin) (take n total)) (s .sources)) (column-front o key (builtKeys a) n keys g done count) (column-front o own (builtOwn a) n owns h done (count ∙ sym (own-length a)))
+        ∙ ap₂ (λ (b t : List ℕ). columnsText (s .b .axes) (columns (builtKeys a) (builtOwn a) b t) (s .sources)) (column-front o begin (builtBegins a) n begins i done (count ∙ sym (begin-length a))) (column-front o total (builtTotals a) n totals j done (count ∙ sym (totals-length a)))
+        ∙ sym (ap (λ (o : Outcome). textOr o (columnsText (s .b .axes) (columns (builtKeys a) (builtOwn a) (builtBegins a) (builtTotals a)) (s .sources))) done)
 
 -- ---- a file's answer
 

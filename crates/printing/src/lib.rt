@@ -18,10 +18,13 @@ fn list_columns(
     key: &[u64],
     own: &[usize],
     begin: &[usize],
+    total: &[usize],
     out: &mut [u8],
 ) -> Text
-    ensures answer { λ r. ⌜ r ≡ textAnswer (length (now (out .entry))) (columnsText axes (columns (now (key .entry)) (now (own .entry)) (now (begin .entry))) sources) ⌝ }
-    ensures text { λ _. ⌜ now (out .exit) ≡ textLeft (length (now (out .entry))) (columnsText axes (columns (now (key .entry)) (now (own .entry)) (now (begin .entry))) sources) ⌝ }
+    ensures answer { λ r. ⌜ r ≡ textAnswer (length (now (out .entry)))
+        (columnsText axes (columns (now (key .entry)) (now (own .entry)) (now (begin .entry)) (now (total .entry))) sources) ⌝ }
+    ensures text { λ _. ⌜ now (out .exit) ≡ textLeft (length (now (out .entry)))
+        (columnsText axes (columns (now (key .entry)) (now (own .entry)) (now (begin .entry)) (now (total .entry))) sources) ⌝ }
 {
     let mut u_starts = [0usize; 2049];
     let mut u_keys = [0u64; 8192];
@@ -33,6 +36,7 @@ fn list_columns(
         key,
         own,
         begin,
+        total,
         &mut u_starts,
         &mut u_keys,
         &mut v_starts,
@@ -51,12 +55,13 @@ fn list_built(
     key: &mut [u64],
     own: &mut [usize],
     begin: &mut [usize],
+    total: &mut [usize],
     out: &mut [u8],
 ) -> Text
     ensures answer { λ r. ⌜ r ≡ textAnswer (length (now (out .entry))) (surveyTextIn (length (now (work .entry))) (length (now (indices .entry)))
-        (nodeRoom (length (now (key .entry))) (length (now (own .entry))) (length (now (begin .entry)))) survey (now (sources .entry)) (now (targets .entry))) ⌝ }
+        (nodeRoom (length (now (key .entry))) (length (now (own .entry))) (length (now (begin .entry))) (length (now (total .entry)))) survey (now (sources .entry)) (now (targets .entry))) ⌝ }
     ensures text { λ _. ⌜ now (out .exit) ≡ textLeft (length (now (out .entry))) (surveyTextIn (length (now (work .entry))) (length (now (indices .entry)))
-        (nodeRoom (length (now (key .entry))) (length (now (own .entry))) (length (now (begin .entry)))) survey (now (sources .entry)) (now (targets .entry))) ⌝ }
+        (nodeRoom (length (now (key .entry))) (length (now (own .entry))) (length (now (begin .entry))) (length (now (total .entry)))) survey (now (sources .entry)) (now (targets .entry))) ⌝ }
 {
     let b = survey.b;
     let built = build::build_tree(
@@ -72,6 +77,7 @@ fn list_built(
         key,
         own,
         begin,
+        total,
     );
     match built {
         Built::Refused(refusal) => text::write_refusal(refusal, out),
@@ -81,6 +87,7 @@ fn list_built(
             &key[..nodes],
             &own[..nodes],
             &begin[..nodes],
+            &total[..nodes],
             out,
         ),
     }
@@ -96,6 +103,7 @@ fn list_survey(survey: Survey, sources: &[f64], targets: &[f64], out: &mut [u8])
     let mut key = [0u64; 2048];
     let mut own = [0usize; 2048];
     let mut begin = [0usize; 2048];
+    let mut total = [0usize; 2048];
     list_built(
         survey,
         sources,
@@ -105,6 +113,7 @@ fn list_survey(survey: Survey, sources: &[f64], targets: &[f64], out: &mut [u8])
         &mut key,
         &mut own,
         &mut begin,
+        &mut total,
         out,
     )
 }

@@ -6,7 +6,7 @@ ghost use mathlib.Core.Bool.{true, false};
 ghost use mathlib.Core.List.{map, _++_};
 ghost use Prim.Native.Nat.{_-_, _≤_, _<_};
 ghost use lib.ListN.{length, take, replicate};
-ghost use Rattle.sourced.specs.Trees.{SoundTree};
+ghost use Rattle.tree.specs.WellFormed.{totalsRight, SoundTree};
 ghost use Rattle.firsts.specs.Firsts.{FirstChildren};
 ghost use Rattle.rows.specs.Written.{keysRoom};
 ghost use Rattle.lists.specs.Descent.{listRow};
@@ -126,15 +126,16 @@ pub fn write_lists(
     axes: usize,
     key: &[u64],
     own: &[usize],
+    total: &[usize],
     u_starts: &mut [usize],
     u_keys: &mut [u64],
     v_starts: &mut [usize],
     v_keys: &mut [u64],
 ) -> u64
-    requires { ⌜ SoundTree axes (now key) (now own) × (length (now key) < length (now «u_starts»)) × (length (now key) < length (now «v_starts»)) ⌝ }
+    requires { ⌜ SoundTree axes (now key) (now own) × (length (now key) < length (now «u_starts»)) × (length (now key) < length (now «v_starts»)) × (totalsRight axes (now key) (now own) (now total) ≡ true) ⌝ }
     ensures { λ r. ⌜ WritesBoth (listRow axes (now (key .entry)) (now (own .entry)) false) (listRow axes (now (key .entry)) (now (own .entry)) true) (now (key .entry)) (length (now («u_starts» .entry))) (length (now («u_keys» .entry))) (length (now («v_starts» .entry))) (length (now («v_keys» .entry))) (now («u_starts» .exit)) (now («u_keys» .exit)) (now («v_starts» .exit)) (now («v_keys» .exit)) r ⌝ }
 {
-    firsts::first_children(axes, key, own, v_starts);
+    firsts::first_children(axes, key, own, total, v_starts);
     let mut near = [0usize; 17 * NEAR_ROOM];
     let mut spots = [0u64; 17 * NEAR_ROOM];
     let mut levels = [0usize; 17];

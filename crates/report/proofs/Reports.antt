@@ -30,23 +30,23 @@ holds-rows row keys starts flat n m e f = record {
   keys-are = f;
 }
 
-module _ (d : ℕ) (keys own begin : List ℕ) (us uk vs vk : ℕ) where
-  pub text-refused : (sources : ℕ) (r : Refusal) → lists.Refused r ≡ listsAnswer d (columns keys own begin) us uk vs vk → refusalLine r ≡ treeText d (columns keys own begin) us uk vs vk sources
+module _ (d : ℕ) (keys own begin total : List ℕ) (us uk vs vk : ℕ) where
+  pub text-refused : (sources : ℕ) (r : Refusal) → lists.Refused r ≡ listsAnswer d (columns keys own begin total) us uk vs vk → refusalLine r ≡ treeText d (columns keys own begin total) us uk vs vk sources
   text-refused sources r e =
-      sym (ap (λ (o : Outcome). textOr o (treeListing d (columns keys own begin) sources)) (told-refused d keys own begin us uk vs vk r e))
+      sym (ap (λ (o : Outcome). textOr o (treeListing d (columns keys own begin total) sources)) (told-refused d keys own begin total us uk vs vk r e))
 
-  module _ (a b : ℕ) (e : lists.Listed a b ≡ listsAnswer d (columns keys own begin) us uk vs vk) where
+  module _ (a b : ℕ) (e : lists.Listed a b ≡ listsAnswer d (columns keys own begin total) us uk vs vk) where
     pub tree-sound : SoundTree d keys own
-    tree-sound = passed d keys own begin (listed-tree d keys own begin us uk vs vk a b e)
+    tree-sound = passed d keys own begin total (listed-tree d keys own begin total us uk vs vk a b e)
 
     -- what the list call left in a slice
-    pub filled-as : (n : ℕ) (s xs : List ℕ) → s ≡ left (listsCheck d (columns keys own begin) us uk vs vk) n xs → s ≡ filled n xs
-    filled-as n s xs f = done-left _ n xs s (told-listed d keys own begin us uk vs vk a b e) f
+    pub filled-as : (n : ℕ) (s xs : List ℕ) → s ≡ left (listsCheck d (columns keys own begin total) us uk vs vk) n xs → s ≡ filled n xs
+    filled-as n s xs f = done-left _ n xs s (told-listed d keys own begin total us uk vs vk a b e) f
 
     pub text-listed : (sources work depth : ℕ) (ss sk ts tk : List ℕ) → work ≡ nearWork d keys own → depth ≡ depthOf keys
         → Written keys (uRow d keys own) ss sk → Written keys (vRow d keys own) ts tk
-        → listing keys own (rowAt ss sk) (rowAt ts tk) d depth sources work ≡ treeText d (columns keys own begin) us uk vs vk sources
+        → listing keys own (rowAt ss sk) (rowAt ts tk) d depth sources work ≡ treeText d (columns keys own begin total) us uk vs vk sources
     text-listed sources work depth ss sk ts tk ew ed wu wv =
         listing-read keys own ss sk ts tk (uRow d keys own) (vRow d keys own) wu wv d depth sources work
         ∙ ap₂ (λ (n w : ℕ). listing keys own (λ i. uRow d keys own (getD keys i 0)) (λ i. vRow d keys own (getD keys i 0)) d n sources w) ed ew
-        ∙ sym (ap (λ (o : Outcome). textOr o (treeListing d (columns keys own begin) sources)) (told-listed d keys own begin us uk vs vk a b e))
+        ∙ sym (ap (λ (o : Outcome). textOr o (treeListing d (columns keys own begin total) sources)) (told-listed d keys own begin total us uk vs vk a b e))

@@ -15,23 +15,24 @@ pub fn list_tree(
     key: &[u64],
     own: &[usize],
     begin: &[usize],
+    total: &[usize],
     u_starts: &mut [usize],
     u_keys: &mut [u64],
     v_starts: &mut [usize],
     v_keys: &mut [u64],
     out: &mut [u8],
 ) -> Text
-    ensures answer { λ r. ⌜ r ≡ textAnswer (length (now (out .entry))) (treeText axes (columns (now (key .entry)) (now (own .entry)) (now (begin .entry)))
+    ensures answer { λ r. ⌜ r ≡ textAnswer (length (now (out .entry))) (treeText axes (columns (now (key .entry)) (now (own .entry)) (now (begin .entry)) (now (total .entry)))
         (length (now («u_starts» .entry))) (length (now («u_keys» .entry))) (length (now («v_starts» .entry))) (length (now («v_keys» .entry))) sources) ⌝ }
-    ensures text { λ _. ⌜ now (out .exit) ≡ textLeft (length (now (out .entry))) (treeText axes (columns (now (key .entry)) (now (own .entry)) (now (begin .entry)))
+    ensures text { λ _. ⌜ now (out .exit) ≡ textLeft (length (now (out .entry))) (treeText axes (columns (now (key .entry)) (now (own .entry)) (now (begin .entry)) (now (total .entry)))
         (length (now («u_starts» .entry))) (length (now («u_keys» .entry))) (length (now («v_starts» .entry))) (length (now («v_keys» .entry))) sources) ⌝ }
-    ensures u_starts { λ _. ⌜ now («u_starts» .exit) ≡ uStartsLeft axes (columns (now (key .entry)) (now (own .entry)) (now (begin .entry)))
+    ensures u_starts { λ _. ⌜ now («u_starts» .exit) ≡ uStartsLeft axes (columns (now (key .entry)) (now (own .entry)) (now (begin .entry)) (now (total .entry)))
         (length (now («u_starts» .entry))) (length (now («u_keys» .entry))) (length (now («v_starts» .entry))) (length (now («v_keys» .entry))) ⌝ }
-    ensures u_keys { λ _. ⌜ now («u_keys» .exit) ≡ uKeysLeft axes (columns (now (key .entry)) (now (own .entry)) (now (begin .entry)))
+    ensures u_keys { λ _. ⌜ now («u_keys» .exit) ≡ uKeysLeft axes (columns (now (key .entry)) (now (own .entry)) (now (begin .entry)) (now (total .entry)))
         (length (now («u_starts» .entry))) (length (now («u_keys» .entry))) (length (now («v_starts» .entry))) (length (now («v_keys» .entry))) ⌝ }
-    ensures v_starts { λ _. ⌜ now («v_starts» .exit) ≡ vStartsLeft axes (columns (now (key .entry)) (now (own .entry)) (now (begin .entry)))
+    ensures v_starts { λ _. ⌜ now («v_starts» .exit) ≡ vStartsLeft axes (columns (now (key .entry)) (now (own .entry)) (now (begin .entry)) (now (total .entry)))
         (length (now («u_starts» .entry))) (length (now («u_keys» .entry))) (length (now («v_starts» .entry))) (length (now («v_keys» .entry))) ⌝ }
-    ensures v_keys { λ _. ⌜ now («v_keys» .exit) ≡ vKeysLeft axes (columns (now (key .entry)) (now (own .entry)) (now (begin .entry)))
+    ensures v_keys { λ _. ⌜ now («v_keys» .exit) ≡ vKeysLeft axes (columns (now (key .entry)) (now (own .entry)) (now (begin .entry)) (now (total .entry)))
         (length (now («u_starts» .entry))) (length (now («u_keys» .entry))) (length (now («v_starts» .entry))) (length (now («v_keys» .entry))) ⌝ }
 {
     let listed = interaction::get_interaction_lists(
@@ -39,6 +40,7 @@ pub fn list_tree(
         key,
         own,
         begin,
+        total,
         u_starts,
         u_keys,
         v_starts,

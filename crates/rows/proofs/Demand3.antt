@@ -9,7 +9,7 @@ use lib.ListN.{length, getD, take}
 use Rattle.slices.specs.Lists.{sum, Mem}
 use Rattle.morton.specs.Keys.{axesKnown, farRoom}
 use Rattle.morton.specs.Anchors.{close}
-use Rattle.tree.specs.WellFormed.{wellFormed}
+use Rattle.tree.specs.WellFormed.{formed}
 use Rattle.tree.proofs.Rules.{WellFormed, facts}
 use Rattle.tree.proofs.Runs as R
 use Rattle.tree.proofs.Stored.{run-facts}
@@ -30,7 +30,7 @@ u-is-close = near-is-close
 pub room : (farRoom 1 ≡ 3) × (farRoom 2 ≡ 27) × (farRoom 3 ≡ 189)
 room = (refl, refl, refl)
 
-module _ (d : ℕ) (keys own begin : List ℕ) (tree : wellFormed d keys own begin ≡ true) where
+module _ (d : ℕ) (keys own begin : List ℕ) (tree : formed d keys own begin ≡ true) where
   w : WellFormed d keys own begin
   w = facts d keys own begin tree
 

@@ -15,7 +15,7 @@ use Rattle.morton.specs.Anchors.{touching}
 use Rattle.neighbours.specs.Directions.{neighbours}
 use Rattle.morton.proofs.Checks.{valid-facts, facts-valid}
 use Rattle.tree.specs.Nodes.{childOf, leaf, sourced}
-use Rattle.tree.specs.WellFormed.{wellFormed}
+use Rattle.tree.specs.WellFormed.{formed}
 use Rattle.tree.proofs.Rules.{WellFormed, facts}
 use Rattle.rows.specs.Lists.{neighbour, atOrUnder, besideAncestor, inU, inV, uRow, vRow}
 use Rattle.rows.proofs.Around.{around, valid-parent, by-neighbours, by-cousins}
@@ -59,7 +59,7 @@ module _ (d : ℕ) (keys own : List ℕ) (b s : ℕ) (v : ValidKey d b) (ok : va
           ∙ ap (_&& (sourced d keys own s && not (touching d b s))) (by-cousins d b s (neighbours d (parent d b)) (around d (parent d b) up) ok)
 
 -- the rows of each node of a well-formed tree
-module _ (d : ℕ) (keys own begin : List ℕ) (known : axesKnown d ≡ true) (tree : wellFormed d keys own begin ≡ true) where
+module _ (d : ℕ) (keys own begin : List ℕ) (known : axesKnown d ≡ true) (tree : formed d keys own begin ≡ true) where
   sound : (k : ℕ) → Mem k keys → valid d k ≡ true
   sound k m = rw (m .2) at (facts d keys own begin tree .ascending .sound (m .0) (m .1))
 

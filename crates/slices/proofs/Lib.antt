@@ -1,5 +1,6 @@
 pub mod Tests
 pub mod Counts
+pub mod Sums
 pub mod Sorted
 pub mod Rows
 pub mod Lists

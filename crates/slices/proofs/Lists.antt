@@ -1,7 +1,7 @@
 -- Filters, counts and concatenations of two lists joined; lengths and places of ranges and of filled lists.
 use mathlib.Core.Path.{_≡_, refl, sym, ap, _∙_}
 use mathlib.Core.Bool.{Bool, true, false, cond}
-use mathlib.Core.List.{List, [], _∷_, _++_, append-assoc, append-nil}
+use mathlib.Core.List.{List, [], _∷_, _++_, map, append-assoc, append-nil}
 use Prim.Native.Nat.{ℕ, zero, suc, _+_, _-_, _≤_, _<_}
 use native.Mathlib.Nat.{not-suc-le-zero, le-of-suc-le-suc, zero-add, add-zero, sub-zero}
 use native.Mathlib.Omega.{arith}
@@ -115,3 +115,9 @@ filled-store n xs x h =
 -- what `clear_from` leaves of a slice that begins with xs
 pub cleared-filled : (xs s : List ℕ) → take (length xs) s ≡ xs → take (length xs) s ++ replicate (length s - length xs) 0 ≡ filled (length s) xs
 cleared-filled xs s e = ap (λ (t : List ℕ). t ++ replicate (length s - length xs) 0) e
+
+-- an entry of a map
+pub getD-map : (f : ℕ → ℕ) (xs : List ℕ) (i : ℕ) → i < length xs → getD (map f xs) i 0 ≡ f (getD xs i 0)
+getD-map f [] i l = absurd (not-suc-le-zero l)
+getD-map f (x ∷ xs) zero l = refl
+getD-map f (x ∷ xs) (suc i) l = getD-map f xs i (le-of-suc-le-suc l)

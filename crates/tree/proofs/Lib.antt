@@ -2,6 +2,8 @@ pub mod Rules
 pub mod Runs
 pub mod Stored
 pub mod Sourced
+pub mod Totals
+pub mod Summing
 pub mod Parts
 pub mod KeyTests
 pub mod Ascent

@@ -10,7 +10,7 @@ use Rattle.slices.proofs.Tests.{clash, refute}
 use Rattle.morton.specs.Keys.{ValidKey, levelOf, valid, parent}
 use Rattle.morton.proofs.Checks.{valid-facts}
 use Rattle.tree.specs.Nodes.{before}
-use Rattle.tree.specs.WellFormed.{mostSources, wellFormed, Rooted}
+use Rattle.tree.specs.WellFormed.{mostSources, formed, Rooted}
 use Rattle.tree.specs.Finding.{Sought}
 use Rattle.tree.proofs.Rules.{Ascending, WellFormed, facts, tested}
 use Rattle.tree.proofs.Runs.{sum-take, sum-whole}
@@ -26,7 +26,7 @@ pub record Passed (d : ℕ) (keys own begin : List ℕ) (p run i : ℕ) : Type 0
   pub added : Added own begin run i
 
 module _ (d : ℕ) (keys own begin : List ℕ) (r : Rooted d keys own begin) where
-  broken : (WellFormed d keys own begin → ⊥) → false ≡ wellFormed d keys own begin
+  broken : (WellFormed d keys own begin → ⊥) → false ≡ formed d keys own begin
   broken f = sym (refute (λ h. f (facts d keys own begin h)))
 
   pub pass-start : Passed d keys own begin 0 0 1
@@ -37,7 +37,7 @@ module _ (d : ℕ) (keys own begin : List ℕ) (r : Rooted d keys own begin) whe
     added = add-start own begin (omega (arith, r .some, r .owns)) (r .first) (r .rootless);
   }
 
-  pub pass-done : (p run i : ℕ) → Passed d keys own begin p run i → length keys ≤ i → true ≡ wellFormed d keys own begin
+  pub pass-done : (p run i : ℕ) → Passed d keys own begin p run i → length keys ≤ i → true ≡ formed d keys own begin
   pass-done p run i a h =
       let asc = ascend-done d keys i (a .ascended) h in
       let runs = add-done own begin run i (a .added) (omega (arith, r .owns)) in
@@ -53,18 +53,18 @@ module _ (d : ℕ) (keys own begin : List ℕ) (r : Rooted d keys own begin) whe
       }))
 
   module _ (p run i : ℕ) (a : Passed d keys own begin p run i) (l : i < length keys) where
-    pub bad-key : valid d (getD keys i 0) ≡ false → false ≡ wellFormed d keys own begin
+    pub bad-key : valid d (getD keys i 0) ≡ false → false ≡ formed d keys own begin
     bad-key v = broken (λ w. clash (w .ascending .sound i l) v)
 
-    pub bad-order : before (getD keys (i - 1) 0) (getD keys i 0) ≡ false → false ≡ wellFormed d keys own begin
+    pub bad-order : before (getD keys (i - 1) 0) (getD keys i 0) ≡ false → false ≡ formed d keys own begin
     bad-order b = broken (λ w.
         let e : suc (i - 1) ≡ i = omega (arith, a .ascended .some) in
         clash (rw e at (w .ascending .ordered (i - 1) (omega arith))) b)
 
-    pub bad-begin : (getD begin i 0 ≡ run → ⊥) → false ≡ wellFormed d keys own begin
+    pub bad-begin : (getD begin i 0 ≡ run → ⊥) → false ≡ formed d keys own begin
     bad-begin n = broken (λ w. n (w .runs i l ∙ sym (a .added .adds)))
 
-    pub too-many : mostSources - run < getD own i 0 → false ≡ wellFormed d keys own begin
+    pub too-many : mostSources - run < getD own i 0 → false ≡ formed d keys own begin
     too-many n = broken (λ w.
         let lo : i < length own = omega (arith, r .owns) in
         omega (arith, w .total, a .added .adds, a .added .small, sum-take own i lo, sum-whole own (suc i)))
@@ -74,10 +74,10 @@ module _ (d : ℕ) (keys own begin : List ℕ) (r : Rooted d keys own begin) whe
       has-parent = (valid-facts d (getD keys i 0) (r .axes) v, level-pos d (getD keys (i - 1) 0) (getD keys i 0) v b)
 
       module _ (k q : ℕ) (up : k ≡ parent d (getD keys i 0)) (t : Sought keys p i k q) where
-        pub no-parent : i ≤ q → false ≡ wellFormed d keys own begin
+        pub no-parent : i ≤ q → false ≡ formed d keys own begin
         no-parent h = broken (λ w. not-stored d keys own (w .ascending) p i q k (a .ascended .some) (a .walked (w .ascending)) l up t h (w .parents i (a .ascended .some) l))
 
-        pub parent-owns : q < i → (getD own q 0 ≡ 0 → ⊥) → false ≡ wellFormed d keys own begin
+        pub parent-owns : q < i → (getD own q 0 ≡ 0 → ⊥) → false ≡ formed d keys own begin
         parent-owns h n = broken (λ w. n (w .inner q (omega arith) (found-no-leaf d keys own (w .ascending) p i q k (a .ascended .some) (a .walked (w .ascending)) l up t h)))
 
         pub pass-more : q < i → getD own q 0 ≡ 0 → getD begin i 0 ≡ run → getD own i 0 ≤ mostSources - run

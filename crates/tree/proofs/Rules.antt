@@ -13,7 +13,7 @@ use Rattle.slices.specs.Every.{every}
 use Rattle.slices.proofs.Tests.{and-l, and-r, both}
 use Rattle.morton.specs.Keys.{valid, parent}
 use Rattle.tree.specs.Nodes.{before, stored, leaf}
-use Rattle.tree.specs.WellFormed.{mostSources, oneLength, keysAscend, parentsStored, leavesOwn, runsAdd, wellFormed}
+use Rattle.tree.specs.WellFormed.{mostSources, oneLength, keysAscend, parentsStored, leavesOwn, runsAdd, formed}
 use Rattle.slices.proofs.Every.{every-at, every-all}
 use Rattle.slices.proofs.Tests.{or-not, or-right}
 
@@ -86,8 +86,8 @@ module _ (own begin : List ℕ) where
   facts-runs f t = both (every-all (λ i. eqb (getD begin i 0) (sum (take i own))) (length own) (λ i l. eq-eqb (getD begin i 0) (sum (take i own)) (f i l))) (le-leb (sum own) mostSources t)
 
 module _ (d : ℕ) (keys own begin : List ℕ) where
-  pub facts : wellFormed d keys own begin ≡ true → WellFormed d keys own begin
-  unfolding wellFormed
+  pub facts : formed d keys own begin ≡ true → WellFormed d keys own begin
+  unfolding formed
   facts h =
       let one : oneLength keys own begin ≡ true = and-l _ _ h in
       let rest = and-r (oneLength keys own begin) _ h in
@@ -106,8 +106,8 @@ module _ (d : ℕ) (keys own begin : List ℕ) where
         total = runs .1;
       }
 
-  pub tested : WellFormed d keys own begin → wellFormed d keys own begin ≡ true
-  unfolding wellFormed
+  pub tested : WellFormed d keys own begin → formed d keys own begin ≡ true
+  unfolding formed
   tested w =
       both (both (eq-eqb (length own) (length keys) (w .owns)) (both (eq-eqb (length begin) (length keys) (w .begins)) (lt-ltb 0 (length keys) (w .some))))
       (both (facts-ascend d keys (w .ascending))
@@ -115,5 +115,5 @@ module _ (d : ℕ) (keys own begin : List ℕ) where
       (both (facts-leaves d keys own (w .inner))
       (facts-runs own begin (λ i l. w .runs i (omega (arith, w .owns))) (w .total)))))
 
-  pub well-formed-iff : (wellFormed d keys own begin ≡ true) ↔ WellFormed d keys own begin
+  pub well-formed-iff : (formed d keys own begin ≡ true) ↔ WellFormed d keys own begin
   well-formed-iff = (facts, tested)

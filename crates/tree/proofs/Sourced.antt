@@ -64,13 +64,13 @@ child-under d k c h =
     })
 
 -- below a cell, one is the cell itself or lies under a child of it
-at-level : (d k j : ℕ) → under d k j ≡ true → levelOf k ≡ levelOf j → j ≡ k
+pub at-level : (d k j : ℕ) → under d k j ≡ true → levelOf k ≡ levelOf j → j ≡ k
 at-level d k j h e =
     let u = under-facts d k j h in
     let z : levelOf j - levelOf k ≡ 0 = omega arith in
     sym (key-parts j) ∙ ap₂ key (sym e) (sym (above-zero d (codeOf j)) ∙ rw z at (u .code)) ∙ key-parts k
 
-child-at : (d k j : ℕ) → under d k j ≡ true → levelOf k < levelOf j → (childOf d k (cellAt d (suc (levelOf k)) j) ≡ true) × (under d (cellAt d (suc (levelOf k)) j) j ≡ true)
+pub child-at : (d k j : ℕ) → under d k j ≡ true → levelOf k < levelOf j → (childOf d k (cellAt d (suc (levelOf k)) j) ≡ true) × (under d (cellAt d (suc (levelOf k)) j) j ≡ true)
 child-at d k j h l =
     let u = under-facts d k j h in
     let held : cellAt d (levelOf k) j ≡ k = ap (key (levelOf k)) (u .code) ∙ key-parts k in (

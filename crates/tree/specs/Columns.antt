@@ -6,6 +6,7 @@ pub record Columns : Type 0 where
   pub keys : List ℕ
   pub own : List ℕ
   pub begin : List ℕ
+  pub total : List ℕ
 
-abbrev pub columns : (keys own begin : List ℕ) → Columns
-columns keys own begin = record { keys = keys; own = own; begin = begin }
+abbrev pub columns : (keys own begin total : List ℕ) → Columns
+columns keys own begin total = record { keys = keys; own = own; begin = begin; total = total }

@@ -1,4 +1,4 @@
--- Document 01, "Lists, lookup, sourced cells": when a tree handed in is well formed, for any three columns.
+-- Document 01, "Lists, lookup, sourced cells": when a tree handed in is well formed, for any four columns.
 use mathlib.Core.Path.{_≡_}
 use mathlib.Core.Bool.{Bool, true, false, _&&_, _||_, not}
 use mathlib.Core.List.{List, [], _∷_}
@@ -9,6 +9,7 @@ use Rattle.slices.specs.Lists.{any, sum}
 use Rattle.slices.specs.Every.{every}
 use Rattle.morton.specs.Keys.{axesKnown, valid, parent}
 use Rattle.tree.specs.Nodes.{before, stored, leaf}
+use Rattle.tree.specs.Totals.{totalIn}
 
 -- the most sources of a tree
 abbrev pub mostSources : ℕ
@@ -42,10 +43,27 @@ unfoldable pub runsAdd : List ℕ → List ℕ → Bool
 unfolding every
 runsAdd own begin = every (length own) (λ i. eqb (getD begin i 0) (sum (take i own))) && leb (sum own) mostSources
 
-unfoldable pub wellFormed : ℕ → List ℕ → List ℕ → List ℕ → Bool
+-- all of this: the rule but for the totals
+unfoldable pub formed : ℕ → List ℕ → List ℕ → List ℕ → Bool
 unfolding keysAscend parentsStored leavesOwn runsAdd
-wellFormed d keys own begin =
+formed d keys own begin =
     oneLength keys own begin && (keysAscend d keys && (parentsStored d keys && (leavesOwn d keys own && runsAdd own begin)))
+
+-- the column of totals has the same length, and each is the number of sources in the cell and all below it
+unfoldable pub totalsRight : ℕ → List ℕ → List ℕ → List ℕ → Bool
+unfolding every
+totalsRight d keys own total = eqb (length total) (length keys) && every (length keys) (λ i. eqb (getD total i 0) (totalIn d keys own (getD keys i 0)))
+
+unfoldable pub wellFormed : ℕ → List ℕ → List ℕ → List ℕ → List ℕ → Bool
+unfolding formed totalsRight
+wellFormed d keys own begin total = formed d keys own begin && totalsRight d keys own total
+
+-- 1 to 3 axes, and the columns of a well-formed tree, whatever its begins
+pub record SoundTree (d : ℕ) (keys own : List ℕ) : Type 0 where
+  pub some : 1 ≤ d
+  pub most : d ≤ 3
+  pub begin : List ℕ
+  pub sound : formed d keys own begin ≡ true
 
 -- the number of axes, the lengths and the first row are right
 pub record Rooted (d : ℕ) (keys own begin : List ℕ) : Type 0 where

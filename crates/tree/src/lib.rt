@@ -3,12 +3,14 @@ use morton::keys;
 use refusal::Outcome;
 ghost use mathlib.Core.Path.{_≡_};
 ghost use mathlib.Core.Bool.{true, _&&_};
-ghost use Prim.Native.Nat.{ℕ, _≤_, _<_};
-ghost use lib.ListN.{length, getD};
+ghost use mathlib.Core.List.{_++_};
+ghost use Prim.Native.Nat.{ℕ, _+_, _≤_, _<_};
+ghost use lib.ListN.{length, getD, drop};
 ghost use Rattle.morton.specs.Keys.{axesKnown, valid};
 ghost use Rattle.tree.specs.Nodes.{before, leaf, depthOf};
-ghost use Rattle.tree.specs.WellFormed.{keysAscend, wellFormed, Rooted};
-ghost use Rattle.tree.specs.Finding.{FoundNode, FirstFrom, Sought, Children};
+ghost use Rattle.tree.specs.Totals.{totalIn, totalColumn};
+ghost use Rattle.tree.specs.WellFormed.{keysAscend, formed, totalsRight, wellFormed, Rooted, SoundTree};
+ghost use Rattle.tree.specs.Finding.{FoundNode, FirstFrom, Sought, Parts, TotalsFrom, Children};
 ghost use Rattle.tree.specs.Sources.{leafSources};
 
 pub const MOST_SOURCES: usize = 1048576;
@@ -23,6 +25,12 @@ pub enum Found {
 pub struct Span {
     pub from: usize,
     pub to: usize,
+}
+
+// Where a node's children begin, and its total.
+struct Summed {
+    from: usize,
+    total: usize,
 }
 
 // Whether node a has a lower number than node b: by level, then ascending code.
@@ -71,7 +79,7 @@ fn seek(key: &[u64], p: usize, end: usize, k: u64) -> usize
 // Parents ascend as their children do, and stand before them.
 fn rows_right(axes: usize, key: &[u64], own: &[usize], begin: &[usize]) -> bool
     requires { ⌜ Rooted axes (now key) (now own) (now begin) ⌝ }
-    ensures { λ r. ⌜ r ≡ wellFormed axes (now (key .entry)) (now (own .entry)) (now (begin .entry)) ⌝ }
+    ensures { λ r. ⌜ r ≡ formed axes (now (key .entry)) (now (own .entry)) (now (begin .entry)) ⌝ }
 {
     let mut parent = 0;
     let mut run = 0;
@@ -104,9 +112,9 @@ fn rows_right(axes: usize, key: &[u64], own: &[usize], begin: &[usize]) -> bool
     true
 }
 
-// Whether any three columns are a well-formed tree over 1 to 3 axes: their lengths, the root's row, and then the others.
-pub fn is_well_formed(axes: usize, key: &[u64], own: &[usize], begin: &[usize]) -> bool
-    ensures { λ r. ⌜ r ≡ (axesKnown axes && wellFormed axes (now (key .entry)) (now (own .entry)) (now (begin .entry))) ⌝ }
+// Whether three columns are a well-formed tree over 1 to 3 axes but for its totals: their lengths, the root's row, and then the others.
+fn is_formed(axes: usize, key: &[u64], own: &[usize], begin: &[usize]) -> bool
+    ensures { λ r. ⌜ r ≡ (axesKnown axes && formed axes (now (key .entry)) (now (own .entry)) (now (begin .entry))) ⌝ }
 {
     if !axes::axes_known(axes) {
         return false;
@@ -130,6 +138,92 @@ pub fn is_well_formed(axes: usize, key: &[u64], own: &[usize], begin: &[usize]) 
         return false;
     }
     rows_right(axes, key, own, begin)
+}
+
+// A node's total, by what it owns and by its children's totals; and the number at which its children begin, given where those of
+// the next node begin.
+fn total_at(
+    axes: usize,
+    key: &[u64],
+    own: &[usize],
+    total: &[usize],
+    node: usize,
+    end: usize,
+) -> Summed
+    requires { ⌜ SoundTree axes (now key) (now own) × (length (now key) ≤ length (now total)) × (node < length (now key)) × Parts axes (now key) (node + 1) end × TotalsFrom axes (now key) (now own) (now total) (node + 1) ⌝ }
+    ensures parts { λ r. ⌜ Parts axes (now (key .entry)) node (r .from) ⌝ }
+    ensures total { λ r. ⌜ r .total ≡ totalIn axes (now (key .entry)) (now (own .entry)) (getD (now (key .entry)) node 0) ⌝ }
+{
+    let k = key[node];
+    let mut sum = own[node];
+    let mut from = end;
+    while 1 < from {
+        if keys::parent_of(axes, key[from - 1]) != k {
+            return Summed {
+                from: from,
+                total: sum,
+            };
+        }
+        from -= 1;
+        sum += total[from];
+    }
+    Summed {
+        from: from,
+        total: sum,
+    }
+}
+
+// Whether the totals are right: from the last node to the first, as children have higher numbers than their parent. What has been
+// passed is right, so no sum is too large.
+fn totals_right(axes: usize, key: &[u64], own: &[usize], total: &[usize]) -> bool
+    requires { ⌜ SoundTree axes (now key) (now own) × (length (now total) ≡ length (now key)) ⌝ }
+    ensures { λ r. ⌜ r ≡ totalsRight axes (now (key .entry)) (now (own .entry)) (now (total .entry)) ⌝ }
+{
+    let mut end = key.len();
+    let mut node = key.len();
+    while 0 < node {
+        node -= 1;
+        let summed = total_at(axes, key, own, total, node, end);
+        if total[node] != summed.total {
+            return false;
+        }
+        end = summed.from;
+    }
+    true
+}
+
+// Writes the totals of a tree into the first entries of a column.
+pub fn write_totals(axes: usize, key: &[u64], own: &[usize], total: &mut [usize])
+    requires { ⌜ SoundTree axes (now key) (now own) × (length (now key) ≤ length (now total)) ⌝ }
+    ensures { λ _. ⌜ now (total .exit) ≡ totalColumn axes (now (key .entry)) (now (own .entry)) ++ drop (length (now (key .entry))) (now (total .entry)) ⌝ }
+{
+    let mut end = key.len();
+    let mut node = key.len();
+    while 0 < node {
+        node -= 1;
+        let summed = total_at(axes, key, own, total, node, end);
+        total[node] = summed.total;
+        end = summed.from;
+    }
+}
+
+// Whether any four columns are a well-formed tree over 1 to 3 axes.
+pub fn is_well_formed(
+    axes: usize,
+    key: &[u64],
+    own: &[usize],
+    begin: &[usize],
+    total: &[usize],
+) -> bool
+    ensures { λ r. ⌜ r ≡ (axesKnown axes && wellFormed axes (now (key .entry)) (now (own .entry)) (now (begin .entry)) (now (total .entry))) ⌝ }
+{
+    if !is_formed(axes, key, own, begin) {
+        return false;
+    }
+    if total.len() != key.len() {
+        return false;
+    }
+    totals_right(axes, key, own, total)
 }
 
 // The depth: the last node's level, at least 1.

@@ -88,11 +88,19 @@ fn many_nodes(one_more: bool) -> Survey {
 fn build_with_room(s: &Survey, room: usize) -> (Result<usize, Refusal>, bool) {
     let count = s.sources.len() / 2;
     let (mut work, mut order) = (vec![7; 2 * count], vec![7; count]);
-    let (mut key, mut own, mut begin) = (vec![7; room], vec![7; room], vec![7; room]);
-    let asked = builds::asked_of(s, true);
-    let ours = lent::build_tree(asked, &mut work, &mut order, &mut key, &mut own, &mut begin);
-    let all = (work.iter().chain(&key)).all(|x| *x == 0)
-        && (order.iter().chain(&own).chain(&begin)).all(|x| *x == 0);
+    let mut key = vec![7; room];
+    let [mut own, mut begin, mut total] = [0; 3].map(|_| vec![7; room]);
+    let ours = lent::build_tree(
+        builds::asked_of(s, true),
+        &mut work,
+        &mut order,
+        &mut key,
+        &mut own,
+        &mut begin,
+        &mut total,
+    );
+    let sums = order.iter().chain(&own).chain(&begin).chain(&total);
+    let all = work.iter().chain(&key).all(|x| *x == 0) && sums.into_iter().all(|x| *x == 0);
     (ours.map(|(nodes, _)| nodes), all)
 }
 

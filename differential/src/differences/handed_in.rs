@@ -2,7 +2,7 @@
 use super::Rows;
 use super::points::EXAMPLE;
 use super::trees::{self, example};
-use crate::oracle::{dimensions, rank};
+use crate::oracle::{self, dimensions, rank};
 use crate::trees::{RustRows, rust_rows};
 use ferreus_bbfmm::bbfmm::TreeLists;
 use ferreus_bbfmm::{FmmError, linear_tree, morton};
@@ -53,12 +53,14 @@ pub fn rows_by_rust(tree: &Tree) -> RustRows {
 /// A tree of these keys, with sources in those that are told.
 pub fn tree_of(bounds: Bounds, mut nodes: Vec<(u64, usize)>) -> Tree {
     nodes.sort_unstable_by_key(|(key, _)| rank(*key));
-    let mut tree = Tree::from_columns(bounds, vec![], vec![], vec![], vec![]);
+    let sums = oracle::totals(bounds.axes, nodes.iter().copied());
+    let mut tree = Tree::from_columns(bounds, vec![], vec![], vec![], vec![], vec![]);
     let mut sum = 0;
     for (key, own) in nodes {
         tree.key.push(key);
         tree.own.push(own);
         tree.begin.push(sum);
+        tree.total.push(sums[&key]);
         sum += own;
     }
     tree
@@ -67,6 +69,7 @@ pub fn tree_of(bounds: Bounds, mut nodes: Vec<(u64, usize)>) -> Tree {
 pub fn run(rows: &mut Rows) {
     root_alone(rows);
     orphans(rows);
+    wrong_totals(rows);
     too_many_sources(rows);
     no_columns(rows);
     no_axes(rows);
@@ -116,6 +119,28 @@ fn orphans(rows: &mut Rows) {
     }
     let cells = (theirs.cells.contains(&2), true);
     rows.answered("T27", "sourced cells", ((), ()), cells);
+}
+
+/// The example with one total off by one, and without the last total.
+fn wrong_totals(rows: &mut Rows) {
+    let changes: [fn(&mut Vec<usize>); 4] = [
+        |total| total[0] += 1,
+        |total| total[3] -= 1,
+        |total| total[8] += 1,
+        |total| total.truncate(8),
+    ];
+    for (place, change) in changes.iter().enumerate() {
+        let mut tree = example();
+        change(&mut tree.total);
+        let input = format!("change {place}");
+        for ours in calls(&tree) {
+            rows.refused_here("T38", &input, ours, (13, 0));
+        }
+        let ours = tree.points_to_keys(&[0.5]);
+        rows.refused_here("T38", &input, ours, (13, 0));
+        let ours = tree.get_points_to_leaves_map(&[3]).map(|_| ());
+        rows.refused_here("T38", &input, ours, (13, 0));
+    }
 }
 
 /// One leaf with one source more than there may be; the Rust asks only whether there is any.

@@ -17,6 +17,7 @@ pub fn example() -> Tree {
         vec![0, 1, 32769, 2, 98306, 3, 32771, 196611, 229379],
         vec![0, 0, 0, 0, 0, 1, 1, 1, 1],
         vec![0, 0, 0, 0, 0, 0, 1, 2, 3],
+        vec![4, 2, 2, 2, 2, 1, 1, 1, 1],
         vec![0, 1, 2, 3],
     )
 }
@@ -115,20 +116,30 @@ fn build_not_asked(rows: &mut Rows) {
     rows.refused_here("T7", "one number of sources", build(&s), (3, 0));
     s.sources = vec![0.5, 0.5];
     rows.refused_here("T7", "one number of targets", build(&s), (3, 0));
-    // two words of work, one place in the order, two nodes; one of them short
-    for short in 0..3 {
-        let room = |which: usize, needed: usize| if which == short { needed - 1 } else { needed };
-        let (mut work, mut order) = (vec![7; room(0, 2)], vec![7; room(1, 1)]);
-        let mut key = vec![7; room(2, 2)];
-        let (mut own, mut begin) = (vec![7; 2], vec![7; 2]);
-        let s = survey(&[0.5]);
-        let asked = builds::asked_of(&s, true);
-        let ours = lent::build_tree(asked, &mut work, &mut order, &mut key, &mut own, &mut begin);
-        rows.refused_here("T8", &format!("slice {}", short + 1), ours, (8, short + 1));
-        let all = (work.iter().chain(&key)).all(|x| *x == 0)
-            && (order.iter().chain(&own).chain(&begin)).all(|x| *x == 0);
-        rows.answered("T8", "all slices 0", (all, true), ((), ()));
-    }
+    (0..6).for_each(|short| build_with_short(rows, short));
+}
+
+/// Two words of work, one place in the order, and two nodes in each of the four columns; one slice short.
+fn build_with_short(rows: &mut Rows, short: usize) {
+    let room = |which: usize, needed: usize| if which == short { needed - 1 } else { needed };
+    let (mut work, mut order) = (vec![7; room(0, 2)], vec![7; room(1, 1)]);
+    let mut key = vec![7; room(2, 2)];
+    let [mut own, mut begin, mut total] = [3, 4, 5].map(|which| vec![7; room(which, 2)]);
+    let s = survey(&[0.5]);
+    let ours = lent::build_tree(
+        builds::asked_of(&s, true),
+        &mut work,
+        &mut order,
+        &mut key,
+        &mut own,
+        &mut begin,
+        &mut total,
+    );
+    let value = 1 + short.min(2);
+    rows.refused_here("T8", &format!("slice {short}"), ours, (8, value));
+    let sums = order.iter().chain(&own).chain(&begin).chain(&total);
+    let all = work.iter().chain(&key).all(|x| *x == 0) && sums.into_iter().all(|x| *x == 0);
+    rows.answered("T8", "all slices 0", (all, true), ((), ()));
 }
 
 /// The Rust's lookup in the example tree, which takes its leaves and its depth.

@@ -1,6 +1,7 @@
 -- `build::node_room` meets its contract.
 use borrow.Author.Needs.{needs}
-use native.Mathlib.Omega.{arith}
+use mathlib.Core.Path.{ap, _∙_}
+use Prim.Native.Nat.{min}
 use Rattle.build.proofs.node_room.Statement.{statement}
 use Rattle.build.proofs.node_room.Tie as tie
 
@@ -13,8 +14,13 @@ smaller-requires-2 c κs = search needs
 smaller-requires-3 : tie.Need-smaller-requires-3
 smaller-requires-3 c κs = search needs
 
+smaller-requires-4 : tie.Need-smaller-requires-4
+smaller-requires-4 c κs = search needs
+
 returns : tie.Need-returns
-returns c = omega (arith, c .smaller3 .ensures, c .before .smaller2 .ensures, c .before .before .smaller .ensures)
+returns c =
+    let a = c .before .before .before .before .args in
+    c .smaller4 .ensures ∙ ap (min 1048576) (c .before .smaller3 .ensures ∙ ap (min (a .key)) (c .before .before .smaller2 .ensures ∙ ap (min (a .own)) (c .before .before .before .smaller .ensures)))
 
 pub node-room-spec : {M : Type 1} → statement M
-node-room-spec = tie.close (tie.spec smaller-requires smaller-requires-2 smaller-requires-3 returns)
+node-room-spec = tie.close (tie.spec smaller-requires smaller-requires-2 smaller-requires-3 smaller-requires-4 returns)

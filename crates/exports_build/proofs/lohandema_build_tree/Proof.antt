@@ -4,7 +4,8 @@ use denote.Ref.{now}
 use lib.ListN.{length}
 use Rattle.exports_keys.specs.Told.{told}
 use Rattle.exports_build.specs.Told.{builtEnd, nodesIn, depthIn}
-use Rattle.build.specs.Asked.{used, builtKeys, builtOwn, builtBegins, builtOrder}
+use Rattle.build.specs.Asked.{used, builtKeys, builtOwn, builtBegins, builtTotals, builtOrder}
+use Rattle.build.specs.Outcomes.{nodeRoom}
 use Rattle.exports_build.proofs.Same.{built-same, column-same}
 use borrow.Author.Needs.{needs}
 use Rattle.exports_build.proofs.lohandema_build_tree.Statement.{statement}
@@ -34,9 +35,42 @@ same-length-4 c = search needs
 same-length-5 : tie.Need-same-length-5
 same-length-5 c = search needs
 
+same-length-6 : tie.Need-same-length-6
+same-length-6 c = search needs
+
 returns : tie.Need-returns
-returns c = let a = c .before .before .before .before .before .before .before .before .before .before .before .before .before .before .before .before .before .before .before .before .before .before .before .before .before .before .before .args in let x = c .before .before .before .before .before .before .before .before .before .before .before .before .before .before .before .before .before .before .before .box-at .ensures in let g = c .before .before .before .before .before .before .before .before .before .before .before .before .before .build-tree .ensures in let t = c .tell-built .ensures in let f = built-same (a .limit) (a .order) (a .keep) (now (a .sources)) (used (a .keep) (a .refine) (now (a .targets))) (length (now (a .work))) (length (now (a .indices))) (length (now (a .key))) (length (now (a .own))) (length (now (a .begin))) x _ (g .0) in (t .0 ∙ ap (λ y. told (builtEnd y)) f, (g .1 .0, (column-same (a .limit) (a .order) (a .keep) (now (a .sources)) (used (a .keep) (a .refine) (now (a .targets))) (length (now (a .work))) (length (now (a .indices))) (length (now (a .key))) (length (now (a .own))) (length (now (a .begin))) x builtOrder (length (now (a .indices))) _ (g .1 .1 .0), (column-same (a .limit) (a .order) (a .keep) (now (a .sources)) (used (a .keep) (a .refine) (now (a .targets))) (length (now (a .work))) (length (now (a .indices))) (length (now (a .key))) (length (now (a .own))) (length (now (a .begin))) x builtKeys (length (now (a .key))) _ (g .1 .1 .1 .0), (column-same (a .limit) (a .order) (a .keep) (now (a .sources)) (used (a .keep) (a .refine) (now (a .targets))) (length (now (a .work))) (length (now (a .indices))) (length (now (a .key))) (length (now (a .own))) (length (now (a .begin))) x builtOwn (length (now (a .own))) _ (g .1 .1 .1 .1 .0), (column-same (a .limit) (a .order) (a .keep) (now (a .sources)) (used (a .keep) (a .refine) (now (a .targets))) (length (now (a .work))) (length (now (a .indices))) (length (now (a .key))) (length (now (a .own))) (length (now (a .begin))) x builtBegins (length (now (a .begin))) _ (g .1 .1 .1 .1 .1), (t .1 .0 ∙ ap nodesIn f, t .1 .1 ∙ ap depthIn f)))))))
+returns c =
+    let a = c .before .before .before .before .before .before .before .before .before .before .before .before .before .before .before .before .before .before .before .before .before .before .before .before .before .before .before .before .before .before .before .args in
+    let room = nodeRoom (length (now (a .key))) (length (now (a .own))) (length (now (a .begin))) (length (now (a .total))) in
+    let x = c .before .before .before .before .before .before .before .before .before .before .before .before .before .before .before .before .before .before .before .before .before .before .box-at .ensures in
+    let g = c .before .before .before .before .before .before .before .before .before .before .before .before .before .before .before .build-tree .ensures in
+    let t = c .tell-built .ensures in
+    let f = built-same (a .limit) (a .order) (a .keep) (now (a .sources)) (used (a .keep) (a .refine) (now (a .targets))) (length (now (a .work))) (length (now (a .indices))) room x _ (g .0) in (
+      t .0 ∙ ap (λ y. told (builtEnd y)) f,
+      (
+        g .1 .0,
+        (
+          column-same (a .limit) (a .order) (a .keep) (now (a .sources)) (used (a .keep) (a .refine) (now (a .targets))) (length (now (a .work))) (length (now (a .indices))) room x builtOrder (length (now (a .indices))) _ (g .1 .1 .0),
+          (
+            column-same (a .limit) (a .order) (a .keep) (now (a .sources)) (used (a .keep) (a .refine) (now (a .targets))) (length (now (a .work))) (length (now (a .indices))) room x builtKeys (length (now (a .key))) _ (g .1 .1 .1 .0),
+            (
+              column-same (a .limit) (a .order) (a .keep) (now (a .sources)) (used (a .keep) (a .refine) (now (a .targets))) (length (now (a .work))) (length (now (a .indices))) room x builtOwn (length (now (a .own))) _ (g .1 .1 .1 .1 .0),
+              (
+                column-same (a .limit) (a .order) (a .keep) (now (a .sources)) (used (a .keep) (a .refine) (now (a .targets))) (length (now (a .work))) (length (now (a .indices))) room x builtBegins (length (now (a .begin))) _ (g .1 .1 .1 .1 .1 .0),
+                (
+                  column-same (a .limit) (a .order) (a .keep) (now (a .sources)) (used (a .keep) (a .refine) (now (a .targets))) (length (now (a .work))) (length (now (a .indices))) room x builtTotals (length (now (a .total))) _ (g .1 .1 .1 .1 .1 .1),
+                  (
+                    t .1 .0 ∙ ap nodesIn f,
+                    t .1 .1 ∙ ap depthIn f,
+                  ),
+                ),
+              ),
+            ),
+          ),
+        ),
+      ),
+    )
 
 pub lohandema-build-tree-spec : {M : Type 1} → statement M
 lohandema-build-tree-spec =
-    tie.close (tie.spec box-at-requires build-tree-requires tell-built-requires same-length same-length-2 same-length-3 same-length-4 same-length-5 returns)
+    tie.close (tie.spec box-at-requires build-tree-requires tell-built-requires same-length same-length-2 same-length-3 same-length-4 same-length-5 same-length-6 returns)

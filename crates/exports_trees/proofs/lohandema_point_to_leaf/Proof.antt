@@ -29,10 +29,10 @@ end-of-requires-2 : tie.Need-end-of-requires-2
 end-of-requires-2 c κs = search needs
 
 returns : tie.Need-returns
-returns c = let a = c .before .before .before .before .before .before .before .before .before .before .args in let e = sym (c .before .before .answer .given .1) ∙ c .before .before .before .before .point-to-leaf .ensures .0 ∙ ap (λ b. pointToLeaf b (columns (now (a .key)) (now (a .own)) (now (a .begin))) (now (a .point))) (c .before .before .before .before .before .before .box-at .ensures) in (c .end-of .ensures ∙ ap (λ x. told (leafEnd x)) e, (ap leafIn e, (ap climbedIn e, c .before .before .before .before .point-to-leaf .ensures .1 _ _ (c .before .before .answer .given .1) .few)))
+returns c = let a = c .before .before .before .before .before .before .before .before .before .before .before .args in let e = sym (c .before .before .answer .given .1) ∙ c .before .before .before .before .point-to-leaf .ensures .0 ∙ ap (λ b. pointToLeaf b (columns (now (a .key)) (now (a .own)) (now (a .begin)) (now (a .total))) (now (a .point))) (c .before .before .before .before .before .before .box-at .ensures) in (c .end-of .ensures ∙ ap (λ x. told (leafEnd x)) e, (ap leafIn e, (ap climbedIn e, c .before .before .before .before .point-to-leaf .ensures .1 _ _ (c .before .before .answer .given .1) .few)))
 
 returns-2 : tie.Need-returns-2
-returns-2 c = let a = c .before .before .before .before .before .before .before .before .before .before .args in let e = sym (c .before .before .answer2 .given .1) ∙ c .before .before .before .before .point-to-leaf .ensures .0 ∙ ap (λ b. pointToLeaf b (columns (now (a .key)) (now (a .own)) (now (a .begin))) (now (a .point))) (c .before .before .before .before .before .before .box-at .ensures) in (c .end-of2 .ensures ∙ ap (λ x. told (leafEnd x)) e, (ap leafIn e, (ap climbedIn e, omega arith)))
+returns-2 c = let a = c .before .before .before .before .before .before .before .before .before .before .before .args in let e = sym (c .before .before .answer2 .given .1) ∙ c .before .before .before .before .point-to-leaf .ensures .0 ∙ ap (λ b. pointToLeaf b (columns (now (a .key)) (now (a .own)) (now (a .begin)) (now (a .total))) (now (a .point))) (c .before .before .before .before .before .before .box-at .ensures) in (c .end-of2 .ensures ∙ ap (λ x. told (leafEnd x)) e, (ap leafIn e, (ap climbedIn e, omega arith)))
 
 pub lohandema-point-to-leaf-spec : {M : Type 1} → statement M
 lohandema-point-to-leaf-spec =

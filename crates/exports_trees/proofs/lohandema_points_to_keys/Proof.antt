@@ -31,13 +31,13 @@ same-length : tie.Need-same-length
 same-length c = search needs
 
 returns : tie.Need-returns
-returns c = let a = c .before .before .before .before .before .before .before .before .before .before .before .before .before .before .args in let x = c .before .before .before .before .before .before .before .before .box-at .ensures in let f = sym (c .before .before .answer .given .1) ∙ c .before .before .before .before .before .before .points-to-keys .ensures .0 in (c .end-of .ensures ∙ ap told (told-end (now (a .key)) (now (a .own)) (now (a .begin)) (now (a .points)) (length (now (a .output))) x _ f), (told-output (now (a .key)) (now (a .own)) (now (a .begin)) (now (a .points)) (length (now (a .output))) x _ (c .before .before .before .before .before .before .points-to-keys .ensures .1 .0), (told-steps (now (a .key)) (now (a .own)) (now (a .begin)) (now (a .points)) (length (now (a .output))) x _ f, told-few (now (a .key)) (now (a .own)) (now (a .begin)) (now (a .points)) (length (now (a .output))) x _ (c .before .before .before .before .before .before .points-to-keys .ensures .1 .1 _ (c .before .before .answer .given .1)))))
+returns c = let a = c .before .before .before .before .before .before .before .before .before .before .before .before .before .before .before .args in let x = c .before .before .before .before .before .before .before .before .box-at .ensures in let f = sym (c .before .before .answer .given .1) ∙ c .before .before .before .before .before .before .points-to-keys .ensures .0 in (c .end-of .ensures ∙ ap told (told-end (now (a .key)) (now (a .own)) (now (a .begin)) (now (a .total)) (now (a .points)) (length (now (a .output))) x _ f), (told-output (now (a .key)) (now (a .own)) (now (a .begin)) (now (a .total)) (now (a .points)) (length (now (a .output))) x _ (c .before .before .before .before .before .before .points-to-keys .ensures .1 .0), (told-steps (now (a .key)) (now (a .own)) (now (a .begin)) (now (a .total)) (now (a .points)) (length (now (a .output))) x _ f, told-few (now (a .key)) (now (a .own)) (now (a .begin)) (now (a .total)) (now (a .points)) (length (now (a .output))) x _ (c .before .before .before .before .before .before .points-to-keys .ensures .1 .1 _ (c .before .before .answer .given .1)))))
 
 same-length-2 : tie.Need-same-length-2
 same-length-2 c = search needs
 
 returns-2 : tie.Need-returns-2
-returns-2 c = let a = c .before .before .before .before .before .before .before .before .before .before .before .before .before .before .args in let x = c .before .before .before .before .before .before .before .before .box-at .ensures in let f = sym (c .before .before .answer2 .given .1) ∙ c .before .before .before .before .before .before .points-to-keys .ensures .0 in (c .end-of2 .ensures ∙ ap told (told-end (now (a .key)) (now (a .own)) (now (a .begin)) (now (a .points)) (length (now (a .output))) x _ f), (told-output (now (a .key)) (now (a .own)) (now (a .begin)) (now (a .points)) (length (now (a .output))) x _ (c .before .before .before .before .before .before .points-to-keys .ensures .1 .0), (told-steps (now (a .key)) (now (a .own)) (now (a .begin)) (now (a .points)) (length (now (a .output))) x _ f, omega arith)))
+returns-2 c = let a = c .before .before .before .before .before .before .before .before .before .before .before .before .before .before .before .args in let x = c .before .before .before .before .before .before .before .before .box-at .ensures in let f = sym (c .before .before .answer2 .given .1) ∙ c .before .before .before .before .before .before .points-to-keys .ensures .0 in (c .end-of2 .ensures ∙ ap told (told-end (now (a .key)) (now (a .own)) (now (a .begin)) (now (a .total)) (now (a .points)) (length (now (a .output))) x _ f), (told-output (now (a .key)) (now (a .own)) (now (a .begin)) (now (a .total)) (now (a .points)) (length (now (a .output))) x _ (c .before .before .before .before .before .before .points-to-keys .ensures .1 .0), (told-steps (now (a .key)) (now (a .own)) (now (a .begin)) (now (a .total)) (now (a .points)) (length (now (a .output))) x _ f, omega arith)))
 
 pub lohandema-points-to-keys-spec : {M : Type 1} → statement M
 lohandema-points-to-keys-spec =

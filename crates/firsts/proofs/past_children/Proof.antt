@@ -4,7 +4,8 @@ use Prim.Native.Nat.{_-_}
 use mathlib.Core.Path.{sym, _∙_}
 use native.Mathlib.Omega.{arith}
 use lib.ListN.{length}
-use Rattle.firsts.proofs.Columns.{Passed, pass-start, pass-more, node-valid, parts-next}
+use Rattle.firsts.proofs.Columns.{Passed, pass-start, pass-more, parts-next}
+use Rattle.tree.proofs.Summing.{node-valid}
 use Rattle.firsts.proofs.past_children.Statement.{statement}
 use Rattle.firsts.proofs.past_children.Tie as tie
 use Rattle.firsts.proofs.past_children.Reads as reads

@@ -38,12 +38,12 @@ same-length-4 c = search needs
 
 returns : tie.Need-returns
 returns c =
-    let a = c .before .before .before .before .before .before .before .before .before .before .before .before .before .before .before .before .before .before .before .before .before .before .before .before .before .before .before .before .before .before .before .before .before .before .before .before .args in
+    let a = c .before .before .before .before .before .before .before .before .before .before .before .before .before .before .before .before .before .before .before .before .before .before .before .before .before .before .before .before .before .before .before .before .before .before .before .before .before .args in
     let w = c .before .before .before .before .before .before .before .before .before .before .before .before .before .before .before .before .before .before .before .before .before .before .before .before .write-lists in
     let z = c .before .before .before .before .before .before .before .before .clear-lists .ensures in
     let e = sym (c .before .before .before .before .before .before .before .before .before .before .before .before .before .before .answer .given .1) ∙ w .ensures .0 in
-    let o = told-refused (a .axes) (now (a .key)) (now (a .own)) (now (a .begin)) (length (now (a .u-starts))) (length (now (a .u-keys))) (length (now (a .v-starts))) (length (now (a .v-keys))) _ e in
-    (e, (left-refused _ (length (now (a .u-starts))) _ _ _ _ o (w .kept .1 .1 .1 .1 .0) (z .0), (left-refused _ (length (now (a .u-keys))) _ _ _ _ o (w .kept .1 .1 .1 .1 .1 .0) (z .1 .0), (left-refused _ (length (now (a .v-starts))) _ _ _ _ o (w .kept .1 .1 .1 .1 .1 .1 .0) (z .1 .1 .0), (left-refused _ (length (now (a .v-keys))) _ _ _ _ o (w .kept .1 .1 .1 .1 .1 .1 .1 .0) (z .1 .1 .1), (λ q. absurd (clash q refl), (λ q. absurd (clash q refl), (λ q. absurd (clash q refl), λ q. absurd (clash q refl)))))))))
+    let o = told-refused (a .axes) (now (a .key)) (now (a .own)) (now (a .begin)) (now (a .total)) (length (now (a .u-starts))) (length (now (a .u-keys))) (length (now (a .v-starts))) (length (now (a .v-keys))) _ e in
+    (e, (left-refused _ (length (now (a .u-starts))) _ _ _ _ o (w .kept .1 .1 .1 .1 .1 .0) (z .0), (left-refused _ (length (now (a .u-keys))) _ _ _ _ o (w .kept .1 .1 .1 .1 .1 .1 .0) (z .1 .0), (left-refused _ (length (now (a .v-starts))) _ _ _ _ o (w .kept .1 .1 .1 .1 .1 .1 .1 .0) (z .1 .1 .0), (left-refused _ (length (now (a .v-keys))) _ _ _ _ o (w .kept .1 .1 .1 .1 .1 .1 .1 .1 .0) (z .1 .1 .1), (λ q. absurd (clash q refl), (λ q. absurd (clash q refl), (λ q. absurd (clash q refl), λ q. absurd (clash q refl)))))))))
 
 same-length-5 : tie.Need-same-length-5
 same-length-5 c = search needs
@@ -59,12 +59,12 @@ same-length-8 c = search needs
 
 returns-2 : tie.Need-returns-2
 returns-2 c =
-    let a = c .before .before .before .before .before .before .before .before .before .before .before .before .before .before .before .before .before .before .before .before .before .before .before .args in
+    let a = c .before .before .before .before .before .before .before .before .before .before .before .before .before .before .before .before .before .before .before .before .before .before .before .before .args in
     let w = c .before .before .before .before .before .before .before .before .before .before .before .write-lists .ensures in
     let e = sym (c .before .answer2 .given .1) ∙ w .0 in
     let t : isListed (c .before .before .before .before .before .before .before .before .before .before .before .write-lists .result) ≡ true = ap isListed (c .before .answer2 .given .1) in
-    let o = told-listed (a .axes) (now (a .key)) (now (a .own)) (now (a .begin)) (length (now (a .u-starts))) (length (now (a .u-keys))) (length (now (a .v-starts))) (length (now (a .v-keys))) _ _ e in
-    let d = demand-3 (a .axes) (now (a .key)) (now (a .own)) (now (a .begin)) _ _ _ _ _ _ _ _ (listed-tree (a .axes) (now (a .key)) (now (a .own)) (now (a .begin)) (length (now (a .u-starts))) (length (now (a .u-keys))) (length (now (a .v-starts))) (length (now (a .v-keys))) _ _ e) (w .1 .0 t) (w .1 .1 .0 t) (w .1 .1 .1 .0 t) (w .1 .1 .1 .1 t) in
+    let o = told-listed (a .axes) (now (a .key)) (now (a .own)) (now (a .begin)) (now (a .total)) (length (now (a .u-starts))) (length (now (a .u-keys))) (length (now (a .v-starts))) (length (now (a .v-keys))) _ _ e in
+    let d = demand-3 (a .axes) (now (a .key)) (now (a .own)) (now (a .begin)) (now (a .total)) _ _ _ _ _ _ _ _ (listed-tree (a .axes) (now (a .key)) (now (a .own)) (now (a .begin)) (now (a .total)) (length (now (a .u-starts))) (length (now (a .u-keys))) (length (now (a .v-starts))) (length (now (a .v-keys))) _ _ e) (w .1 .0 t) (w .1 .1 .0 t) (w .1 .1 .1 .0 t) (w .1 .1 .1 .1 t) in
     (e, (left-done _ (length (now (a .u-starts))) _ _ o (w .1 .0 t), (left-done _ (length (now (a .u-keys))) _ _ o (w .1 .1 .0 t), (left-done _ (length (now (a .v-starts))) _ _ o (w .1 .1 .1 .0 t), (left-done _ (length (now (a .v-keys))) _ _ o (w .1 .1 .1 .1 t), (λ _. d .0, (λ _. d .1, (λ _. d .2, λ _. d .3))))))))
 
 pub get-interaction-lists-spec : {M : Type 1} → statement M

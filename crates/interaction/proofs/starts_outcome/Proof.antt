@@ -13,19 +13,19 @@ enum-known-checked : tie.Need-enum-known-checked
 enum-known-checked c = search needs
 
 returns : tie.Need-returns
-returns c = let a = c .before .before .before .before .before .before .before .args in not-tree (a .axes) (now (a .key)) (now (a .own)) (now (a .begin)) (a .u-places) (a .v-places) _ (sym (c .before .before .before .check-tree .ensures) ∙ c .before .checked .given .1)
+returns c = let a = c .before .before .before .before .before .before .before .before .args in not-tree (a .axes) (now (a .key)) (now (a .own)) (now (a .begin)) (now (a .total)) (a .u-places) (a .v-places) _ (sym (c .before .before .before .check-tree .ensures) ∙ c .before .checked .given .1)
 
 enum-told : tie.Need-enum-told
 enum-told c = search needs
 
 returns-2 : tie.Need-returns-2
-returns-2 c = let a = c .before .before .before .before .before .before .before .args in short-u (a .axes) (now (a .key)) (now (a .own)) (now (a .begin)) (a .u-places) (a .v-places) (sym (c .before .before .before .check-tree .ensures) ∙ c .before .enum-told .given .1) (c .if1 .taken)
+returns-2 c = let a = c .before .before .before .before .before .before .before .before .args in short-u (a .axes) (now (a .key)) (now (a .own)) (now (a .begin)) (now (a .total)) (a .u-places) (a .v-places) (sym (c .before .before .before .check-tree .ensures) ∙ c .before .enum-told .given .1) (c .if1 .taken)
 
 returns-3 : tie.Need-returns-3
-returns-3 c = let a = c .before .before .before .before .before .before .before .before .args in short-v (a .axes) (now (a .key)) (now (a .own)) (now (a .begin)) (a .u-places) (a .v-places) (sym (c .before .before .before .before .check-tree .ensures) ∙ c .before .before .enum-told .given .1) (c .before .if1 .left) (c .if2 .taken)
+returns-3 c = let a = c .before .before .before .before .before .before .before .before .before .args in short-v (a .axes) (now (a .key)) (now (a .own)) (now (a .begin)) (now (a .total)) (a .u-places) (a .v-places) (sym (c .before .before .before .before .check-tree .ensures) ∙ c .before .before .enum-told .given .1) (c .before .if1 .left) (c .if2 .taken)
 
 returns-4 : tie.Need-returns-4
-returns-4 c = let a = c .before .before .before .before .before .before .before .before .args in both-have (a .axes) (now (a .key)) (now (a .own)) (now (a .begin)) (a .u-places) (a .v-places) (sym (c .before .before .before .before .check-tree .ensures) ∙ c .before .before .enum-told .given .1) (c .before .if1 .left) (c .if2 .left)
+returns-4 c = let a = c .before .before .before .before .before .before .before .before .before .args in both-have (a .axes) (now (a .key)) (now (a .own)) (now (a .begin)) (now (a .total)) (a .u-places) (a .v-places) (sym (c .before .before .before .before .check-tree .ensures) ∙ c .before .before .enum-told .given .1) (c .before .if1 .left) (c .if2 .left)
 
 pub starts-outcome-spec : {M : Type 1} → statement M
 starts-outcome-spec =

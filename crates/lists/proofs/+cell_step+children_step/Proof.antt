@@ -3,10 +3,11 @@ use Rattle.morton.proofs.Checks.{axes-known}
 use borrow.Author.Needs.{needs}
 use Prim.Native.Nat.{ℕ, _+_, _*_, _-_, _<_}
 use mathlib.Core.Path.{sym, _∙_}
+use mathlib.Core.Bool.{false}
 use native.Mathlib.Omega.{arith}
 use borrow.Author.Tests.{not-true}
 use Rattle.sourced.proofs.Below.{tree-ascends, tree-valid, tree-level, left-below, fewer-left}
-use Rattle.lists.proofs.Tests.{node-valid, mem-valid}
+use Rattle.lists.proofs.Tests.{node-valid, mem-valid, leads-close}
 use Rattle.lists.proofs.Split.{cell-stops, cell-all, kids-none, kids-more}
 use borrow.Fn.Kinds.{In}
 use borrow.Fn.PlainCycle.{Measures, is, falls, and}
@@ -16,17 +17,17 @@ use Rattle.lists.proofs.+cell_step+children_step.Lts-cell_step as cell-
 use Rattle.lists.proofs.children_step.Reads as children-step
 use Rattle.lists.proofs.children_step.Kinds as children-step-kinds
 use Rattle.lists.proofs.+cell_step+children_step.Lts-children_step as children-step-lts
-use Rattle.lists.proofs.leads_on.Reads as leads-on-reads
+use Rattle.lists.proofs.is_close.Reads as is-close-reads
 use Rattle.lists.proofs.put_taken.Reads as put-taken-reads
 use Rattle.tree.proofs.children_of.Reads as children-of-reads
 use Rattle.lists.proofs.+cell_step+children_step.{statement}
 use Rattle.lists.proofs.+cell_step+children_step.Tie.{close}
 
 abbrev μ-cell-step : Measures 3 cell-step-kinds.ps ℕ
-μ-cell-step κs a = a .1 .1 .1 .1 .1 .1 .0 * 36893488147419103232
+μ-cell-step κs a = a .1 .1 .1 .1 .1 .0 * 36893488147419103232
 
 abbrev μ-children-step : Measures 3 children-step-kinds.ps ℕ
-μ-children-step κs a = a .1 .1 .1 .1 .1 .1 .1 .0 * 36893488147419103232 + (a .1 .1 .1 .1 .1 .1 .0 - a .1 .1 .1 .1 .1 .0) + 1
+μ-children-step κs a = a .1 .1 .1 .1 .1 .1 .0 * 36893488147419103232 + (a .1 .1 .1 .1 .1 .0 - a .1 .1 .1 .1 .0) + 1
 
 abbrev cell-step-at : ℕ → In 3 cell-step-kinds.ps
 cell-step-at t = and 3 cell-step-kinds.ps (is 3 cell-step-kinds.ps μ-cell-step t) cell-step.Pre
@@ -50,7 +51,7 @@ children-step-below t =
 -- what each call asks and tells
 abbrev cell-calls : ℕ → cell-step-lts.Claims
 cell-calls t =
-    (put-taken-reads.Asked, put-taken-reads.Learnt, leads-on-reads.Asked, leads-on-reads.Learnt, children-of-reads.Asked, children-of-reads.Learnt, children-step-below t, children-step.Post)
+    (put-taken-reads.Asked, put-taken-reads.Learnt, is-close-reads.Asked, is-close-reads.Learnt, children-of-reads.Asked, children-of-reads.Learnt, children-step-below t, children-step.Post)
 
 abbrev children-calls : ℕ → children-step-lts.Claims
 children-calls t = (cell-step-below t, cell-step.Post, children-step-below t, children-step.Post)
@@ -58,20 +59,20 @@ children-calls t = (cell-step-below t, cell-step.Post, children-step-below t, ch
 cell-step-put-taken-requires : (t : ℕ) → cell-step-lts.Need-put-taken-requires (cell-calls t) (cell-step-at t) cell-step.Post
 cell-step-put-taken-requires t c κs = let s = c .before .before .before .before in (s .pre .1 .0, s .pre .1 .1, s .pre .1 .2)
 
-cell-step-mul-leads-on : (t : ℕ) → cell-step-lts.Need-mul-leads-on (cell-calls t) (cell-step-at t) cell-step.Post
-cell-step-mul-leads-on t c = search needs
+cell-step-mul-is-close : (t : ℕ) → cell-step-lts.Need-mul-is-close (cell-calls t) (cell-step-at t) cell-step.Post
+cell-step-mul-is-close t c = search needs
 
-cell-step-shared-slice-read-leads-on : (t : ℕ) → cell-step-lts.Need-shared-slice-read-leads-on (cell-calls t) (cell-step-at t) cell-step.Post
-cell-step-shared-slice-read-leads-on t c = search needs
+cell-step-shared-slice-read-is-close : (t : ℕ) → cell-step-lts.Need-shared-slice-read-is-close (cell-calls t) (cell-step-at t) cell-step.Post
+cell-step-shared-slice-read-is-close t c = search needs
 
-cell-step-leads-on-requires : (t : ℕ) → cell-step-lts.Need-leads-on-requires (cell-calls t) (cell-step-at t) cell-step.Post
-cell-step-leads-on-requires t c κs = let s = c .before .before .before .before .before .before .before .before in (mem-valid _ _ _ (s .pre .1 .0) _ (s .pre .1 .1), node-valid _ _ _ (s .pre .1 .0) _ (s .pre .1 .2))
+cell-step-is-close-requires : (t : ℕ) → cell-step-lts.Need-is-close-requires (cell-calls t) (cell-step-at t) cell-step.Post
+cell-step-is-close-requires t c κs = let s = c .before .before .before .before .before .before .before .before in (mem-valid _ _ _ (s .pre .1 .0) _ (s .pre .1 .1), node-valid _ _ _ (s .pre .1 .0) _ (s .pre .1 .2))
 
 cell-step-same-length : (t : ℕ) → cell-step-lts.Need-same-length (cell-calls t) (cell-step-at t) cell-step.Post
 cell-step-same-length t c = search needs
 
 cell-step-returns : (t : ℕ) → cell-step-lts.Need-returns (cell-calls t) (cell-step-at t) cell-step.Post
-cell-step-returns t c = let s = c .before .before .before .before .before .before .before .before .before .before in cell-stops _ _ _ (s .pre .1 .0) (s .args .far) (s .args .b) _ (s .pre .1 .2) _ _ (sym (c .before .leads-on .ensures) ∙ not-true _ (c .if1 .taken)) _ _ (c .before .before .before .before .before .put-taken .ensures)
+cell-step-returns t c = let s = c .before .before .before .before .before .before .before .before .before .before in cell-stops _ _ _ (s .pre .1 .0) false (s .args .b) _ (s .pre .1 .2) _ _ (leads-close _ _ _ ∙ sym (c .before .is-close .ensures) ∙ not-true _ (c .if1 .taken)) _ _ (c .before .before .before .before .before .put-taken .ensures)
 
 cell-step-mul-children-of : (t : ℕ) → cell-step-lts.Need-mul-children-of (cell-calls t) (cell-step-at t) cell-step.Post
 cell-step-mul-children-of t c = search needs
@@ -98,10 +99,10 @@ cell-step-same-length-2 : (t : ℕ) → cell-step-lts.Need-same-length-2 (cell-c
 cell-step-same-length-2 t c = search needs
 
 cell-step-returns-2 : (t : ℕ) → cell-step-lts.Need-returns-2 (cell-calls t) (cell-step-at t) cell-step.Post
-cell-step-returns-2 t c = let s = c .before .before .before .before .before .before .before .before .before .before .before .before .before .before .before .before in cell-all _ _ _ (s .pre .1 .0) (s .args .far) (s .args .b) _ (s .pre .1 .2) _ _ _ _ (c .before .before .before .before .children-of .ensures) _ _ _ _ (c .before .before .before .before .before .before .before .before .before .before .before .put-taken .ensures) (c .before .before .children-step .ensures)
+cell-step-returns-2 t c = let s = c .before .before .before .before .before .before .before .before .before .before .before .before .before .before .before .before in cell-all _ _ _ (s .pre .1 .0) false (s .args .b) _ (s .pre .1 .2) _ _ _ _ (c .before .before .before .before .children-of .ensures) _ _ _ _ (c .before .before .before .before .before .before .before .before .before .before .before .put-taken .ensures) (c .before .before .children-step .ensures)
 
 children-step-returns : (t : ℕ) → children-step-lts.Need-returns (children-calls t) (children-step-at t) children-step.Post
-children-step-returns t c = let s = c .before .before .before .before in kids-none _ _ _ (s .pre .1 .0) (s .args .far) (s .args .b) _ _ _ (s .pre .1 .2) (s .pre .1 .3) _ _ (c .if1 .taken)
+children-step-returns t c = let s = c .before .before .before .before in kids-none _ _ _ (s .pre .1 .0) false (s .args .b) _ _ _ (s .pre .1 .2) (s .pre .1 .3) _ _ (c .if1 .taken)
 
 children-step-cell-step-requires : (t : ℕ) → children-step-lts.Need-cell-step-requires (children-calls t) (children-step-at t) children-step.Post
 children-step-cell-step-requires t c κs = let s = c .before .before .before .before .before in (omega (arith, s .pre .0, c .before .if1 .left), (s .pre .1 .0, s .pre .1 .1, omega (arith, s .pre .1 .2, c .before .if1 .left), s .pre .1 .3 _ (omega arith) (c .before .if1 .left)))
@@ -116,16 +117,16 @@ children-step-same-length : (t : ℕ) → children-step-lts.Need-same-length (ch
 children-step-same-length t c = search needs
 
 children-step-returns-2 : (t : ℕ) → children-step-lts.Need-returns-2 (children-calls t) (children-step-at t) children-step.Post
-children-step-returns-2 t c = let s = c .before .before .before .before .before .before .before .before .before .before .before .before in kids-more _ _ _ (s .pre .1 .0) (s .args .far) (s .args .b) _ _ _ (s .pre .1 .2) (s .pre .1 .3) _ _ (c .before .before .before .before .before .before .before .before .if1 .left) _ _ _ _ (c .before .before .before .before .before .before .cell-step .ensures) (c .before .before .children-step .ensures)
+children-step-returns-2 t c = let s = c .before .before .before .before .before .before .before .before .before .before .before .before in kids-more _ _ _ (s .pre .1 .0) false (s .args .b) _ _ _ (s .pre .1 .2) (s .pre .1 .3) _ _ (c .before .before .before .before .before .before .before .before .if1 .left) _ _ _ _ (c .before .before .before .before .before .before .cell-step .ensures) (c .before .before .children-step .ensures)
 
 pub +cell-step+children-step-spec : {M : Type 1} → statement M
 +cell-step+children-step-spec = close μ-cell-step μ-children-step (λ t. cell-step-lts.spec (cell-calls t)
     (cell-step-at t)
     cell-step.Post
     (cell-step-put-taken-requires t)
-    (cell-step-mul-leads-on t)
-    (cell-step-shared-slice-read-leads-on t)
-    (cell-step-leads-on-requires t)
+    (cell-step-mul-is-close t)
+    (cell-step-shared-slice-read-is-close t)
+    (cell-step-is-close-requires t)
     (cell-step-same-length t)
     (cell-step-returns t)
     (cell-step-mul-children-of t)

@@ -1,11 +1,12 @@
 -- `lists::is_near` meets its contract.
 use Rattle.morton.proofs.Checks.{axes-known}
 use borrow.Author.Needs.{needs}
-use mathlib.Core.Path.{sym, _∙_}
+use mathlib.Core.Path.{refl, sym, _∙_}
+use native.Mathlib.Omega.{arith}
 use denote.Ref.{now}
 use borrow.Author.Tests.{not-true, not-false}
-use Rattle.sourced.proofs.Below.{tree-ascends}
-use Rattle.lists.proofs.Tests.{node-valid, mem-valid, near-close, near-leaf, near-all}
+use Rattle.sourced.proofs.Below.{tree-ascends, own-length}
+use Rattle.lists.proofs.Tests.{node-valid, mem-valid, near-close, near-leaf, near-own}
 use Rattle.lists.proofs.is_near.Statement.{statement}
 use Rattle.lists.proofs.is_near.Tie as tie
 
@@ -27,12 +28,15 @@ is-leaf-requires c κs = let s = c .before .before .before .before .before in (a
 returns-2 : tie.Need-returns-2
 returns-2 c = let a = c .before .before .before .before .before .before .before .args in near-leaf (a .axes) (now (a .key)) (now (a .own)) (a .b) _ (sym (c .before .is-leaf .ensures) ∙ not-true _ (c .if2 .taken))
 
-is-sourced-requires : tie.Need-is-sourced-requires
-is-sourced-requires c κs = search needs
+mul-result : tie.Need-mul-result
+mul-result c = search needs
+
+shared-slice-read-result : tie.Need-shared-slice-read-result
+shared-slice-read-result c = omega (arith, c .before .before .before .before .before .before .before .before .pre .2, own-length _ _ _ (c .before .before .before .before .before .before .before .before .pre .0))
 
 returns-3 : tie.Need-returns-3
-returns-3 c = let a = c .before .before .before .before .before .before .before .before .args in c .is-sourced .ensures ∙ near-all (a .axes) (now (a .key)) (now (a .own)) (a .b) _ (sym (c .before .before .before .before .is-close .ensures) ∙ not-false _ (c .before .before .before .if1 .left)) (sym (c .before .before .is-leaf .ensures) ∙ not-false _ (c .before .if2 .left))
+returns-3 c = near-own _ _ _ _ _ (c .before .before .before .before .before .before .before .before .pre .0) _ (c .before .before .before .before .before .before .before .before .pre .2) refl (sym (c .before .before .before .before .is-close .ensures) ∙ not-false _ (c .before .before .before .if1 .left)) (sym (c .before .before .is-leaf .ensures) ∙ not-false _ (c .before .if2 .left))
 
 pub is-near-spec : {M : Type 1} → statement M
 is-near-spec =
-    tie.close (tie.spec mul-is-close shared-slice-read-is-close is-close-requires returns is-leaf-requires returns-2 is-sourced-requires returns-3)
+    tie.close (tie.spec mul-is-close shared-slice-read-is-close is-close-requires returns is-leaf-requires returns-2 mul-result shared-slice-read-result returns-3)

@@ -2,6 +2,7 @@
 use Rattle.morton.proofs.Checks.{axes-known}
 use borrow.Author.Needs.{needs}
 use mathlib.Core.Path.{refl, sym, ap, _∙_}
+use mathlib.Core.Bool.{false}
 use denote.Ref.{now}
 use borrow.Author.Tests.{not-true, not-false}
 use Prim.Native.Nat.{_+_}
@@ -12,11 +13,11 @@ use Rattle.lists.proofs.Rows.{row-none, row-put, root-at}
 use Rattle.lists.proofs.put_row.Statement.{statement}
 use Rattle.lists.proofs.put_row.Tie as tie
 
-has-row-requires : tie.Need-has-row-requires
-has-row-requires c κs = let s = c .before .before .before in (axes-known _ (s .pre .0 .some) (s .pre .0 .most), tree-ascends _ _ _ (s .pre .0), s .pre .1)
+is-leaf-requires : tie.Need-is-leaf-requires
+is-leaf-requires c κs = let s = c .before .before .before in (axes-known _ (s .pre .0 .some) (s .pre .0 .most), tree-ascends _ _ _ (s .pre .0), s .pre .1)
 
 returns : tie.Need-returns
-returns c = let a = c .before .before .before .before .before .args in row-none (a .axes) (now (a .key)) (now (a .own)) (a .far) _ (sym (c .before .has-row .ensures) ∙ not-true _ (c .if1 .taken)) _ _
+returns c = let a = c .before .before .before .before .before .args in row-none (a .axes) (now (a .key)) (now (a .own)) false _ (sym (c .before .is-leaf .ensures) ∙ not-true _ (c .if1 .taken)) _ _
 
 mul-cell-step : tie.Need-mul-cell-step
 mul-cell-step c = search needs
@@ -31,8 +32,8 @@ same-length : tie.Need-same-length
 same-length c = search needs
 
 returns-2 : tie.Need-returns-2
-returns-2 c = let s = c .before .before .before .before .before .before .before .before .before .before in let a = s .args in row-put (a .axes) (now (a .key)) (now (a .own)) (a .far) _ (sym (c .before .before .before .before .before .before .has-row .ensures) ∙ not-false _ (c .before .before .before .before .before .if1 .left)) _ _ _ _ (root-all _ _ _ (s .pre .0) (a .far) _ 0 (root-at _ _ _ (s .pre .0) .0) _ _ refl _ _ (c .before .before .cell-step .ensures))
+returns-2 c = let s = c .before .before .before .before .before .before .before .before .before .before in let a = s .args in row-put (a .axes) (now (a .key)) (now (a .own)) false _ (sym (c .before .before .before .before .before .before .is-leaf .ensures) ∙ not-false _ (c .before .before .before .before .before .if1 .left)) _ _ _ _ (root-all _ _ _ (s .pre .0) false _ 0 (root-at _ _ _ (s .pre .0) .0) _ _ refl _ _ (c .before .before .cell-step .ensures))
 
 pub put-row-spec : {M : Type 1} → statement M
 put-row-spec =
-    tie.close (tie.spec has-row-requires returns mul-cell-step shared-slice-read-cell-step cell-step-requires same-length returns-2)
+    tie.close (tie.spec is-leaf-requires returns mul-cell-step shared-slice-read-cell-step cell-step-requires same-length returns-2)

@@ -1,5 +1,6 @@
 -- `lists::write_list` meets its contract.
 use borrow.Author.Needs.{needs}
+use mathlib.Core.Bool.{false}
 use mathlib.Core.Path.{sym, _∙_}
 use denote.Ref.{now}
 use lib.ListN.{drop}
@@ -28,7 +29,7 @@ same-length-2 : tie.Need-same-length-2
 same-length-2 c = search needs
 
 returns : tie.Need-returns
-returns c = let a = c .before .before .before .before .before .before .before .before .before .before .before .before .before .args in let size = c .before .before .before .before .before .write-rows .kept .1 .1 .1 .1 .1 .0 ∙ length-take-le _ _ (cap-le _ _ (c .before .before .before .before .before .before .before .before .room-of .ensures)) in list-short (listRow (a .axes) (now (a .key)) (now (a .own)) (a .far)) (now (a .key)) _ (c .before .before .before .before .before .write-rows .last .1 .1 .1 .1 .1 .0) _ _ _ _ (c .before .before .before .before .before .write-rows .ensures) size (c .before .before .before .before .before .before .before .before .room-of .ensures) (c .if1 .taken) _
+returns c = let a = c .before .before .before .before .before .before .before .before .before .before .before .before .before .args in let size = c .before .before .before .before .before .write-rows .kept .1 .1 .1 .1 .0 ∙ length-take-le _ _ (cap-le _ _ (c .before .before .before .before .before .before .before .before .room-of .ensures)) in list-short (listRow (a .axes) (now (a .key)) (now (a .own)) false) (now (a .key)) _ (c .before .before .before .before .before .write-rows .last .1 .1 .1 .1 .0) _ _ _ _ (c .before .before .before .before .before .write-rows .ensures) size (c .before .before .before .before .before .before .before .before .room-of .ensures) (c .if1 .taken) _
 
 clear-from-requires : tie.Need-clear-from-requires
 clear-from-requires c κs = search needs
@@ -46,7 +47,7 @@ same-length-4 : tie.Need-same-length-4
 same-length-4 c = search needs
 
 returns-2 : tie.Need-returns-2
-returns-2 c = let a = c .before .before .before .before .before .before .before .before .before .before .before .before .before .before .before .before .before .before .before .before .before .args in let size = c .before .before .before .before .before .before .before .before .before .before .before .before .before .write-rows .kept .1 .1 .1 .1 .1 .0 ∙ length-take-le _ _ (cap-le _ _ (c .before .before .before .before .before .before .before .before .before .before .before .before .before .before .before .before .room-of .ensures)) in list-all (listRow (a .axes) (now (a .key)) (now (a .own)) (a .far)) (now (a .key)) (c .before .before .before .before .before .before .before .before .before .before .before .before .before .write-rows .last .1 .1 .1 .1 .0) (c .before .before .before .before .before .before .before .before .before .before .before .before .before .write-rows .last .1 .1 .1 .1 .1 .0) _ _ _ _ (c .before .before .before .before .before .before .before .before .before .before .before .before .before .write-rows .ensures) size (c .before .before .before .before .before .before .before .before .before .before .before .before .before .before .before .before .room-of .ensures) (c .before .before .before .before .before .before .before .before .if1 .left) (drop (c .before .before .before .before .before .before .before .before .before .before .before .before .before .before .before .before .room-of .result) (now (a .out))) _ _ (rest-length _ (now (a .out)) (cap-le _ _ (c .before .before .before .before .before .before .before .before .before .before .before .before .before .before .before .before .room-of .ensures))) (c .before .before .before .before .before .before .before .before .before .before .before .before .before .write-rows .kept .1 .1 .1 .1 .0) (c .before .before .before .before .before .before .clear-from .ensures) (c .before .before .clear-from-usize .ensures)
+returns-2 c = let a = c .before .before .before .before .before .before .before .before .before .before .before .before .before .before .before .before .before .before .before .before .before .args in let size = c .before .before .before .before .before .before .before .before .before .before .before .before .before .write-rows .kept .1 .1 .1 .1 .0 ∙ length-take-le _ _ (cap-le _ _ (c .before .before .before .before .before .before .before .before .before .before .before .before .before .before .before .before .room-of .ensures)) in list-all (listRow (a .axes) (now (a .key)) (now (a .own)) false) (now (a .key)) (c .before .before .before .before .before .before .before .before .before .before .before .before .before .write-rows .last .1 .1 .1 .0) (c .before .before .before .before .before .before .before .before .before .before .before .before .before .write-rows .last .1 .1 .1 .1 .0) _ _ _ _ (c .before .before .before .before .before .before .before .before .before .before .before .before .before .write-rows .ensures) size (c .before .before .before .before .before .before .before .before .before .before .before .before .before .before .before .before .room-of .ensures) (c .before .before .before .before .before .before .before .before .if1 .left) (drop (c .before .before .before .before .before .before .before .before .before .before .before .before .before .before .before .before .room-of .result) (now (a .out))) _ _ (rest-length _ (now (a .out)) (cap-le _ _ (c .before .before .before .before .before .before .before .before .before .before .before .before .before .before .before .before .room-of .ensures))) (c .before .before .before .before .before .before .before .before .before .before .before .before .before .write-rows .kept .1 .1 .1 .0) (c .before .before .before .before .before .before .clear-from .ensures) (c .before .before .clear-from-usize .ensures)
 
 pub write-list-spec : {M : Type 1} → statement M
 write-list-spec =

@@ -6,7 +6,7 @@ use Rattle.space.specs.Cells.{frameOf}
 use Rattle.space.proofs.Refusals.{fine}
 use Rattle.space.proofs.Points.{code-small}
 use Rattle.morton.proofs.Checks.{axes-known}
-use Rattle.tree.proofs.Verdict.{keys-of}
+use Rattle.tree.proofs.Verdict.{rule-keys}
 use Rattle.lookup.proofs.Steps.{with-steps}
 use Rattle.lookup.proofs.Single.{tree-stops, tree-fine, cell-code, single-in, single-out}
 use borrow.Author.Needs.{needs}
@@ -25,7 +25,7 @@ enum-known-outcome : tie.Need-enum-known-outcome
 enum-known-outcome c = search needs
 
 returns : tie.Need-returns
-returns c = let a = c .before .before .before .before .before .before .before .args in with-steps (a .b) (now (a .key)) (now (a .own)) (now (a .begin)) (a .point) _ (tree-stops (a .b) (now (a .key)) (now (a .own)) (now (a .begin)) (a .point) _ (sym (c .before .before .before .tree-outcome .ensures) ∙ c .before .outcome .given .1))
+returns c = let a = c .before .before .before .before .before .before .before .before .args in with-steps (a .b) (now (a .key)) (now (a .own)) (now (a .begin)) (now (a .total)) (a .point) _ (tree-stops (a .b) (now (a .key)) (now (a .own)) (now (a .begin)) (now (a .total)) (a .point) _ (sym (c .before .before .before .tree-outcome .ensures) ∙ c .before .outcome .given .1))
 
 enum-told : tie.Need-enum-told
 enum-told c = search needs
@@ -37,16 +37,16 @@ enum-known-deepest : tie.Need-enum-known-deepest
 enum-known-deepest c = search needs
 
 code-to-leaf-requires : tie.Need-code-to-leaf-requires
-code-to-leaf-requires c κs = let a = c .before .before .before .before .before .before .before .before .before .before .args in let e = sym (c .before .before .before .before .before .before .tree-outcome .ensures) ∙ c .before .before .before .before .enum-told .given .1 in let t = tree-fine (a .b) (now (a .key)) (now (a .own)) (now (a .begin)) (a .point) e in let f = fine (a .b) (t .0) in let k = cell-code (a .b) (now (a .key)) (now (a .own)) (now (a .begin)) (a .point) e (c .before .before .before .point-to-key .result) (c .before .before .before .point-to-key .ensures) _ (c .before .deepest .given .1) in (axes-known (a .b .axes) (f .least) (f .most), keys-of (a .b .axes) (now (a .key)) (now (a .own)) (now (a .begin)) (t .1), omega (arith, k .1, code-small (frameOf (a .b)) (a .point) (f .most)))
+code-to-leaf-requires c κs = let a = c .before .before .before .before .before .before .before .before .before .before .before .args in let e = sym (c .before .before .before .before .before .before .tree-outcome .ensures) ∙ c .before .before .before .before .enum-told .given .1 in let t = tree-fine (a .b) (now (a .key)) (now (a .own)) (now (a .begin)) (now (a .total)) (a .point) e in let f = fine (a .b) (t .0) in let k = cell-code (a .b) (now (a .key)) (now (a .own)) (now (a .begin)) (now (a .total)) (a .point) e (c .before .before .before .point-to-key .result) (c .before .before .before .point-to-key .ensures) _ (c .before .deepest .given .1) in (axes-known (a .b .axes) (f .least) (f .most), rule-keys (a .b .axes) (now (a .key)) (now (a .own)) (now (a .begin)) (now (a .total)) (t .1), omega (arith, k .1, code-small (frameOf (a .b)) (a .point) (f .most)))
 
 enum-known-deepest-2 : tie.Need-enum-known-deepest-2
 enum-known-deepest-2 c = search needs
 
 returns-2 : tie.Need-returns-2
-returns-2 c = let a = c .before .before .before .before .before .before .before .before .before .before .before .args in let e = sym (c .before .before .before .before .before .before .before .tree-outcome .ensures) ∙ c .before .before .before .before .before .enum-told .given .1 in with-steps (a .b) (now (a .key)) (now (a .own)) (now (a .begin)) (a .point) _ (c .code-to-leaf .ensures ∙ single-in (a .b) (now (a .key)) (now (a .own)) (now (a .begin)) (a .point) e (c .before .before .before .before .point-to-key .result) (c .before .before .before .before .point-to-key .ensures) _ (c .before .before .deepest .given .1))
+returns-2 c = let a = c .before .before .before .before .before .before .before .before .before .before .before .before .args in let e = sym (c .before .before .before .before .before .before .before .tree-outcome .ensures) ∙ c .before .before .before .before .before .enum-told .given .1 in with-steps (a .b) (now (a .key)) (now (a .own)) (now (a .begin)) (now (a .total)) (a .point) _ (c .code-to-leaf .ensures ∙ single-in (a .b) (now (a .key)) (now (a .own)) (now (a .begin)) (now (a .total)) (a .point) e (c .before .before .before .before .point-to-key .result) (c .before .before .before .before .point-to-key .ensures) _ (c .before .before .deepest .given .1))
 
 returns-3 : tie.Need-returns-3
-returns-3 c = let a = c .before .before .before .before .before .before .before .before .before .before .args in let e = sym (c .before .before .before .before .before .before .tree-outcome .ensures) ∙ c .before .before .before .before .enum-told .given .1 in with-steps (a .b) (now (a .key)) (now (a .own)) (now (a .begin)) (a .point) _ (single-out (a .b) (now (a .key)) (now (a .own)) (now (a .begin)) (a .point) e (c .before .before .before .point-to-key .result) (c .before .before .before .point-to-key .ensures) _ (c .before .deepest2 .given .1))
+returns-3 c = let a = c .before .before .before .before .before .before .before .before .before .before .before .args in let e = sym (c .before .before .before .before .before .before .tree-outcome .ensures) ∙ c .before .before .before .before .enum-told .given .1 in with-steps (a .b) (now (a .key)) (now (a .own)) (now (a .begin)) (now (a .total)) (a .point) _ (single-out (a .b) (now (a .key)) (now (a .own)) (now (a .begin)) (now (a .total)) (a .point) e (c .before .before .before .point-to-key .result) (c .before .before .before .point-to-key .ensures) _ (c .before .deepest2 .given .1))
 
 pub point-to-leaf-spec : {M : Type 1} → statement M
 point-to-leaf-spec =

@@ -28,16 +28,16 @@ same-length : tie.Need-same-length
 same-length c = search needs
 
 returns : tie.Need-returns
-returns c = let a = c .before .before .before .before .before .before .before .before .before .before .before .before .before .args in let e = sym (c .before .before .before .before .before .before .before .call-outcome .ensures) ∙ c .before .before .before .before .before .outcome .given .1 in both-steps (a .b) (now (a .key)) (now (a .own)) (now (a .begin)) (now (a .points)) (length (now (a .output))) _ (early-answer (a .b) (now (a .key)) (now (a .own)) (now (a .begin)) (now (a .points)) (length (now (a .output))) _ e) (early-output (a .b) (now (a .key)) (now (a .own)) (now (a .begin)) (now (a .points)) (length (now (a .output))) _ e _ (c .before .before .clear .ensures))
+returns c = let a = c .before .before .before .before .before .before .before .before .before .before .before .before .before .before .args in let e = sym (c .before .before .before .before .before .before .before .call-outcome .ensures) ∙ c .before .before .before .before .before .outcome .given .1 in both-steps (a .b) (now (a .key)) (now (a .own)) (now (a .begin)) (now (a .total)) (now (a .points)) (length (now (a .output))) _ (early-answer (a .b) (now (a .key)) (now (a .own)) (now (a .begin)) (now (a .total)) (now (a .points)) (length (now (a .output))) _ e) (early-output (a .b) (now (a .key)) (now (a .own)) (now (a .begin)) (now (a .total)) (now (a .points)) (length (now (a .output))) _ e _ (c .before .before .clear .ensures))
 
 enum-told : tie.Need-enum-told
 enum-told c = search needs
 
 div-rows : tie.Need-div-rows
-div-rows c = let a = c .before .before .before .before .before .before .before .before .args in omega (arith, checked (a .b) (now (a .key)) (now (a .own)) (now (a .begin)) (now (a .points)) (length (now (a .output))) (sym (c .before .before .call-outcome .ensures) ∙ c .enum-told .given .1) .box .least)
+div-rows c = let a = c .before .before .before .before .before .before .before .before .before .args in omega (arith, checked (a .b) (now (a .key)) (now (a .own)) (now (a .begin)) (now (a .total)) (now (a .points)) (length (now (a .output))) (sym (c .before .before .call-outcome .ensures) ∙ c .enum-told .given .1) .box .least)
 
 look-up-requires : tie.Need-look-up-requires
-look-up-requires c κs = let a = c .before .before .before .before .before .before .before .before .before .args in let k = checked (a .b) (now (a .key)) (now (a .own)) (now (a .begin)) (now (a .points)) (length (now (a .output))) (sym (c .before .before .before .call-outcome .ensures) ∙ c .before .enum-told .given .1) in (k .box .least, k .box .most, k .owned, k .fits, k .few)
+look-up-requires c κs = let a = c .before .before .before .before .before .before .before .before .before .before .args in let k = checked (a .b) (now (a .key)) (now (a .own)) (now (a .begin)) (now (a .total)) (now (a .points)) (length (now (a .output))) (sym (c .before .before .before .call-outcome .ensures) ∙ c .before .enum-told .given .1) in (k .box .least, k .box .most, k .owned, k .fits, k .few)
 
 enum-known-found : tie.Need-enum-known-found
 enum-known-found c = search needs
@@ -55,13 +55,13 @@ same-length-2 : tie.Need-same-length-2
 same-length-2 c = search needs
 
 returns-2 : tie.Need-returns-2
-returns-2 c = let a = c .before .before .before .before .before .before .before .before .before .before .before .before .before .before .before .before .before .before .before .args in both-steps (a .b) (now (a .key)) (now (a .own)) (now (a .begin)) (now (a .points)) (length (now (a .output))) _ (found-answer (a .b) (now (a .key)) (now (a .own)) (now (a .begin)) (now (a .points)) (length (now (a .output))) (sym (c .before .before .before .before .before .before .before .before .before .before .before .before .before .call-outcome .ensures) ∙ c .before .before .before .before .before .before .before .before .before .before .before .enum-told .given .1) (c .before .before .before .before .before .before .before .before .before .look-up .result) (c .before .before .before .before .before .before .before .before .before .look-up .ensures .0) _ (c .before .before .before .before .before .found .given .1)) (found-output (a .b) (now (a .key)) (now (a .own)) (now (a .begin)) (now (a .points)) (length (now (a .output))) (sym (c .before .before .before .before .before .before .before .before .before .before .before .before .before .call-outcome .ensures) ∙ c .before .before .before .before .before .before .before .before .before .before .before .enum-told .given .1) (c .before .before .before .before .before .before .before .before .before .look-up .result) (c .before .before .before .before .before .before .before .before .before .look-up .ensures .0) _ (c .before .before .before .before .before .found .given .1) (now (a .output)) _ _ (c .before .before .before .before .before .before .before .before .before .look-up .ensures .1 .0) (c .before .before .before .before .before .before .before .before .before .look-up .ensures .1 .1) (c .before .before .clear-from .ensures))
+returns-2 c = let a = c .before .before .before .before .before .before .before .before .before .before .before .before .before .before .before .before .before .before .before .before .args in both-steps (a .b) (now (a .key)) (now (a .own)) (now (a .begin)) (now (a .total)) (now (a .points)) (length (now (a .output))) _ (found-answer (a .b) (now (a .key)) (now (a .own)) (now (a .begin)) (now (a .total)) (now (a .points)) (length (now (a .output))) (sym (c .before .before .before .before .before .before .before .before .before .before .before .before .before .call-outcome .ensures) ∙ c .before .before .before .before .before .before .before .before .before .before .before .enum-told .given .1) (c .before .before .before .before .before .before .before .before .before .look-up .result) (c .before .before .before .before .before .before .before .before .before .look-up .ensures .0) _ (c .before .before .before .before .before .found .given .1)) (found-output (a .b) (now (a .key)) (now (a .own)) (now (a .begin)) (now (a .total)) (now (a .points)) (length (now (a .output))) (sym (c .before .before .before .before .before .before .before .before .before .before .before .before .before .call-outcome .ensures) ∙ c .before .before .before .before .before .before .before .before .before .before .before .enum-told .given .1) (c .before .before .before .before .before .before .before .before .before .look-up .result) (c .before .before .before .before .before .before .before .before .before .look-up .ensures .0) _ (c .before .before .before .before .before .found .given .1) (now (a .output)) _ _ (c .before .before .before .before .before .before .before .before .before .look-up .ensures .1 .0) (c .before .before .before .before .before .before .before .before .before .look-up .ensures .1 .1) (c .before .before .clear-from .ensures))
 
 same-length-3 : tie.Need-same-length-3
 same-length-3 c = search needs
 
 returns-3 : tie.Need-returns-3
-returns-3 c = let a = c .before .before .before .before .before .before .before .before .before .before .before .before .before .before .before .before .before .before .before .args in both-steps (a .b) (now (a .key)) (now (a .own)) (now (a .begin)) (now (a .points)) (length (now (a .output))) _ (late-answer (a .b) (now (a .key)) (now (a .own)) (now (a .begin)) (now (a .points)) (length (now (a .output))) (sym (c .before .before .before .before .before .before .before .before .before .before .before .before .before .call-outcome .ensures) ∙ c .before .before .before .before .before .before .before .before .before .before .before .enum-told .given .1) (c .before .before .before .before .before .before .before .before .before .look-up .result) (c .before .before .before .before .before .before .before .before .before .look-up .ensures .0) _ (c .before .before .before .before .before .found2 .given .1)) (late-output (a .b) (now (a .key)) (now (a .own)) (now (a .begin)) (now (a .points)) (length (now (a .output))) (sym (c .before .before .before .before .before .before .before .before .before .before .before .before .before .call-outcome .ensures) ∙ c .before .before .before .before .before .before .before .before .before .before .before .enum-told .given .1) (c .before .before .before .before .before .before .before .before .before .look-up .result) (c .before .before .before .before .before .before .before .before .before .look-up .ensures .0) _ (c .before .before .before .before .before .found2 .given .1) _ _ (c .before .before .before .before .before .before .before .before .before .look-up .ensures .1 .0) (c .before .before .clear2 .ensures))
+returns-3 c = let a = c .before .before .before .before .before .before .before .before .before .before .before .before .before .before .before .before .before .before .before .before .args in both-steps (a .b) (now (a .key)) (now (a .own)) (now (a .begin)) (now (a .total)) (now (a .points)) (length (now (a .output))) _ (late-answer (a .b) (now (a .key)) (now (a .own)) (now (a .begin)) (now (a .total)) (now (a .points)) (length (now (a .output))) (sym (c .before .before .before .before .before .before .before .before .before .before .before .before .before .call-outcome .ensures) ∙ c .before .before .before .before .before .before .before .before .before .before .before .enum-told .given .1) (c .before .before .before .before .before .before .before .before .before .look-up .result) (c .before .before .before .before .before .before .before .before .before .look-up .ensures .0) _ (c .before .before .before .before .before .found2 .given .1)) (late-output (a .b) (now (a .key)) (now (a .own)) (now (a .begin)) (now (a .total)) (now (a .points)) (length (now (a .output))) (sym (c .before .before .before .before .before .before .before .before .before .before .before .before .before .call-outcome .ensures) ∙ c .before .before .before .before .before .before .before .before .before .before .before .enum-told .given .1) (c .before .before .before .before .before .before .before .before .before .look-up .result) (c .before .before .before .before .before .before .before .before .before .look-up .ensures .0) _ (c .before .before .before .before .before .found2 .given .1) _ _ (c .before .before .before .before .before .before .before .before .before .look-up .ensures .1 .0) (c .before .before .clear2 .ensures))
 
 pub points-to-keys-spec : {M : Type 1} → statement M
 points-to-keys-spec =

@@ -16,17 +16,23 @@ returns-2 c = search needs
 returns-3 : tie.Need-returns-3
 returns-3 c = search needs
 
+returns-4 : tie.Need-returns-4
+returns-4 c = search needs
+
 slice-aggregate-points-to-keys : tie.Need-slice-aggregate-points-to-keys
-slice-aggregate-points-to-keys c = sym (length-take-le (c .before .before .before .before .before .before .before .before .args .nodes) (now (c .before .before .before .before .before .before .before .before .args .key)) (omega (arith, c .before .before .before .if1 .left)))
+slice-aggregate-points-to-keys c = sym (length-take-le (c .before .before .before .before .before .before .before .before .before .before .args .nodes) (now (c .before .before .before .before .before .before .before .before .before .before .args .key)) (omega (arith, c .before .before .before .before .if1 .left)))
 
 slice-aggregate-points-to-keys-2 : tie.Need-slice-aggregate-points-to-keys-2
-slice-aggregate-points-to-keys-2 c = sym (length-take-le (c .before .before .before .before .before .before .before .before .before .args .nodes) (now (c .before .before .before .before .before .before .before .before .before .args .own)) (omega (arith, c .before .before .before .if2 .left)))
+slice-aggregate-points-to-keys-2 c = sym (length-take-le (c .before .before .before .before .before .before .before .before .before .before .before .args .nodes) (now (c .before .before .before .before .before .before .before .before .before .before .before .args .own)) (omega (arith, c .before .before .before .before .if2 .left)))
 
 slice-aggregate-points-to-keys-3 : tie.Need-slice-aggregate-points-to-keys-3
-slice-aggregate-points-to-keys-3 c = sym (length-take-le (c .before .before .before .before .before .before .before .before .before .before .args .nodes) (now (c .before .before .before .before .before .before .before .before .before .before .args .begin)) (omega (arith, c .before .before .before .if3 .left)))
+slice-aggregate-points-to-keys-3 c = sym (length-take-le (c .before .before .before .before .before .before .before .before .before .before .before .before .args .nodes) (now (c .before .before .before .before .before .before .before .before .before .before .before .before .args .begin)) (omega (arith, c .before .before .before .before .if3 .left)))
 
 slice-aggregate-points-to-keys-4 : tie.Need-slice-aggregate-points-to-keys-4
-slice-aggregate-points-to-keys-4 c = search needs
+slice-aggregate-points-to-keys-4 c = sym (length-take-le (c .before .before .before .before .before .before .before .before .before .before .before .before .before .args .nodes) (now (c .before .before .before .before .before .before .before .before .before .before .before .before .before .args .total)) (omega (arith, c .before .before .before .before .if4 .left)))
+
+slice-aggregate-points-to-keys-5 : tie.Need-slice-aggregate-points-to-keys-5
+slice-aggregate-points-to-keys-5 c = search needs
 
 points-to-keys-requires : tie.Need-points-to-keys-requires
 points-to-keys-requires c κs = search needs
@@ -46,12 +52,12 @@ slice-aggregate-write-leaves c = search needs
 write-leaves-requires : tie.Need-write-leaves-requires
 write-leaves-requires c κs = search needs
 
-returns-4 : tie.Need-returns-4
-returns-4 c = search needs
-
 returns-5 : tie.Need-returns-5
 returns-5 c = search needs
 
+returns-6 : tie.Need-returns-6
+returns-6 c = search needs
+
 pub look-up-spec : {M : Type 1} → statement M
 look-up-spec =
-    tie.close (tie.spec returns returns-2 returns-3 slice-aggregate-points-to-keys slice-aggregate-points-to-keys-2 slice-aggregate-points-to-keys-3 slice-aggregate-points-to-keys-4 points-to-keys-requires enum-known-found write-refusal-requires enum-known-found-2 slice-aggregate-write-leaves write-leaves-requires returns-4 returns-5)
+    tie.close (tie.spec returns returns-2 returns-3 returns-4 slice-aggregate-points-to-keys slice-aggregate-points-to-keys-2 slice-aggregate-points-to-keys-3 slice-aggregate-points-to-keys-4 slice-aggregate-points-to-keys-5 points-to-keys-requires enum-known-found write-refusal-requires enum-known-found-2 slice-aggregate-write-leaves write-leaves-requires returns-5 returns-6)

@@ -33,11 +33,11 @@ same-length-2 c = search needs
 
 returns : tie.Need-returns
 returns c =
-    let a = c .before .before .before .before .before .before .before .before .before .before .before .before .before .before .before .before .before .before .before .before .before .before .before .args in
+    let a = c .before .before .before .before .before .before .before .before .before .before .before .before .before .before .before .before .before .before .before .before .before .before .before .before .args in
     let w = c .before .before .before .before .before .before .before .before .before .before .before .before .before .before .before .write-and-sum in
     let e = sym (c .before .before .before .before .before .before .before .before .before .answer .given .1) ∙ w .ensures .0 in
-    let o = told-refused (a .axes) (now (a .key)) (now (a .own)) (now (a .begin)) (length (now (a .starts))) (length (now (a .flat))) _ e in
-    (e, (left-refused _ (length (now (a .starts))) _ _ _ _ o (w .kept .1 .1 .1 .1 .0) (c .before .before .before .before .before .before .clear-usize .ensures), left-refused _ (length (now (a .flat))) _ _ _ _ o (w .kept .1 .1 .1 .1 .1 .0) (c .before .before .clear .ensures)))
+    let o = told-refused (a .axes) (now (a .key)) (now (a .own)) (now (a .begin)) (now (a .total)) (length (now (a .starts))) (length (now (a .flat))) _ e in
+    (e, (left-refused _ (length (now (a .starts))) _ _ _ _ o (w .kept .1 .1 .1 .1 .1 .0) (c .before .before .before .before .before .before .clear-usize .ensures), left-refused _ (length (now (a .flat))) _ _ _ _ o (w .kept .1 .1 .1 .1 .1 .1 .0) (c .before .before .clear .ensures)))
 
 same-length-3 : tie.Need-same-length-3
 same-length-3 c = search needs
@@ -47,11 +47,11 @@ same-length-4 c = search needs
 
 returns-2 : tie.Need-returns-2
 returns-2 c =
-    let a = c .before .before .before .before .before .before .before .before .before .before .before .before .before .before .before .args in
+    let a = c .before .before .before .before .before .before .before .before .before .before .before .before .before .before .before .before .args in
     let w = c .before .before .before .before .before .before .before .write-and-sum in
     let t : isWork (w .result) ≡ true = ap isWork (c .before .answer2 .given .1) in
     let e = sym (c .before .answer2 .given .1) ∙ w .ensures .0 in
-    let o = told-work (a .axes) (now (a .key)) (now (a .own)) (now (a .begin)) (length (now (a .starts))) (length (now (a .flat))) _ e in
+    let o = told-work (a .axes) (now (a .key)) (now (a .own)) (now (a .begin)) (now (a .total)) (length (now (a .starts))) (length (now (a .flat))) _ e in
     (e, (left-done _ (length (now (a .starts))) _ _ o (w .ensures .1 .0 t), left-done _ (length (now (a .flat))) _ _ o (w .ensures .1 .1 t)))
 
 pub get-near-work-spec : {M : Type 1} → statement M

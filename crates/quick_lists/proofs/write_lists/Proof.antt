@@ -13,7 +13,7 @@ use Rattle.quick_lists.proofs.write_lists.Statement.{statement}
 use Rattle.quick_lists.proofs.write_lists.Tie as tie
 
 first-children-requires : tie.Need-first-children-requires
-first-children-requires c κs = let s = c .before .before .before .before .before .before .before .pre in (s .0, s .2)
+first-children-requires c κs = let s = c .before .before .before .before .before .before .before .before .pre in (s .0, s .3, s .2)
 
 room-of-requires : tie.Need-room-of-requires
 room-of-requires c κs = search needs
@@ -52,7 +52,7 @@ slice-aggregate-write-rows-8 : tie.Need-slice-aggregate-write-rows-8
 slice-aggregate-write-rows-8 c = sym (length-take-le _ _ (cap-le _ _ (c .before .before .before .before .before .before .before .before .before .before .room-of2 .ensures)))
 
 write-rows-requires : tie.Need-write-rows-requires
-write-rows-requires c κs = let s = c .before .before .before .before .before .before .before .before .before .before .before .before .before .before .before .before .before .before .before .before .before .before .pre in (s .0, c .before .before .before .before .before .before .before .before .before .before .before .before .before .before .first-children .ensures, omega arith, refl, omega arith, omega arith, refl, omega arith, s .1, cap-most _ (now (c .before .before .before .before .before .before .before .before .before .before .before .before .before .before .before .before .before .before .before .before .before .before .args .u-keys)) (c .before .before .before .before .before .before .before .before .before .before .before .room-of .ensures), cap-most _ (now (c .before .before .before .before .before .before .before .before .before .before .before .before .before .before .before .before .before .before .before .before .before .before .args .v-keys)) (c .before .before .before .before .before .before .before .before .before .before .room-of2 .ensures))
+write-rows-requires c κs = let s = c .before .before .before .before .before .before .before .before .before .before .before .before .before .before .before .before .before .before .before .before .before .before .before .pre in (s .0, c .before .before .before .before .before .before .before .before .before .before .before .before .before .before .first-children .ensures, omega arith, refl, omega arith, omega arith, refl, omega arith, s .1, cap-most _ (now (c .before .before .before .before .before .before .before .before .before .before .before .before .before .before .before .before .before .before .before .before .before .before .before .args .u-keys)) (c .before .before .before .before .before .before .before .before .before .before .before .room-of .ensures), cap-most _ (now (c .before .before .before .before .before .before .before .before .before .before .before .before .before .before .before .before .before .before .before .before .before .before .before .args .v-keys)) (c .before .before .before .before .before .before .before .before .before .before .room-of2 .ensures))
 
 same-length : tie.Need-same-length
 same-length c = search needs
@@ -61,13 +61,13 @@ same-length-2 : tie.Need-same-length-2
 same-length-2 c = search needs
 
 same-length-3 : tie.Need-same-length-3
-same-length-3 c = c .before .before .before .before .before .before .before .before .before .before .before .before .before .before .before .before .before .before .before .before .before .before .before .before .before .before .before .before .before .first-children .kept .1 .1 .1 .0
+same-length-3 c = c .before .before .before .before .before .before .before .before .before .before .before .before .before .before .before .before .before .before .before .before .before .before .before .before .before .before .before .before .before .first-children .kept .1 .1 .1 .1 .0
 
 same-length-4 : tie.Need-same-length-4
 same-length-4 c = search needs
 
 returns : tie.Need-returns
-returns c = let a = c .before .before .before .before .before .before .before .before .before .before .before .before .before .before .before .before .before .before .before .before .before .before .before .before .before .before .before .before .before .before .before .before .before .before .before .before .before .args in u-over (listRow (a .axes) (now (a .key)) (now (a .own)) false) (listRow (a .axes) (now (a .key)) (now (a .own)) true) (now (a .key)) (c .before .before .before .before .before .before .before .before .before .before .before .before .before .before .write-rows .last .1 .1 .1 .1 .1 .1 .1 .1 .1 .1 .0) (c .before .before .before .before .before .before .before .before .before .before .before .before .before .before .write-rows .last .1 .1 .1 .1 .1 .1 .1 .1 .1 .1 .1 .0) (c .before .before .before .before .before .before .before .before .before .before .before .before .before .before .write-rows .last .1 .1 .1 .1 .1 .1 .1 .1 .1 .1 .1 .1 .0) _ _ _ (length (now (a .u-keys))) _ (length (now (a .v-keys))) (c .before .before .before .before .before .before .before .before .before .before .before .before .before .before .write-rows .ensures) (c .before .before .before .before .before .before .before .before .before .before .before .before .before .before .write-rows .kept .1 .1 .1 .1 .1 .1 .1 .1 .1 .1 .1 .0 ∙ length-take-le _ _ (cap-le _ _ (c .before .before .before .before .before .before .before .before .before .before .before .before .before .before .before .before .before .before .before .before .before .before .before .before .before .before .room-of .ensures))) (c .before .before .before .before .before .before .before .before .before .before .before .before .before .before .before .before .before .before .before .before .before .before .before .before .before .before .room-of .ensures) (c .before .before .before .before .before .before .before .before .before .before .before .before .before .before .write-rows .kept .1 .1 .1 .1 .1 .1 .1 .1 .1 .1 .1 .1 .0 ∙ length-take-le _ _ (cap-le _ _ (c .before .before .before .before .before .before .before .before .before .before .before .before .before .before .before .before .before .before .before .before .before .before .before .before .before .room-of2 .ensures))) (c .before .before .before .before .before .before .before .before .before .before .before .before .before .before .before .before .before .before .before .before .before .before .before .before .before .room-of2 .ensures) (c .if1 .taken) (length (now (a .u-starts))) (length (now (a .v-starts))) _ _ _ _
+returns c = let a = c .before .before .before .before .before .before .before .before .before .before .before .before .before .before .before .before .before .before .before .before .before .before .before .before .before .before .before .before .before .before .before .before .before .before .before .before .before .before .args in u-over (listRow (a .axes) (now (a .key)) (now (a .own)) false) (listRow (a .axes) (now (a .key)) (now (a .own)) true) (now (a .key)) (c .before .before .before .before .before .before .before .before .before .before .before .before .before .before .write-rows .last .1 .1 .1 .1 .1 .1 .1 .1 .1 .1 .0) (c .before .before .before .before .before .before .before .before .before .before .before .before .before .before .write-rows .last .1 .1 .1 .1 .1 .1 .1 .1 .1 .1 .1 .0) (c .before .before .before .before .before .before .before .before .before .before .before .before .before .before .write-rows .last .1 .1 .1 .1 .1 .1 .1 .1 .1 .1 .1 .1 .0) _ _ _ (length (now (a .u-keys))) _ (length (now (a .v-keys))) (c .before .before .before .before .before .before .before .before .before .before .before .before .before .before .write-rows .ensures) (c .before .before .before .before .before .before .before .before .before .before .before .before .before .before .write-rows .kept .1 .1 .1 .1 .1 .1 .1 .1 .1 .1 .1 .0 ∙ length-take-le _ _ (cap-le _ _ (c .before .before .before .before .before .before .before .before .before .before .before .before .before .before .before .before .before .before .before .before .before .before .before .before .before .before .room-of .ensures))) (c .before .before .before .before .before .before .before .before .before .before .before .before .before .before .before .before .before .before .before .before .before .before .before .before .before .before .room-of .ensures) (c .before .before .before .before .before .before .before .before .before .before .before .before .before .before .write-rows .kept .1 .1 .1 .1 .1 .1 .1 .1 .1 .1 .1 .1 .0 ∙ length-take-le _ _ (cap-le _ _ (c .before .before .before .before .before .before .before .before .before .before .before .before .before .before .before .before .before .before .before .before .before .before .before .before .before .room-of2 .ensures))) (c .before .before .before .before .before .before .before .before .before .before .before .before .before .before .before .before .before .before .before .before .before .before .before .before .before .room-of2 .ensures) (c .if1 .taken) (length (now (a .u-starts))) (length (now (a .v-starts))) _ _ _ _
 
 same-length-5 : tie.Need-same-length-5
 same-length-5 c = search needs
@@ -76,19 +76,19 @@ same-length-6 : tie.Need-same-length-6
 same-length-6 c = search needs
 
 same-length-7 : tie.Need-same-length-7
-same-length-7 c = c .before .before .before .before .before .before .before .before .before .before .before .before .before .before .before .before .before .before .before .before .before .before .before .before .before .before .before .before .before .before .before .first-children .kept .1 .1 .1 .0
+same-length-7 c = c .before .before .before .before .before .before .before .before .before .before .before .before .before .before .before .before .before .before .before .before .before .before .before .before .before .before .before .before .before .before .before .first-children .kept .1 .1 .1 .1 .0
 
 same-length-8 : tie.Need-same-length-8
 same-length-8 c = search needs
 
 returns-2 : tie.Need-returns-2
-returns-2 c = let a = c .before .before .before .before .before .before .before .before .before .before .before .before .before .before .before .before .before .before .before .before .before .before .before .before .before .before .before .before .before .before .before .before .before .before .before .before .before .before .before .args in v-over (listRow (a .axes) (now (a .key)) (now (a .own)) false) (listRow (a .axes) (now (a .key)) (now (a .own)) true) (now (a .key)) (c .before .before .before .before .before .before .before .before .before .before .before .before .before .before .before .before .write-rows .last .1 .1 .1 .1 .1 .1 .1 .1 .1 .1 .0) (c .before .before .before .before .before .before .before .before .before .before .before .before .before .before .before .before .write-rows .last .1 .1 .1 .1 .1 .1 .1 .1 .1 .1 .1 .0) (c .before .before .before .before .before .before .before .before .before .before .before .before .before .before .before .before .write-rows .last .1 .1 .1 .1 .1 .1 .1 .1 .1 .1 .1 .1 .0) _ _ _ (length (now (a .u-keys))) _ (length (now (a .v-keys))) (c .before .before .before .before .before .before .before .before .before .before .before .before .before .before .before .before .write-rows .ensures) (c .before .before .before .before .before .before .before .before .before .before .before .before .before .before .before .before .write-rows .kept .1 .1 .1 .1 .1 .1 .1 .1 .1 .1 .1 .0 ∙ length-take-le _ _ (cap-le _ _ (c .before .before .before .before .before .before .before .before .before .before .before .before .before .before .before .before .before .before .before .before .before .before .before .before .before .before .before .before .room-of .ensures))) (c .before .before .before .before .before .before .before .before .before .before .before .before .before .before .before .before .before .before .before .before .before .before .before .before .before .before .before .before .room-of .ensures) (c .before .before .before .before .before .before .before .before .before .before .before .before .before .before .before .before .write-rows .kept .1 .1 .1 .1 .1 .1 .1 .1 .1 .1 .1 .1 .0 ∙ length-take-le _ _ (cap-le _ _ (c .before .before .before .before .before .before .before .before .before .before .before .before .before .before .before .before .before .before .before .before .before .before .before .before .before .before .before .room-of2 .ensures))) (c .before .before .before .before .before .before .before .before .before .before .before .before .before .before .before .before .before .before .before .before .before .before .before .before .before .before .before .room-of2 .ensures) (c .before .before .if1 .left) (c .if2 .taken) (length (now (a .u-starts))) (length (now (a .v-starts))) _ _ _ _
+returns-2 c = let a = c .before .before .before .before .before .before .before .before .before .before .before .before .before .before .before .before .before .before .before .before .before .before .before .before .before .before .before .before .before .before .before .before .before .before .before .before .before .before .before .before .args in v-over (listRow (a .axes) (now (a .key)) (now (a .own)) false) (listRow (a .axes) (now (a .key)) (now (a .own)) true) (now (a .key)) (c .before .before .before .before .before .before .before .before .before .before .before .before .before .before .before .before .write-rows .last .1 .1 .1 .1 .1 .1 .1 .1 .1 .1 .0) (c .before .before .before .before .before .before .before .before .before .before .before .before .before .before .before .before .write-rows .last .1 .1 .1 .1 .1 .1 .1 .1 .1 .1 .1 .0) (c .before .before .before .before .before .before .before .before .before .before .before .before .before .before .before .before .write-rows .last .1 .1 .1 .1 .1 .1 .1 .1 .1 .1 .1 .1 .0) _ _ _ (length (now (a .u-keys))) _ (length (now (a .v-keys))) (c .before .before .before .before .before .before .before .before .before .before .before .before .before .before .before .before .write-rows .ensures) (c .before .before .before .before .before .before .before .before .before .before .before .before .before .before .before .before .write-rows .kept .1 .1 .1 .1 .1 .1 .1 .1 .1 .1 .1 .0 ∙ length-take-le _ _ (cap-le _ _ (c .before .before .before .before .before .before .before .before .before .before .before .before .before .before .before .before .before .before .before .before .before .before .before .before .before .before .before .before .room-of .ensures))) (c .before .before .before .before .before .before .before .before .before .before .before .before .before .before .before .before .before .before .before .before .before .before .before .before .before .before .before .before .room-of .ensures) (c .before .before .before .before .before .before .before .before .before .before .before .before .before .before .before .before .write-rows .kept .1 .1 .1 .1 .1 .1 .1 .1 .1 .1 .1 .1 .0 ∙ length-take-le _ _ (cap-le _ _ (c .before .before .before .before .before .before .before .before .before .before .before .before .before .before .before .before .before .before .before .before .before .before .before .before .before .before .before .room-of2 .ensures))) (c .before .before .before .before .before .before .before .before .before .before .before .before .before .before .before .before .before .before .before .before .before .before .before .before .before .before .before .room-of2 .ensures) (c .before .before .if1 .left) (c .if2 .taken) (length (now (a .u-starts))) (length (now (a .v-starts))) _ _ _ _
 
 add-finish : tie.Need-add-finish
-add-finish c = record { fits = omega (arith, c .before .before .before .before .before .before .before .before .before .before .before .before .before .before .before .before .before .before .before .before .before .before .before .before .before .before .before .before .before .before .before .before .before .before .before .before .before .before .before .before .before .before .before .good .1 .0) }
+add-finish c = record { fits = omega (arith, c .before .before .before .before .before .before .before .before .before .before .before .before .before .before .before .before .before .before .before .before .before .before .before .before .before .before .before .before .before .before .before .before .before .before .before .before .before .before .before .before .before .before .before .before .good .1 .0) }
 
 finish-requires : tie.Need-finish-requires
-finish-requires c κs = let s = c .before .before .before .before .before .before .before .before .before .before .before .before .before .before .before .before .before .before .before .before .before .before .before .before .before .before .before .before .before .before .before .before .before .before .before .before .before .before .before .before .before .before .before .pre in (omega (arith, s .1, c .before .before .before .before .before .before .before .before .before .before .before .before .before .before .before .before .before .before .before .before .write-rows .kept .1 .1 .1 .1 .1 .1 .1 .1 .1 .1 .0), omega (arith, s .2, c .before .before .before .before .before .before .before .before .before .before .before .before .before .before .before .before .before .before .before .before .before .before .before .before .before .before .before .before .before .before .before .before .before .before .before .first-children .kept .1 .1 .1 .0))
+finish-requires c κs = let s = c .before .before .before .before .before .before .before .before .before .before .before .before .before .before .before .before .before .before .before .before .before .before .before .before .before .before .before .before .before .before .before .before .before .before .before .before .before .before .before .before .before .before .before .before .pre in (omega (arith, s .1, c .before .before .before .before .before .before .before .before .before .before .before .before .before .before .before .before .before .before .before .before .write-rows .kept .1 .1 .1 .1 .1 .1 .1 .1 .1 .1 .0), omega (arith, s .2, c .before .before .before .before .before .before .before .before .before .before .before .before .before .before .before .before .before .before .before .before .before .before .before .before .before .before .before .before .before .before .before .before .before .before .before .first-children .kept .1 .1 .1 .1 .0))
 
 same-length-9 : tie.Need-same-length-9
 same-length-9 c = search needs
@@ -97,13 +97,13 @@ same-length-10 : tie.Need-same-length-10
 same-length-10 c = search needs
 
 same-length-11 : tie.Need-same-length-11
-same-length-11 c = c .before .before .before .before .before .before .before .before .finish .kept .1 .1 .0 ∙ c .before .before .before .before .before .before .before .before .before .before .before .before .before .before .before .before .before .before .before .before .before .before .before .before .before .before .before .before .before .before .before .before .before .before .before .before .before .before .before .before .before .before .before .before .first-children .kept .1 .1 .1 .0
+same-length-11 c = c .before .before .before .before .before .before .before .before .finish .kept .1 .1 .0 ∙ c .before .before .before .before .before .before .before .before .before .before .before .before .before .before .before .before .before .before .before .before .before .before .before .before .before .before .before .before .before .before .before .before .before .before .before .before .before .before .before .before .before .before .before .before .first-children .kept .1 .1 .1 .1 .0
 
 same-length-12 : tie.Need-same-length-12
 same-length-12 c = search needs
 
 returns-3 : tie.Need-returns-3
-returns-3 c = let a = c .before .before .before .before .before .before .before .before .before .before .before .before .before .before .before .before .before .before .before .before .before .before .before .before .before .before .before .before .before .before .before .before .before .before .before .before .before .before .before .before .before .before .before .before .before .before .before .before .before .before .before .before .args in both-finished (listRow (a .axes) (now (a .key)) (now (a .own)) false) (listRow (a .axes) (now (a .key)) (now (a .own)) true) (now (a .key)) (c .before .before .before .before .before .before .before .before .before .before .before .before .before .before .before .before .before .before .before .before .before .before .before .before .before .before .before .before .before .write-rows .last .1 .1 .1 .1 .1 .1 .1 .1 .1 .1 .0) (c .before .before .before .before .before .before .before .before .before .before .before .before .before .before .before .before .before .before .before .before .before .before .before .before .before .before .before .before .before .write-rows .last .1 .1 .1 .1 .1 .1 .1 .1 .1 .1 .1 .0) (c .before .before .before .before .before .before .before .before .before .before .before .before .before .before .before .before .before .before .before .before .before .before .before .before .before .before .before .before .before .write-rows .last .1 .1 .1 .1 .1 .1 .1 .1 .1 .1 .1 .1 .0) _ _ _ (length (now (a .u-keys))) _ (length (now (a .v-keys))) (c .before .before .before .before .before .before .before .before .before .before .before .before .before .before .before .before .before .before .before .before .before .before .before .before .before .before .before .before .before .write-rows .ensures) (c .before .before .before .before .before .before .before .before .before .before .before .before .before .before .before .before .before .before .before .before .before .before .before .before .before .before .before .before .before .write-rows .kept .1 .1 .1 .1 .1 .1 .1 .1 .1 .1 .1 .0 ∙ length-take-le _ _ (cap-le _ _ (c .before .before .before .before .before .before .before .before .before .before .before .before .before .before .before .before .before .before .before .before .before .before .before .before .before .before .before .before .before .before .before .before .before .before .before .before .before .before .before .before .before .room-of .ensures))) (c .before .before .before .before .before .before .before .before .before .before .before .before .before .before .before .before .before .before .before .before .before .before .before .before .before .before .before .before .before .before .before .before .before .before .before .before .before .before .before .before .before .room-of .ensures) (c .before .before .before .before .before .before .before .before .before .before .before .before .before .before .before .before .before .before .before .before .before .before .before .before .before .before .before .before .before .write-rows .kept .1 .1 .1 .1 .1 .1 .1 .1 .1 .1 .1 .1 .0 ∙ length-take-le _ _ (cap-le _ _ (c .before .before .before .before .before .before .before .before .before .before .before .before .before .before .before .before .before .before .before .before .before .before .before .before .before .before .before .before .before .before .before .before .before .before .before .before .before .before .before .before .room-of2 .ensures))) (c .before .before .before .before .before .before .before .before .before .before .before .before .before .before .before .before .before .before .before .before .before .before .before .before .before .before .before .before .before .before .before .before .before .before .before .before .before .before .before .before .room-of2 .ensures) (c .before .before .before .before .before .before .before .before .before .before .before .before .before .before .before .if1 .left) (c .before .before .before .before .before .before .before .before .before .before .before .before .before .if2 .left) (length (now (a .u-starts))) (length (now (a .v-starts))) (length (c .before .before .before .before .before .before .before .before .before .before .before .before .before .before .before .before .before .before .before .before .before .before .before .before .before .before .before .before .before .before .before .before .before .before .before .before .before .before .before .before .before .before .before .before .first-children .last .1 .1 .1 .0)) (drop (c .before .before .before .before .before .before .before .before .before .before .before .before .before .before .before .before .before .before .before .before .before .before .before .before .before .before .before .before .before .before .before .before .before .before .before .before .before .before .before .before .before .room-of .result) (now (a .u-keys))) (drop (c .before .before .before .before .before .before .before .before .before .before .before .before .before .before .before .before .before .before .before .before .before .before .before .before .before .before .before .before .before .before .before .before .before .before .before .before .before .before .before .before .room-of2 .result) (now (a .v-keys))) _ _ _ _ (rest-length _ (now (a .u-keys)) (cap-le _ _ (c .before .before .before .before .before .before .before .before .before .before .before .before .before .before .before .before .before .before .before .before .before .before .before .before .before .before .before .before .before .before .before .before .before .before .before .before .before .before .before .before .before .room-of .ensures))) (rest-length _ (now (a .v-keys)) (cap-le _ _ (c .before .before .before .before .before .before .before .before .before .before .before .before .before .before .before .before .before .before .before .before .before .before .before .before .before .before .before .before .before .before .before .before .before .before .before .before .before .before .before .before .room-of2 .ensures))) (c .before .before .before .before .before .before .before .before .before .before .before .before .before .before .before .before .before .before .before .before .before .before .before .before .before .before .before .before .before .write-rows .kept .1 .1 .1 .1 .1 .1 .1 .1 .1 .1 .0) (c .before .before .before .before .before .before .before .before .before .before .before .before .before .before .before .before .before .before .before .before .before .before .before .before .before .before .before .before .before .before .before .before .before .before .before .before .before .before .before .before .before .before .before .before .first-children .kept .1 .1 .1 .0) (c .before .before .before .before .before .before .before .before .finish .ensures)
+returns-3 c = let a = c .before .before .before .before .before .before .before .before .before .before .before .before .before .before .before .before .before .before .before .before .before .before .before .before .before .before .before .before .before .before .before .before .before .before .before .before .before .before .before .before .before .before .before .before .before .before .before .before .before .before .before .before .before .args in both-finished (listRow (a .axes) (now (a .key)) (now (a .own)) false) (listRow (a .axes) (now (a .key)) (now (a .own)) true) (now (a .key)) (c .before .before .before .before .before .before .before .before .before .before .before .before .before .before .before .before .before .before .before .before .before .before .before .before .before .before .before .before .before .write-rows .last .1 .1 .1 .1 .1 .1 .1 .1 .1 .1 .0) (c .before .before .before .before .before .before .before .before .before .before .before .before .before .before .before .before .before .before .before .before .before .before .before .before .before .before .before .before .before .write-rows .last .1 .1 .1 .1 .1 .1 .1 .1 .1 .1 .1 .0) (c .before .before .before .before .before .before .before .before .before .before .before .before .before .before .before .before .before .before .before .before .before .before .before .before .before .before .before .before .before .write-rows .last .1 .1 .1 .1 .1 .1 .1 .1 .1 .1 .1 .1 .0) _ _ _ (length (now (a .u-keys))) _ (length (now (a .v-keys))) (c .before .before .before .before .before .before .before .before .before .before .before .before .before .before .before .before .before .before .before .before .before .before .before .before .before .before .before .before .before .write-rows .ensures) (c .before .before .before .before .before .before .before .before .before .before .before .before .before .before .before .before .before .before .before .before .before .before .before .before .before .before .before .before .before .write-rows .kept .1 .1 .1 .1 .1 .1 .1 .1 .1 .1 .1 .0 ∙ length-take-le _ _ (cap-le _ _ (c .before .before .before .before .before .before .before .before .before .before .before .before .before .before .before .before .before .before .before .before .before .before .before .before .before .before .before .before .before .before .before .before .before .before .before .before .before .before .before .before .before .room-of .ensures))) (c .before .before .before .before .before .before .before .before .before .before .before .before .before .before .before .before .before .before .before .before .before .before .before .before .before .before .before .before .before .before .before .before .before .before .before .before .before .before .before .before .before .room-of .ensures) (c .before .before .before .before .before .before .before .before .before .before .before .before .before .before .before .before .before .before .before .before .before .before .before .before .before .before .before .before .before .write-rows .kept .1 .1 .1 .1 .1 .1 .1 .1 .1 .1 .1 .1 .0 ∙ length-take-le _ _ (cap-le _ _ (c .before .before .before .before .before .before .before .before .before .before .before .before .before .before .before .before .before .before .before .before .before .before .before .before .before .before .before .before .before .before .before .before .before .before .before .before .before .before .before .before .room-of2 .ensures))) (c .before .before .before .before .before .before .before .before .before .before .before .before .before .before .before .before .before .before .before .before .before .before .before .before .before .before .before .before .before .before .before .before .before .before .before .before .before .before .before .before .room-of2 .ensures) (c .before .before .before .before .before .before .before .before .before .before .before .before .before .before .before .if1 .left) (c .before .before .before .before .before .before .before .before .before .before .before .before .before .if2 .left) (length (now (a .u-starts))) (length (now (a .v-starts))) (length (c .before .before .before .before .before .before .before .before .before .before .before .before .before .before .before .before .before .before .before .before .before .before .before .before .before .before .before .before .before .before .before .before .before .before .before .before .before .before .before .before .before .before .before .before .first-children .last .1 .1 .1 .1 .0)) (drop (c .before .before .before .before .before .before .before .before .before .before .before .before .before .before .before .before .before .before .before .before .before .before .before .before .before .before .before .before .before .before .before .before .before .before .before .before .before .before .before .before .before .room-of .result) (now (a .u-keys))) (drop (c .before .before .before .before .before .before .before .before .before .before .before .before .before .before .before .before .before .before .before .before .before .before .before .before .before .before .before .before .before .before .before .before .before .before .before .before .before .before .before .before .room-of2 .result) (now (a .v-keys))) _ _ _ _ (rest-length _ (now (a .u-keys)) (cap-le _ _ (c .before .before .before .before .before .before .before .before .before .before .before .before .before .before .before .before .before .before .before .before .before .before .before .before .before .before .before .before .before .before .before .before .before .before .before .before .before .before .before .before .before .room-of .ensures))) (rest-length _ (now (a .v-keys)) (cap-le _ _ (c .before .before .before .before .before .before .before .before .before .before .before .before .before .before .before .before .before .before .before .before .before .before .before .before .before .before .before .before .before .before .before .before .before .before .before .before .before .before .before .before .room-of2 .ensures))) (c .before .before .before .before .before .before .before .before .before .before .before .before .before .before .before .before .before .before .before .before .before .before .before .before .before .before .before .before .before .write-rows .kept .1 .1 .1 .1 .1 .1 .1 .1 .1 .1 .0) (c .before .before .before .before .before .before .before .before .before .before .before .before .before .before .before .before .before .before .before .before .before .before .before .before .before .before .before .before .before .before .before .before .before .before .before .before .before .before .before .before .before .before .before .before .first-children .kept .1 .1 .1 .1 .0) (c .before .before .before .before .before .before .before .before .finish .ensures)
 
 pub write-lists-spec : {M : Type 1} → statement M
 write-lists-spec =

@@ -22,10 +22,10 @@ enum-told c = search needs
 
 near-work-requires : tie.Need-near-work-requires
 near-work-requires c κs =
-    let a = c .before .before .before .before .before .before .before .before .before .before .before .before .before .before .before .before .before .before .before .before .before .before .before .before .before .args in
+    let a = c .before .before .before .before .before .before .before .before .before .before .before .before .before .before .before .before .before .before .before .before .before .before .before .before .before .before .args in
     let g = c .before .before .before .before .before .before .before .before .before .before .before .before .get-interaction-lists in
     let q = sym (c .before .before .enum-told .given .1) ∙ g .ensures .0 in
-    (tree-sound (a .axes) (now (a .key)) (now (a .own)) (now (a .begin)) (length (now (a .u-starts))) (length (now (a .u-keys))) (length (now (a .v-starts))) (length (now (a .v-keys))) _ _ q, holds-rows _ _ _ _ _ _ (filled-as (a .axes) (now (a .key)) (now (a .own)) (now (a .begin)) (length (now (a .u-starts))) (length (now (a .u-keys))) (length (now (a .v-starts))) (length (now (a .v-keys))) _ _ q _ _ _ (g .ensures .1 .0)) (filled-as (a .axes) (now (a .key)) (now (a .own)) (now (a .begin)) (length (now (a .u-starts))) (length (now (a .u-keys))) (length (now (a .v-starts))) (length (now (a .v-keys))) _ _ q _ _ _ (g .ensures .1 .1 .0)))
+    (tree-sound (a .axes) (now (a .key)) (now (a .own)) (now (a .begin)) (now (a .total)) (length (now (a .u-starts))) (length (now (a .u-keys))) (length (now (a .v-starts))) (length (now (a .v-keys))) _ _ q, holds-rows _ _ _ _ _ _ (filled-as (a .axes) (now (a .key)) (now (a .own)) (now (a .begin)) (now (a .total)) (length (now (a .u-starts))) (length (now (a .u-keys))) (length (now (a .v-starts))) (length (now (a .v-keys))) _ _ q _ _ _ (g .ensures .1 .0)) (filled-as (a .axes) (now (a .key)) (now (a .own)) (now (a .begin)) (now (a .total)) (length (now (a .u-starts))) (length (now (a .u-keys))) (length (now (a .v-starts))) (length (now (a .v-keys))) _ _ q _ _ _ (g .ensures .1 .1 .0)))
 
 depth-of-requires : tie.Need-depth-of-requires
 depth-of-requires c κs = search needs
@@ -50,9 +50,9 @@ same-length-5 c = search needs
 
 returns : tie.Need-returns
 returns c =
-    let a = c .before .before .before .before .before .before .before .before .before .before .before .before .before .before .before .before .before .before .before .before .before .before .before .before .before .before .before .before .args in
+    let a = c .before .before .before .before .before .before .before .before .before .before .before .before .before .before .before .before .before .before .before .before .before .before .before .before .before .before .before .before .before .args in
     let g = c .before .before .before .before .before .before .before .before .before .before .before .before .before .before .before .get-interaction-lists in
-    let e = text-refused (a .axes) (now (a .key)) (now (a .own)) (now (a .begin)) (length (now (a .u-starts))) (length (now (a .u-keys))) (length (now (a .v-starts))) (length (now (a .v-keys))) (a .sources) _ (sym (c .before .before .before .before .before .listed .given .1) ∙ g .ensures .0) in
+    let e = text-refused (a .axes) (now (a .key)) (now (a .own)) (now (a .begin)) (now (a .total)) (length (now (a .u-starts))) (length (now (a .u-keys))) (length (now (a .v-starts))) (length (now (a .v-keys))) (a .sources) _ (sym (c .before .before .before .before .before .listed .given .1) ∙ g .ensures .0) in
     (c .before .before .write-refusal .ensures .0 ∙ ap (textAnswer (length (now (a .out)))) e, (c .before .before .write-refusal .ensures .1 ∙ ap (textLeft (length (now (a .out)))) e, (g .ensures .1 .0, (g .ensures .1 .1 .0, (g .ensures .1 .1 .1 .0, g .ensures .1 .1 .1 .1 .0)))))
 
 same-length-6 : tie.Need-same-length-6
@@ -72,10 +72,10 @@ same-length-10 c = search needs
 
 returns-2 : tie.Need-returns-2
 returns-2 c =
-    let a = c .before .before .before .before .before .before .before .before .before .before .before .before .before .before .before .before .before .before .before .before .before .before .before .before .before .before .before .before .before .before .before .before .before .before .before .args in
+    let a = c .before .before .before .before .before .before .before .before .before .before .before .before .before .before .before .before .before .before .before .before .before .before .before .before .before .before .before .before .before .before .before .before .before .before .before .before .args in
     let g = c .before .before .before .before .before .before .before .before .before .before .before .before .before .before .before .before .before .before .before .before .before .before .get-interaction-lists in
     let q = sym (c .before .before .before .before .before .before .before .before .before .before .before .before .enum-told .given .1) ∙ g .ensures .0 in
-    let e = text-listed (a .axes) (now (a .key)) (now (a .own)) (now (a .begin)) (length (now (a .u-starts))) (length (now (a .u-keys))) (length (now (a .v-starts))) (length (now (a .v-keys))) _ _ q (a .sources) _ _ _ _ _ _ (c .before .before .before .before .before .before .before .before .before .near-work .ensures .0) (c .before .before .before .before .before .before .before .before .depth-of .ensures) (holds-rows _ _ _ _ _ _ (filled-as (a .axes) (now (a .key)) (now (a .own)) (now (a .begin)) (length (now (a .u-starts))) (length (now (a .u-keys))) (length (now (a .v-starts))) (length (now (a .v-keys))) _ _ q _ _ _ (g .ensures .1 .0)) (filled-as (a .axes) (now (a .key)) (now (a .own)) (now (a .begin)) (length (now (a .u-starts))) (length (now (a .u-keys))) (length (now (a .v-starts))) (length (now (a .v-keys))) _ _ q _ _ _ (g .ensures .1 .1 .0))) (holds-rows _ _ _ _ _ _ (filled-as (a .axes) (now (a .key)) (now (a .own)) (now (a .begin)) (length (now (a .u-starts))) (length (now (a .u-keys))) (length (now (a .v-starts))) (length (now (a .v-keys))) _ _ q _ _ _ (g .ensures .1 .1 .1 .0)) (filled-as (a .axes) (now (a .key)) (now (a .own)) (now (a .begin)) (length (now (a .u-starts))) (length (now (a .u-keys))) (length (now (a .v-starts))) (length (now (a .v-keys))) _ _ q _ _ _ (g .ensures .1 .1 .1 .1 .0))) in
+    let e = text-listed (a .axes) (now (a .key)) (now (a .own)) (now (a .begin)) (now (a .total)) (length (now (a .u-starts))) (length (now (a .u-keys))) (length (now (a .v-starts))) (length (now (a .v-keys))) _ _ q (a .sources) _ _ _ _ _ _ (c .before .before .before .before .before .before .before .before .before .near-work .ensures .0) (c .before .before .before .before .before .before .before .before .depth-of .ensures) (holds-rows _ _ _ _ _ _ (filled-as (a .axes) (now (a .key)) (now (a .own)) (now (a .begin)) (now (a .total)) (length (now (a .u-starts))) (length (now (a .u-keys))) (length (now (a .v-starts))) (length (now (a .v-keys))) _ _ q _ _ _ (g .ensures .1 .0)) (filled-as (a .axes) (now (a .key)) (now (a .own)) (now (a .begin)) (now (a .total)) (length (now (a .u-starts))) (length (now (a .u-keys))) (length (now (a .v-starts))) (length (now (a .v-keys))) _ _ q _ _ _ (g .ensures .1 .1 .0))) (holds-rows _ _ _ _ _ _ (filled-as (a .axes) (now (a .key)) (now (a .own)) (now (a .begin)) (now (a .total)) (length (now (a .u-starts))) (length (now (a .u-keys))) (length (now (a .v-starts))) (length (now (a .v-keys))) _ _ q _ _ _ (g .ensures .1 .1 .1 .0)) (filled-as (a .axes) (now (a .key)) (now (a .own)) (now (a .begin)) (now (a .total)) (length (now (a .u-starts))) (length (now (a .u-keys))) (length (now (a .v-starts))) (length (now (a .v-keys))) _ _ q _ _ _ (g .ensures .1 .1 .1 .1 .0))) in
     (c .before .before .write-listing .ensures .0 ∙ ap (textAnswer (length (now (a .out)))) e, (c .before .before .write-listing .ensures .1 ∙ ap (textLeft (length (now (a .out)))) e, (g .ensures .1 .0, (g .ensures .1 .1 .0, (g .ensures .1 .1 .1 .0, g .ensures .1 .1 .1 .1 .0)))))
 
 pub list-tree-spec : {M : Type 1} → statement M
