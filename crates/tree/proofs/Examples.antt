@@ -32,6 +32,9 @@ own₂ = 0 ∷ 0 ∷ 1 ∷ 0 ∷ 0 ∷ 0 ∷ 0 ∷ 0 ∷ 0 ∷ 0 ∷ 0 ∷ 0 ∷
 abbrev pub begin₂ : List ℕ
 begin₂ = 0 ∷ 0 ∷ 0 ∷ 1 ∷ 1 ∷ 1 ∷ 1 ∷ 1 ∷ 1 ∷ 1 ∷ 1 ∷ 1 ∷ 1 ∷ 1 ∷ 2 ∷ 2 ∷ 2 ∷ 3 ∷ 4 ∷ 4 ∷ 4 ∷ []
 
+abbrev pub total₂ : List ℕ
+total₂ = 5 ∷ 2 ∷ 1 ∷ 0 ∷ 2 ∷ 2 ∷ 0 ∷ 0 ∷ 0 ∷ 0 ∷ 0 ∷ 0 ∷ 2 ∷ 1 ∷ 0 ∷ 0 ∷ 1 ∷ 1 ∷ 0 ∷ 0 ∷ 1 ∷ []
+
 -- Three axes, empty cells not kept, sources (0.5,0.5,0.5) (1.5,1.5,1.5) (7.5,7.5,7.5) (6.5,6.5,5) (1,7,2) (3.5,3.5,3.5) (5,5,5)
 abbrev pub keys₃ : List ℕ
 keys₃ = 0 ∷ 1 ∷ 65537 ∷ 229377 ∷ 2 ∷ 229378 ∷ 1835010 ∷ 1933314 ∷ 2064386 ∷ 3 ∷ 229379 ∷ []
@@ -42,9 +45,12 @@ own₃ = 0 ∷ 0 ∷ 1 ∷ 0 ∷ 0 ∷ 1 ∷ 1 ∷ 1 ∷ 1 ∷ 1 ∷ 1 ∷ []
 abbrev pub begin₃ : List ℕ
 begin₃ = 0 ∷ 0 ∷ 0 ∷ 1 ∷ 1 ∷ 1 ∷ 2 ∷ 3 ∷ 4 ∷ 5 ∷ 6 ∷ []
 
-pub well-formed : (formed 1 keys₁ own₁ begin₁ ≡ true) × (formed 2 keys₂ own₂ begin₂ ≡ true) × (formed 3 keys₃ own₃ begin₃ ≡ true)
+abbrev pub total₃ : List ℕ
+total₃ = 7 ∷ 3 ∷ 1 ∷ 3 ∷ 2 ∷ 1 ∷ 1 ∷ 1 ∷ 1 ∷ 1 ∷ 1 ∷ []
+
+pub three-formed : (formed 1 keys₁ own₁ begin₁ ≡ true) × (formed 2 keys₂ own₂ begin₂ ≡ true) × (formed 3 keys₃ own₃ begin₃ ≡ true)
 unfolding formed leaf any sum
-well-formed = (refl, refl, refl)
+three-formed = (refl, refl, refl)
 
 pub depths : (depthOf keys₁ ≡ 3) × (depthOf keys₂ ≡ 3) × (depthOf keys₃ ≡ 3) × (depthOf (0 ∷ []) ≡ 1)
 depths = (refl, refl, refl, refl)
@@ -59,7 +65,7 @@ pub root-alone : formed 2 (0 ∷ []) (0 ∷ []) (0 ∷ []) ≡ true
 unfolding formed leaf any sum
 root-alone = refl
 
-pub not-well-formed :
+pub not-formed :
     -- columns have one length, at least 1
     (formed 1 none none none ≡ false)
     × (formed 1 (0 ∷ []) (0 ∷ 0 ∷ []) (0 ∷ []) ≡ false)
@@ -86,17 +92,22 @@ pub not-well-formed :
     × (formed 1 (0 ∷ 1 ∷ 32769 ∷ []) (0 ∷ 1048575 ∷ 1 ∷ []) (0 ∷ 0 ∷ 1048575 ∷ []) ≡ true)
     × (formed 1 (0 ∷ 1 ∷ 32769 ∷ []) (0 ∷ 1048575 ∷ 2 ∷ []) (0 ∷ 0 ∷ 1048575 ∷ []) ≡ false)
 unfolding formed leaf any sum
-not-well-formed = (refl, refl, refl, refl, refl, refl, refl, refl, refl, refl, refl, refl, refl, refl, refl, refl, refl, refl)
+not-formed = (refl, refl, refl, refl, refl, refl, refl, refl, refl, refl, refl, refl, refl, refl, refl, refl, refl, refl)
 
--- the totals: right at the example; wrong at the root, at a leaf, of another length, and where a sum would wrap
+-- the totals: right at the three trees; wrong at the root, at a leaf, at a node between, of another length, and where a sum would wrap
 pub totals :
     (wellFormed 1 keys₁ own₁ begin₁ total₁ ≡ true)
+    × (wellFormed 2 keys₂ own₂ begin₂ total₂ ≡ true)
+    × (wellFormed 3 keys₃ own₃ begin₃ total₃ ≡ true)
     × (wellFormed 1 (0 ∷ []) (0 ∷ []) (0 ∷ []) (0 ∷ []) ≡ true)
     × (wellFormed 1 (0 ∷ []) (0 ∷ []) (0 ∷ []) (1 ∷ []) ≡ false)
     × (wellFormed 1 (0 ∷ 1 ∷ []) (0 ∷ 1 ∷ []) (0 ∷ 0 ∷ []) (1 ∷ 1 ∷ []) ≡ true)
     × (wellFormed 1 (0 ∷ 1 ∷ []) (0 ∷ 1 ∷ []) (0 ∷ 0 ∷ []) (0 ∷ 1 ∷ []) ≡ false)
     × (wellFormed 1 (0 ∷ 1 ∷ []) (0 ∷ 1 ∷ []) (0 ∷ 0 ∷ []) (1 ∷ 0 ∷ []) ≡ false)
+    × (wellFormed 1 (0 ∷ 1 ∷ 2 ∷ []) (0 ∷ 0 ∷ 1 ∷ []) (0 ∷ 0 ∷ 0 ∷ []) (1 ∷ 1 ∷ 1 ∷ []) ≡ true)
+    × (wellFormed 1 (0 ∷ 1 ∷ 2 ∷ []) (0 ∷ 0 ∷ 1 ∷ []) (0 ∷ 0 ∷ 0 ∷ []) (1 ∷ 0 ∷ 1 ∷ []) ≡ false)
     × (wellFormed 1 (0 ∷ 1 ∷ []) (0 ∷ 1 ∷ []) (0 ∷ 0 ∷ []) (1 ∷ []) ≡ false)
+    × (wellFormed 1 (0 ∷ 1 ∷ []) (0 ∷ 1 ∷ []) (0 ∷ 0 ∷ []) (1 ∷ 1 ∷ 0 ∷ []) ≡ false)
     × (wellFormed 1 (0 ∷ 1 ∷ 32769 ∷ []) (0 ∷ 1 ∷ 0 ∷ []) (0 ∷ 0 ∷ 1 ∷ []) (1 ∷ 18446744073709551615 ∷ 2 ∷ []) ≡ false)
 unfolding wellFormed formed totalsRight totalIn ownOf leaf any sum
-totals = (refl, refl, refl, refl, refl, refl, refl, refl)
+totals = (refl, refl, refl, refl, refl, refl, refl, refl, refl, refl, refl, refl, refl)

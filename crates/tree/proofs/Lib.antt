@@ -11,6 +11,7 @@ pub mod Sums
 pub mod Walk
 pub mod Pass
 pub mod Verdict
+pub mod Column
 pub mod Halving
 pub mod Kids
 pub mod Examples

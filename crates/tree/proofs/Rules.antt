@@ -1,4 +1,4 @@
--- The well-formed rule as facts of each node's number, and that the test and the facts are one.
+-- The rule but for the totals as facts of each node, and that the test and the facts are one.
 use mathlib.Core.Path.{_≡_, refl, sym, ap, _∙_}
 use mathlib.Core.Bool.{Bool, true, false, _&&_, _||_, not}
 use mathlib.Core.List.{List, [], _∷_}
@@ -115,5 +115,5 @@ module _ (d : ℕ) (keys own begin : List ℕ) where
       (both (facts-leaves d keys own (w .inner))
       (facts-runs own begin (λ i l. w .runs i (omega (arith, w .owns))) (w .total)))))
 
-  pub well-formed-iff : (formed d keys own begin ≡ true) ↔ WellFormed d keys own begin
-  well-formed-iff = (facts, tested)
+  pub formed-iff : (formed d keys own begin ≡ true) ↔ WellFormed d keys own begin
+  formed-iff = (facts, tested)
