@@ -139,7 +139,8 @@ static inline const char *lohandema_refusal_sentence(uint64_t number)
         "the root has no parent and no siblings: ask of a key of level 1 or more",
         "a cell of level 16 has no children: ask of a key of a level below 16",
         "no leaf holds a point that is inside, and the value is its index: build with keep_empty, or take the point out",
-        "the columns are not a well-formed tree: pass them as the build wrote them, cut to its number of nodes",
+        "the columns are not a well-formed tree: pass all four (key, own, begin and total) as the build wrote them, each cut to its "
+        "number of nodes",
         "a key to group is not the key of a leaf, and the value is its index: pass keys that the lookup in this tree answered",
         "the survey file breaks its rules: write it anew as docs/RULES.md says"};
     return number < 16 ? sentences[number] : "this version knows no refusal with this number";

@@ -130,7 +130,7 @@ impl Refusal {
                 "a cell of level 16 has no children: ask for those of a cell of level 15 or less"
             }
             Refusal::TREE => {
-                "the columns are not a well-formed tree: hand in the columns of a build as they are"
+                "the columns are not a well-formed tree: hand in all four columns of a build (key, own, begin and total), each cut to its number of nodes"
             }
             Refusal::FILE => "the survey file breaks its rules: write the file anew",
             _ => "the call was refused: docs/REFUSALS.md says why",
