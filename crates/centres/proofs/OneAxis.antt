@@ -1,5 +1,5 @@
 -- One axis, with every operation at most 2 ^ k units off: centres of cells whose anchors are 1 apart differ by no more than the side and the tolerance, and those of cells 2 apart or more by more.
--- In binary64 2 ^ k units, the e below, are 2 ^ -28. The box is within 2 ^ 25, the side at least 2 ^ -17, the tolerance between 2 ^ -20 and 2 ^ -19, and of the five roundings on the left and the three on the right none is off by more than 2 ^ -28.
+-- In binary64 2 ^ k units, the e below, are 2 ^ -28. Results are below 2 ^ 25, the side is at least 2 ^ -17, the tolerance between 2 ^ -20 and 2 ^ -19, and of the five roundings on the left and the three on the right none is off by more than 2 ^ -28.
 use mathlib.Core.Path.{_≡_, refl, _∙_}
 use mathlib.Core.Logic.{_⊎_, inl, inr}
 use mathlib.Core.Bool.{true, false}
@@ -21,7 +21,7 @@ use Rattle.rounding.proofs.Close.{Rounded, rounded}
 use Rattle.rounding.proofs.Sums.{At, AtNear, add-near, neg-at, plus-near}
 use Rattle.rounding.proofs.Order.{le-by-values}
 
--- the format's scale: e is 2 ^ k, and values are moved up by m
+-- the format's scale: e is 2 ^ k units and so 2 ^ -28, results are below 2 ^ 25, and values are moved up by m, 2 ^ 26
 pub record Scale (f : Format) (k e m : ℕ) : Type 0 where
   pub fine : prec f + k < low f + suc (emax f)
   pub error : e ≡ 2 ^ k
@@ -29,7 +29,7 @@ pub record Scale (f : Format) (k e m : ℕ) : Type 0 where
   pub middle : m ≡ 18014398509481984 * e
   pub unit : 2 ^ low f ≡ 268435456 * e
 
--- what an axis and a level have: the side s, the tolerance t, and the displacement d - m
+-- what an axis and a level have: the side s, at least 2 ^ -17 and at most 2 ^ 21, the tolerance t, and the displacement d - m, in size at most 2 ^ 24 + 2 ^ 20 + e
 pub record Line (f : Format) (e m : ℕ) (side tolerance half displacement : Float) (s t d : ℕ) : Type 0 where
   pub side-is : HasValue side false s (2 ^ low f)
   pub tolerance-is : HasValue tolerance false t (2 ^ low f)

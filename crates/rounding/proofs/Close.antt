@@ -14,7 +14,7 @@ use lib.Ieee.Order.{drop, kept}
 use lib.Ieee.Scale.{grid, overflow}
 
 -- ---- a rounded fraction's value, with either sign
-pub kept-le : (p n c : ℕ) → kept p n c ≤ 2 ^ p
+kept-le : (p n c : ℕ) → kept p n c ≤ 2 ^ p
 kept-le p n c =
     let k = drop p n c in
     let u = c * 2 ^ k in
@@ -58,8 +58,11 @@ module _ (f : Format) (k a c : ℕ) (C : 0 < c) (small : a * 2 ^ low f < 2 ^ (pr
   pub grid-over : n ≤ grid f a c * c + 2 ^ k * c
   grid-over = omega (arith, closest-over n (c * 2 ^ j) (mul-pos C (pow-pos j)), unit, step)
 
+  pub grid-most : grid f a c ≤ 2 ^ (prec f + k)
+  grid-most = le-trans (mul-le-mul (kept-le (prec f) n c) (pow-mono j-le)) (le-of-eq (sym (pow-add 2 (prec f) k)))
+
   pub grid-fine : prec f + k < low f + suc (emax f) → grid f a c < overflow f
-  grid-fine fine = lt-of-le-of-lt (le-trans (mul-le-mul (kept-le (prec f) n c) (pow-mono j-le)) (le-of-eq (sym (pow-add 2 (prec f) k)))) (pow-lt fine)
+  grid-fine fine = lt-of-le-of-lt grid-most (pow-lt fine)
 
 -- ---- of a fraction a / h, with a in units
 pub record Rounded (f : Format) (k : ℕ) (x : Float) (s : Bool) (a h : ℕ) : Type 0 where

@@ -3,20 +3,20 @@ use mathlib.Core.Path.{_≡_, refl, sym, ap, _∙_, subst}
 use mathlib.Core.Logic.{_⊎_, inl, inr}
 use mathlib.Core.Bool.{Bool, true, false, not, cond, true≢false}
 use Prim.Native.Nat.{ℕ, zero, suc, _+_, _-_, _*_, _/_, _^_, _≤_, _<_}
-use native.Mathlib.Nat.{le-trans, le-of-eq, le-of-lt, lt-irrefl, lt-of-lt-of-le, lt-of-le-of-lt, div-lt-iff-lt-mul, div-eq-of-lt, zero-div, zero-mul, mul-right-comm, mul-le-mul-right, mul-le-mul-left, mul-le-mul, mul-lt-mul-of-pos-right, add-comm, mul-pos, eq-zero-or-pos, mul-one}
+use native.Mathlib.Nat.{le-trans, le-of-eq, le-of-lt, lt-irrefl, lt-of-lt-of-le, lt-of-le-of-lt, div-lt-iff-lt-mul, div-eq-of-lt, zero-div, zero-mul, mul-right-comm, mul-le-mul-right, mul-le-mul-left, mul-lt-mul-of-pos-right, add-comm, mul-pos, eq-zero-or-pos, mul-one}
 use native.Mathlib.Omega.{arith}
 use lib.IntN.{ℤ, pos, negℤ}
 use lib.Dec.{T, ltb, ltb→lt, nltb→le, lit<}
 use lib.Pow.{pow-add, pow-pos, pow-mono, pow-lt, shl-shr, shr-shr}
 use lib.Ieee.{Float, nan, inf, fin, Format, binary32, binary64, prec, emax, low, up, down, size, odd, units, round}
-use lib.Ieee.Digits.{size-lt, size-le}
+use lib.Ieee.Digits.{size-lt}
 use lib.Ieee.Fits.{round-is, down-pos, up-pos}
 use lib.Ieee.Exact.{HasValue}
 use lib.Ieee.Nearest.{div-same}
 use lib.Ieee.Order.{drop, kept, round-mono}
 use lib.Ieee.Scale.{grid, overflow, grid-scale, normal-of-rounded}
 use lib.Ieee.Positive.{above, positive-of-value, above-of-le}
-use Rattle.rounding.proofs.Close.{kept-le, round-value}
+use Rattle.rounding.proofs.Close.{grid-most, round-value}
 use Rattle.rounding.proofs.Order.{no-size}
 use Rattle.space.specs.Floats.{noFloor, whole, floor}
 
@@ -35,9 +35,6 @@ le-of-not x y h = omega arith
 low-small : (f : Format) (a c : ℕ) → size (a * 2 ^ low f / c) < prec f → grid f a c ≤ 2 ^ (prec f - 1)
 low-small f a c h = le-of-not (2 ^ (prec f - 1)) (grid f a c) (λ (g : 2 ^ (prec f - 1) < grid f a c). lt-irrefl (prec f) (lt-of-le-of-lt (normal-of-rounded f a c g) h))
 
-less : (z p t : ℕ) → z ≤ p + t → z - p ≤ t
-less z p t h = omega arith
-
 -- and 2 ^ t times it to 2 ^ (prec + t) units at most
 low-times : (f : Format) (a c t : ℕ) → 0 < c → size (a * 2 ^ low f / c) < prec f → grid f (a * 2 ^ t) c ≤ 2 ^ (prec f + t)
 low-times f a c t C h =
@@ -48,8 +45,7 @@ low-times f a c t C h =
     let small : n < 2 ^ p * c = div-lt-iff-lt-mul C .0 (lt-of-lt-of-le (size-lt (n / c)) (pow-mono (le-of-lt h))) in
     let small' : n' < 2 ^ (p + t) * c =
     lt-of-le-of-lt (le-of-eq same) (lt-of-lt-of-le (mul-lt-mul-of-pos-right small (pow-pos t)) (le-of-eq (mul-right-comm (2 ^ p) c (2 ^ t) ∙ ap (λ (x : ℕ). x * c) (sym (pow-add 2 p t))))) in
-    let few : drop p n' c ≤ t = less (size (n' / c)) p t (size-le (n' / c) (p + t) (div-lt-iff-lt-mul C .1 small')) in
-    le-trans (mul-le-mul (kept-le p n' c) (pow-mono few)) (le-of-eq (sym (pow-add 2 p t)))
+    grid-most f t (a * 2 ^ t) c C small'
 
 gap : (f : Format) → prec f + 16 < low f
 gap binary32 = lit< tt
