@@ -217,7 +217,7 @@ lohandema_ended lohandema_get_center_length(const double centre[3], double radiu
                                             double middle[3], double *length);
 
 /* adjacent: whether the centres of two cells, of any two levels, are on every axis no further apart than half the sum of their
- * sides and 1e-6. Refused 1, 2, 9 (either key). */
+ * sides and 1e-6. For two cells of one level this is the answer of lohandema_touching. Refused 1, 2, 9 (either key). */
 lohandema_ended lohandema_are_adjacent(const double centre[3], double radius, size_t axes, uint64_t first, uint64_t second,
                                        bool *adjacent);
 

@@ -185,6 +185,7 @@ impl Bounds {
     }
 
     /// Whether two cells of any levels lie side by side, by a test of their centres and sides in f64.
+    /// For two cells of one level this is the answer of [`touching`](crate::keys::touching).
     ///
     /// # Errors
     /// [`DIMS`](Refusal::DIMS); [`BOX`](Refusal::BOX); [`KEY`](Refusal::KEY) if one of the keys is not valid.

@@ -16,6 +16,7 @@ use Rattle.centres.specs.Centres.{tolerance, centreOn, nearAt, areAdjace
 abbrev b4 : Box
 b4 = record { centre = fin false 1 (pos 2) ∷ nan ∷ inf true ∷ []; radius = fin false 1 (pos 2); axes = 1 }
 
-pub neighbours : (areAdjacent b4 3 32771 ≡ Is true) × (areAdjacent b4 3 196611 ≡ Is false)
+-- each pair in both orders
+pub neighbours : (areAdjacent b4 3 32771 ≡ Is true) × (areAdjacent b4 32771 3 ≡ Is true) × (areAdjacent b4 3 196611 ≡ Is false) × (areAdjacent b4 196611 3 ≡ Is false)
 unfolding every nearAt centreOn anchor centresKnown sizeOf le tolerance add sub div mul ofInt
-neighbours = (refl, refl)
+neighbours = (refl, refl, refl, refl)

@@ -1,4 +1,9 @@
+pub mod Examples
+pub mod OneAxis
+pub mod Values
+pub mod Held
+pub mod Agree
+pub mod Applied
 pub mod Literals
 pub mod Centres
 pub mod Answers
-pub mod Examples

@@ -1,1 +1,2 @@
 pub mod Centres
+pub mod Agreement

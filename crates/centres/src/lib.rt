@@ -8,6 +8,7 @@ ghost use Prim.Native.Nat.{_<_};
 ghost use Rattle.slices.specs.Lists.{filled};
 ghost use Rattle.morton.specs.Keys.{levelOf, codeOf, ValidKey};
 ghost use Rattle.morton.specs.Anchors.{anchors as anchorsAt};
+ghost use Rattle.centres.specs.Agreement.{Agree};
 ghost use Rattle.centres.specs.Centres.{keyOutcome, centreOn, sideLength, centreLength, nearOn, areAdjacent};
 
 // The side of a cell at a level.
@@ -100,14 +101,15 @@ fn centres_near(b: Box, first: u64, second: u64) -> bool
     true
 }
 
-// The Rust's test of two cells, of any two levels.
+// The Rust's test of two cells, of any two levels. For a box in the domain and two valid keys of one level it answers what the anchor test answers (agrees).
 pub enum Adjacent {
     Is(bool),
     Refused(Refusal),
 }
 
 pub fn are_adjacent(b: Box, first: u64, second: u64) -> Adjacent
-    ensures { λ r. ⌜ r ≡ areAdjacent b first second ⌝ }
+    ensures answer { λ r. ⌜ r ≡ areAdjacent b first second ⌝ }
+    ensures agrees { λ r. ⌜ Agree b first second r ⌝ }
 {
     let o = key_outcome(b, first);
     if let Outcome::Refused(refusal) = o {

@@ -13,7 +13,7 @@ ghost use Rattle.points.specs.Calls.{pointToAnchor, pointToKey};
 ghost use Rattle.centres.specs.Centres.{sideLength, centreLength, areAdjacent};
 ghost use Rattle.extents.specs.Extents.{treeBox};
 ghost use Rattle.exports_points.specs.Boxes.{boxAt};
-ghost use Rattle.exports_points.specs.Told.{cellEnd, keyIn, sideEnd, sideIn, adjacentEnd, adjacentIn, depthEnd, referenceDepthIn};
+ghost use Rattle.exports_points.specs.Told.{cellEnd, keyIn, sideEnd, sideIn, adjacentEnd, adjacentIn, AgreeTold, depthEnd, referenceDepthIn};
 
 pub fn box_at(centre: &[f64; 3], radius: f64, axes: usize) -> Box
     ensures { λ r. ⌜ r ≡ boxAt (now (centre .entry)) radius axes ⌝ }
@@ -141,6 +141,7 @@ pub extern "C" fn lohandema_are_adjacent(
 ) -> Ended
     ensures ended { λ r. ⌜ r ≡ told (adjacentEnd (areAdjacent (boxAt (now (centre .entry)) radius axes) first second)) ⌝ }
     ensures adjacent { λ _. ⌜ now (adjacent .exit) ≡ adjacentIn (areAdjacent (boxAt (now (centre .entry)) radius axes) first second) ⌝ }
+    ensures agrees { λ r. ⌜ AgreeTold (boxAt (now (centre .entry)) radius axes) first second r (now (adjacent .exit)) ⌝ }
 {
     let b = box_at(centre, radius, axes);
     let answer = centres::are_adjacent(b, first, second);

@@ -130,10 +130,10 @@ in-prec (suc m) e h =
     let x = ltb (suc m * up e) (2 ^ 1024 * down e) in
     ltb→lt (suc m) (2 ^ 53) (and-r a b (and-l (a && b) c (and-l (a && b && c) x h)))
 
-tidy-least : (d n : ℕ) → 1 * d ≤ n * 4 → d ≤ n * 4
+pub tidy-least : (d n : ℕ) → 1 * d ≤ n * 4 → d ≤ n * 4
 tidy-least d n h = omega arith
 
-tidy-most : (d n : ℕ) → n * 1 ≤ 1048576 * d → n ≤ 1048576 * d
+pub tidy-most : (d n : ℕ) → n * 1 ≤ 1048576 * d → n ≤ 1048576 * d
 tidy-most d n h = omega arith
 
 level-le : (l : ℕ) → l ≤ 16 → 2 ^ l ≤ 2 ^ 53
@@ -175,7 +175,7 @@ module _ (m : ℕ) (e : ℤ) (R : Radius (fin false m e)) (p : T (positive (fin 
       ∙ ap (λ (x : ℕ). round binary64 false n (x * 2 ^ l)) (mul-one d)))
       (rounded l L)
 
-radius-positive : (r : Float) → Radius r → T (positive r)
+pub radius-positive : (r : Float) → Radius r → T (positive r)
 radius-positive r R = between (fin false 1 (negsuc 1)) r (fin false 1 (pos 20)) tt tt (R .least) (R .most)
 
 num-pos : (m : ℕ) (e : ℤ) → T (positive (fin false m e)) → 0 < m * up e

@@ -2,20 +2,22 @@
 use mathlib.Core.Path.{_≡_, refl, sym, ap, _∙_, subst}
 use mathlib.Core.Logic.{_⊎_, inl, inr}
 use mathlib.Core.Bool.{Bool, true, false, not, cond, true≢false}
-use Prim.Native.Nat.{ℕ, zero, suc, _+_, _-_, _*_, _/_, _%_, _^_, _≤_, _<_, compare}
-use native.Mathlib.Nat.{le-trans, le-of-eq, le-of-lt, lt-irrefl, lt-of-lt-of-le, lt-of-le-of-lt, div-lt-iff-lt-mul, div-eq-of-lt, div-div-eq-div-mul, zero-div, zero-mul, mul-right-comm, mul-le-mul-right, mul-le-mul-left, mul-le-mul, mul-lt-mul-of-pos-right, add-comm, mul-pos, eq-zero-or-pos, mul-one}
+use Prim.Native.Nat.{ℕ, zero, suc, _+_, _-_, _*_, _/_, _^_, _≤_, _<_}
+use native.Mathlib.Nat.{le-trans, le-of-eq, le-of-lt, lt-irrefl, lt-of-lt-of-le, lt-of-le-of-lt, div-lt-iff-lt-mul, div-eq-of-lt, zero-div, zero-mul, mul-right-comm, mul-le-mul-right, mul-le-mul-left, mul-lt-mul-of-pos-right, add-comm, mul-pos, eq-zero-or-pos, mul-one}
 use native.Mathlib.Omega.{arith}
 use lib.IntN.{ℤ, pos, negℤ}
 use lib.Dec.{T, ltb, ltb→lt, nltb→le, lit<}
 use lib.Pow.{pow-add, pow-pos, pow-mono, pow-lt, shl-shr, shr-shr}
 use lib.Ieee.{Float, nan, inf, fin, Format, binary32, binary64, prec, emax, low, up, down, size, odd, units, round}
-use lib.Ieee.Digits.{size-lt, size-le}
-use lib.Ieee.Fits.{kept-lt, nearest-le, round-is, down-pos, up-pos}
-use lib.Ieee.Exact.{HasValue, units-val}
+use lib.Ieee.Digits.{size-lt}
+use lib.Ieee.Fits.{round-is, down-pos, up-pos}
+use lib.Ieee.Exact.{HasValue}
 use lib.Ieee.Nearest.{div-same}
 use lib.Ieee.Order.{drop, kept, round-mono}
 use lib.Ieee.Scale.{grid, overflow, grid-scale, normal-of-rounded}
 use lib.Ieee.Positive.{above, positive-of-value, above-of-le}
+use Rattle.rounding.proofs.Close.{grid-most, round-value}
+use Rattle.rounding.proofs.Order.{no-size}
 use Rattle.space.specs.Floats.{noFloor, whole, floor}
 
 -- ---- which fractions are in the normal range
@@ -33,15 +35,6 @@ le-of-not x y h = omega arith
 low-small : (f : Format) (a c : ℕ) → size (a * 2 ^ low f / c) < prec f → grid f a c ≤ 2 ^ (prec f - 1)
 low-small f a c h = le-of-not (2 ^ (prec f - 1)) (grid f a c) (λ (g : 2 ^ (prec f - 1) < grid f a c). lt-irrefl (prec f) (lt-of-le-of-lt (normal-of-rounded f a c g) h))
 
-kept-le : (p n den : ℕ) → kept p n den ≤ 2 ^ p
-kept-le p n den =
-    let k = drop p n den in
-    let u = den * 2 ^ k in
-    le-trans (nearest-le (n / u) (compare (n % u * 2) u)) (subst (λ (x : ℕ). x < 2 ^ p) (div-div-eq-div-mul n den (2 ^ k)) (kept-lt p (n / den)))
-
-less : (z p t : ℕ) → z ≤ p + t → z - p ≤ t
-less z p t h = omega arith
-
 -- and 2 ^ t times it to 2 ^ (prec + t) units at most
 low-times : (f : Format) (a c t : ℕ) → 0 < c → size (a * 2 ^ low f / c) < prec f → grid f (a * 2 ^ t) c ≤ 2 ^ (prec f + t)
 low-times f a c t C h =
@@ -52,8 +45,7 @@ low-times f a c t C h =
     let small : n < 2 ^ p * c = div-lt-iff-lt-mul C .0 (lt-of-lt-of-le (size-lt (n / c)) (pow-mono (le-of-lt h))) in
     let small' : n' < 2 ^ (p + t) * c =
     lt-of-le-of-lt (le-of-eq same) (lt-of-lt-of-le (mul-lt-mul-of-pos-right small (pow-pos t)) (le-of-eq (mul-right-comm (2 ^ p) c (2 ^ t) ∙ ap (λ (x : ℕ). x * c) (sym (pow-add 2 p t))))) in
-    let few : drop p n' c ≤ t = less (size (n' / c)) p t (size-le (n' / c) (p + t) (div-lt-iff-lt-mul C .1 small')) in
-    le-trans (mul-le-mul (kept-le p n' c) (pow-mono few)) (le-of-eq (sym (pow-add 2 p t)))
+    grid-most f t (a * 2 ^ t) c C small'
 
 gap : (f : Format) → prec f + 16 < low f
 gap binary32 = lit< tt
@@ -100,11 +92,6 @@ module _ (f : Format) (a c t : ℕ) (C : 0 < c) (small : t ≤ 16) where
       grows : (g p h : ℕ) → 0 < p → h ≡ g * p → g ≤ h
       grows g p h P e = le-trans (le-of-eq (sym (mul-one g))) (le-trans (mul-le-mul-left g P) (le-of-eq (sym e)))
 
--- ---- a rounded fraction's value, with either sign
-pub round-value : (f : Format) (s : Bool) (a c : ℕ) → grid f a c < overflow f → HasValue (round f s a c) s (grid f a c) (2 ^ low f)
-round-value f s a c h =
-    subst (λ (z : Float). HasValue z s (grid f a c) (2 ^ low f)) (sym (round-is f s a c)) (units-val f s (kept (prec f) (a * 2 ^ low f) c) (drop (prec f) (a * 2 ^ low f) c) h)
-
 never : (z : ℤ) → noFloor ≡ whole z → ⊥
 never z e = let k : _≡_ {A = ℕ} 0 1 = cc in omega arith
 
@@ -135,16 +122,13 @@ ceil-zero d D = div-eq-of-lt (go d D)
     go : (d : ℕ) → 0 < d → 0 + (d - 1) < d
     go d D = omega arith
 
-none-left : (n d : ℕ) → 0 < d → n * d ≡ 0 → n ≡ 0
-none-left n d D e = elim (eq-zero-or-pos n) [ inl z ↦ z | inr p ↦ absurd (lt-irrefl 0 (subst (λ (k : ℕ). 0 < k) e (mul-pos p D))) ]
-
 pub floor-minus-zero : (x : Float) (d : ℕ) → 0 < d → HasValue x true 0 d → floor x ≡ whole (pos 0)
 unfolding floor
 floor-minus-zero nan d D h = absurd h
 floor-minus-zero (inf s) d D h = absurd h
 floor-minus-zero (fin false m e) d D h = absurd (true≢false (sym (h .0)))
 floor-minus-zero (fin true m e) d D h =
-    let z : m * up e ≡ 0 = none-left (m * up e) d D (h .1 ∙ zero-mul (down e)) in
+    let z : m * up e ≡ 0 = no-size (m * up e) d D (h .1 ∙ zero-mul (down e)) in
     ap (λ (n : ℕ). whole (negℤ (pos ((n + (down e - 1)) / down e)))) z ∙ ap (λ (k : ℕ). whole (negℤ (pos k))) (ceil-zero (down e) (down-pos e))
 
 -- a negative value whose floor is not negative is -0
@@ -166,7 +150,7 @@ minus-floor (fin false m e) g d a D h i = absurd (true≢false (sym (h .0)))
 minus-floor (fin true m e) g d a D h i =
     let o = opposite ((m * up e + (down e - 1)) / down e) a i in
     let z : m * up e ≡ 0 = ceil-back (m * up e) (down e) (down-pos e) (o .0) in
-    (none-left g (down e) (down-pos e) (sym (h .1) ∙ ap (λ (k : ℕ). k * d) z ∙ zero-mul d), o .1)
+    (no-size g (down e) (down-pos e) (sym (h .1) ∙ ap (λ (k : ℕ). k * d) z ∙ zero-mul d), o .1)
 
 -- ---- where 2 ^ t times a fraction rounds to zero, so does the fraction
 above-zero : (x : Float) (d : ℕ) → 0 < d → HasValue x false 0 d → T (above x) → ⊥
@@ -174,7 +158,7 @@ above-zero nan d D h p = h
 above-zero (inf s) d D h p = h
 above-zero (fin true m e) d D h p = p
 above-zero (fin false m e) d D h p =
-    lt-irrefl 0 (lt-of-lt-of-le (mul-pos (ltb→lt 0 m p) (up-pos e)) (le-of-eq (none-left (m * up e) d D (h .1 ∙ zero-mul (down e)))))
+    lt-irrefl 0 (lt-of-lt-of-le (mul-pos (ltb→lt 0 m p) (up-pos e)) (le-of-eq (no-size (m * up e) d D (h .1 ∙ zero-mul (down e)))))
 
 module _ (f : Format) (a c t : ℕ) (C : 0 < c) (small : t ≤ 16) where
   shrinks : a * c ≤ a * 2 ^ t * c

@@ -1,6 +1,6 @@
 -- A number's size, by two tests: equal to 0, and below 0.
 use mathlib.Core.Path.{_≡_, refl, sym, ap, _∙_, subst}
-use mathlib.Core.Bool.{true, false, true≢false}
+use mathlib.Core.Bool.{Bool, true, false, true≢false}
 use Prim.Native.Nat.{ℕ, zero, suc, _+_, _*_, _^_, _≤_, _<_}
 use native.Mathlib.Nat.{mul-pos, lt-irrefl, mul-one, one-mul}
 use native.Mathlib.Omega.{arith}
@@ -9,6 +9,7 @@ use lib.Dec.{eqb}
 use lib.Pow.{pow-pos}
 use lib.Ieee.{Float, nan, inf, fin, binary64, up, down, lt, eq, neg, fits, ofBits}
 use lib.Ieee.Fits.{up-pos}
+use lib.Ieee.Exact.{HasValue}
 use borrow.Author.Tests.{eqb-true, ltb-true, ltb-false, eq-eqb}
 use Rattle.slices.proofs.Tests.{and-l, both, clash}
 use Rattle.space.specs.Floats.{sizeOf}
@@ -66,3 +67,10 @@ size-minus x h = minus x (rw zero-is at h)
 
 pub size-plus : (x : Float) → eq x (ofBits binary64 0) ≡ false → lt x (ofBits binary64 0) ≡ false → x ≡ sizeOf x
 size-plus x g h = plus x (rw zero-is at g) (rw zero-is at h)
+
+-- a size has the value with its sign off
+pub size-value : (x : Float) (s : Bool) (a u : ℕ) → HasValue x s a u → HasValue (sizeOf x) false a u
+unfolding sizeOf
+size-value nan s a u h = absurd h
+size-value (inf z) s a u h = absurd h
+size-value (fin z m e) s a u h = (refl, h .1)

@@ -1,4 +1,4 @@
--- `space::are_adjacent` meets its contract: the box, the first key and the second are checked, in this order.
+-- `centres::are_adjacent` meets its contract: the box, the first key and the second are checked, in this order; and what it answers agrees (`proofs/Agree.antt`).
 use mathlib.Core.Path.{sym, ap, _∙_}
 use Rattle.morton.specs.Keys.{ValidKey}
 use Rattle.morton.proofs.Checks.{checked}
@@ -6,6 +6,8 @@ use Rattle.centres.specs.declared.Adjacent.the-variants.{Is}
 use Rattle.centres.specs.Centres.{isOr, nearOn}
 use Rattle.space.proofs.Refusals.{Fine}
 use Rattle.centres.proofs.Centres.{key-done, keys-refused, keys-checked}
+use Rattle.centres.proofs.Held.{held}
+use Rattle.centres.proofs.Agree.{promised}
 use borrow.Author.Needs.{needs}
 use Rattle.centres.proofs.are_adjacent.Statement.{statement}
 use Rattle.centres.proofs.are_adjacent.Tie as tie
@@ -21,7 +23,9 @@ returns c =
     let b = c .before .before .before .before .args .b in
     let j = c .before .before .before .before .args .first in
     let k = c .before .before .before .before .args .second in
-    ap (λ o. isOr o (nearOn (b .axes) b j k)) (keys-refused b k j (c .before .o .given .0 .0) (sym (c .before .before .before .key-outcome .ensures) ∙ c .before .o .given .1))
+    let g = c .before .before .before .before .good .0 .1 .1 in
+    promised b j k _ (held b (g .0 .0) (g .1 .0 .1) (g .0 .1 .1))
+    (ap (λ o. isOr o (nearOn (b .axes) b j k)) (keys-refused b k j (c .before .o .given .0 .0) (sym (c .before .before .before .key-outcome .ensures) ∙ c .before .o .given .1)))
 
 enum-told : tie.Need-enum-told
 enum-told c = search needs
@@ -47,17 +51,21 @@ returns-2 c =
     let b = c .before .before .before .before .before .before .before .args .b in
     let j = c .before .before .before .before .before .before .before .args .first in
     let k = c .before .before .before .before .before .before .before .args .second in
-    ap (λ o. isOr o (nearOn (b .axes) b j k))
-    (sym (c .before .p .given .1) ∙ c .before .before .before .check-key .ensures ∙ keys-checked b k j (done (c .before .before .before .before) .0) (sym (c .before .before .before .before .before .before .key-outcome .ensures) ∙ c .before .before .before .before .enum-told .given .1))
+    let g = c .before .before .before .before .before .before .before .good .0 .1 .1 in
+    promised b j k _ (held b (g .0 .0) (g .1 .0 .1) (g .0 .1 .1))
+    (ap (λ o. isOr o (nearOn (b .axes) b j k))
+    (sym (c .before .p .given .1) ∙ c .before .before .before .check-key .ensures ∙ keys-checked b k j (done (c .before .before .before .before) .0) (sym (c .before .before .before .before .before .before .key-outcome .ensures) ∙ c .before .before .before .before .enum-told .given .1)))
 
 returns-3 : tie.Need-returns-3
 returns-3 c =
     let b = c .before .before .before .before .before .before .before .args .b in
     let j = c .before .before .before .before .before .before .before .args .first in
     let k = c .before .before .before .before .before .before .before .args .second in
-    ap Is (c .centres-near .ensures)
+    let g = c .before .before .before .before .before .before .before .good .0 .1 .1 in
+    promised b j k _ (held b (g .0 .0) (g .1 .0 .1) (g .0 .1 .1))
+    (ap Is (c .centres-near .ensures)
     ∙ ap (λ o. isOr o (nearOn (b .axes) b j k))
-    (sym (c .before .enum-told2 .given .1) ∙ c .before .before .before .check-key .ensures ∙ keys-checked b k j (done (c .before .before .before .before) .0) (sym (c .before .before .before .before .before .before .key-outcome .ensures) ∙ c .before .before .before .before .enum-told .given .1))
+    (sym (c .before .enum-told2 .given .1) ∙ c .before .before .before .check-key .ensures ∙ keys-checked b k j (done (c .before .before .before .before) .0) (sym (c .before .before .before .before .before .before .key-outcome .ensures) ∙ c .before .before .before .before .enum-told .given .1)))
 
 pub are-adjacent-spec : {M : Type 1} → statement M
 are-adjacent-spec =

@@ -1,0 +1,5 @@
+pub mod Moved
+pub mod Close
+pub mod Sums
+pub mod Order
+pub mod Units
