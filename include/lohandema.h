@@ -216,8 +216,9 @@ lohandema_ended lohandema_get_side_length(const double centre[3], double radius,
 lohandema_ended lohandema_get_center_length(const double centre[3], double radius, size_t axes, uint64_t key,
                                             double middle[3], double *length);
 
-/* adjacent: whether the centres of two cells, of any two levels, are on every axis no further apart than half the sum of their
- * sides and 1e-6. For two cells of one level this is the answer of lohandema_touching. Refused 1, 2, 9 (either key). */
+/* adjacent: whether the centres of two cells, of any two levels, are on every axis at most 1e-6 more than half the sum of their
+ * sides apart: cells that touch or overlap. For two cells of one level this is proved to be the answer of lohandema_touching
+ * wherever neither call refuses; of two levels that is always no, and this need not be. Refused 1, 2, 9 (either key). */
 lohandema_ended lohandema_are_adjacent(const double centre[3], double radius, size_t axes, uint64_t first, uint64_t second,
                                        bool *adjacent);
 

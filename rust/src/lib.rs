@@ -9,7 +9,7 @@
 //! The calls are proved functions, linked as a static archive. This crate, which is tested and not proved, adds types,
 //! slices and vectors; it works out only how much room to lend and which nodes are nobody's parent. Modules:
 //!
-//! - [`keys`]: level, parent, children, neighbours, encode and decode.
+//! - [`keys`]: level, parent, children, neighbours, touching, encode and decode.
 //! - [`points`]: the box, a point's cell, the float test of two cells.
 //! - [`trees`]: a tree, its leaves, lookup, grouping, sourced cells, lists.
 //! - [`lent`]: the calls that write, on slices of the caller's own: nothing is allocated.

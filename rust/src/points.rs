@@ -184,8 +184,23 @@ impl Bounds {
         answered(ended, (middle, length))
     }
 
-    /// Whether two cells of any levels lie side by side, by a test of their centres and sides in f64.
-    /// For two cells of one level this is the answer of [`touching`](crate::keys::touching).
+    /// Whether two cells of any levels touch or overlap, by a test of their centres and sides in f64.
+    /// For two cells of one level this is proved to be the answer of [`touching`](crate::keys::touching) wherever neither
+    /// call refuses; of two levels `touching` is always no, and this need not be.
+    ///
+    /// ```
+    /// use lohandema::{Bounds, keys};
+    ///
+    /// let b = Bounds::new(&[4.0], 4.0);
+    /// // two cells of level 3: side by side, and with one between them
+    /// assert_eq!(b.are_adjacent(3, 32771), Ok(true));
+    /// assert_eq!(keys::touching(1, 3, 32771), Ok(true));
+    /// assert_eq!(b.are_adjacent(3, 65539), Ok(false));
+    /// assert_eq!(keys::touching(1, 3, 65539), Ok(false));
+    /// // the root and a cell in it
+    /// assert_eq!(b.are_adjacent(0, 3), Ok(true));
+    /// assert_eq!(keys::touching(1, 0, 3), Ok(false));
+    /// ```
     ///
     /// # Errors
     /// [`DIMS`](Refusal::DIMS); [`BOX`](Refusal::BOX); [`KEY`](Refusal::KEY) if one of the keys is not valid.
