@@ -27,7 +27,7 @@ use Rattle.space.specs.Domain.{boxOutcome}
 use Rattle.space.specs.Cells.{displacement, side}
 use Rattle.centres.specs.Centres.{keyOutcome, keysOutcome, half, tolerance, centreOn, reach, nearAt, nearOn}
 use Rattle.space.proofs.Literals.{zero-is}
-use Rattle.centres.proofs.Literals.{half-is, tolerance-is}
+use Rattle.centres.proofs.Literals.{half-is}
 use Rattle.space.proofs.Patterns.{le→leb}
 use Rattle.space.proofs.Refusals.{Fine, fine}
 
@@ -61,17 +61,17 @@ module _ (b : Box) (j k : ℕ) where
     pub apart : d ≡ sizeOf (sub binary64 y x)
     pub length : l ≡ reach b j k
 
-  test-is : (m : ℕ) (x y d l : Float) → Axis m x y d l → nearAt b j k m ≡ le d (add binary64 (ofBits binary64 4517329193108106637) l)
+  test-is : (m : ℕ) (x y d l q : Float) → q ≡ tolerance → Axis m x y d l → nearAt b j k m ≡ le d (add binary64 q l)
   unfolding nearAt
-  test-is m x y d l a = sym (
-      ap₂ (λ p q. le p (add binary64 q l)) (a .apart ∙ ap₂ (λ p q. sizeOf (sub binary64 p q)) (a .second) (a .first)) tolerance-is
+  test-is m x y d l q i a = sym (
+      ap₂ (λ p q. le p (add binary64 q l)) (a .apart ∙ ap₂ (λ p q. sizeOf (sub binary64 p q)) (a .second) (a .first)) i
       ∙ ap (λ q. le (sizeOf (sub binary64 (centreOn b (levelOf k) (codeOf k) m) (centreOn b (levelOf j) (codeOf j) m))) (add binary64 tolerance q)) (a .length))
 
-  pub near-next : (n m : ℕ) (x y d l : Float) → n ≡ m + 1 → Axis m x y d l → le d (add binary64 (ofBits binary64 4517329193108106637) l) ≡ true → nearOn m b j k ≡ nearOn n b j k
-  near-next n m x y d l e a h = sym (every-next (nearAt b j k) n m e (test-is m x y d l a ∙ h))
+  pub near-next : (n m : ℕ) (x y d l q : Float) → q ≡ tolerance → n ≡ m + 1 → Axis m x y d l → le d (add binary64 q l) ≡ true → nearOn m b j k ≡ nearOn n b j k
+  near-next n m x y d l q i e a h = sym (every-next (nearAt b j k) n m e (test-is m x y d l q i a ∙ h))
 
-  pub near-stop : (n m : ℕ) (x y d l : Float) → n ≡ m + 1 → Axis m x y d l → le d (add binary64 (ofBits binary64 4517329193108106637) l) ≡ false → false ≡ nearOn n b j k
-  near-stop n m x y d l e a h = sym (every-fails (nearAt b j k) n m e (test-is m x y d l a ∙ h))
+  pub near-stop : (n m : ℕ) (x y d l q : Float) → q ≡ tolerance → n ≡ m + 1 → Axis m x y d l → le d (add binary64 q l) ≡ false → false ≡ nearOn n b j k
+  near-stop n m x y d l q i e a h = sym (every-fails (nearAt b j k) n m e (test-is m x y d l q i a ∙ h))
 
   pub near-none : (n : ℕ) → n ≡ 0 → true ≡ nearOn n b j k
   near-none n e = sym (every-none (nearAt b j k) n e)

@@ -1,4 +1,4 @@
--- One axis, with every operation at most 2 ^ k units off: centres of cells whose anchors are 1 apart differ by no more than the side and the tolerance, and those of cells 2 apart or more by more.
+-- One axis, with every operation at most 2 ^ k units off: centres of cells whose anchors are at most 1 apart differ by no more than the side and the tolerance, and those of cells 2 apart or more by more.
 -- In binary64 2 ^ k units, the e below, are 2 ^ -28. Results are below 2 ^ 25, the side is at least 2 ^ -17, the tolerance between 2 ^ -20 and 2 ^ -19, and of the five roundings on the left and the three on the right none is off by more than 2 ^ -28.
 use mathlib.Core.Path.{_≡_, refl, _∙_}
 use mathlib.Core.Logic.{_⊎_, inl, inr}

@@ -20,7 +20,7 @@ use Rattle.centres.specs.declared.Adjacent.{Adjacent}
 use Rattle.centres.specs.declared.Adjacent.the-variants as adjacent
 use Rattle.centres.specs.Agreement.{OneLevel}
 use Rattle.exports_keys.specs.declared.Ended.{Ended}
-use Rattle.exports_keys.specs.Told.{told, touchIn}
+use Rattle.exports_keys.specs.Told.{told, touchEnd, touchIn}
 
 abbrev pub cellEnd : PointKey → Outcome
 cellEnd (point.Cell k) = Done
@@ -46,9 +46,9 @@ abbrev pub adjacentIn : Adjacent → Bool
 adjacentIn (adjacent.Is b) = b
 adjacentIn (adjacent.Refused r) = false
 
--- document 02, "The float test agrees": for a box in the domain and two valid keys of one level the call is not refused, and its yes or no is the anchor test's
+-- document 02, "The float test agrees": for a box in the domain and two valid keys of one level neither test is refused, and the call's yes or no is the anchor test's
 abbrev pub AgreeTold : Box → ℕ → ℕ → Ended → Bool → Type 0
-AgreeTold b j k ended adjacent = OneLevel b j k → (ended ≡ told Done) × (adjacent ≡ touchIn (touchingAnswer (b .axes) j k))
+AgreeTold b j k ended adjacent = OneLevel b j k → (ended ≡ told Done) × (told (touchEnd (touchingAnswer (b .axes) j k)) ≡ told Done) × (adjacent ≡ touchIn (touchingAnswer (b .axes) j k))
 
 -- ---- the reference depth: 1 DIMS, else the depth
 abbrev pub depthEnd : ℕ → Outcome

@@ -24,7 +24,7 @@ pub round-value : (f : Format) (s : Bool) (a c : ℕ) → grid f a c < overflow 
 round-value f s a c h =
     subst (λ (z : Float). HasValue z s (grid f a c) (2 ^ low f)) (sym (round-is f s a c)) (units-val f s (kept (prec f) (a * 2 ^ low f) c) (drop (prec f) (a * 2 ^ low f) c) h)
 
--- ---- a whole number of u's near to n: neither u more nor u less
+-- ---- a whole number of u's near to n: at most u more or less
 module _ (n u : ℕ) (U : 0 < u) where
   closest-under : closest n u * u ≤ n + u
   closest-under = omega (arith, mul-le-mul-right u (nearest-le (n / u) (compare (n % u * 2) u)), div-add-mod' n u)

@@ -1,4 +1,4 @@
--- `space::centre_on` meets its contract: the operations are those of the definition.
+-- `centres::centre_on` meets its contract: the operations are those of the definition.
 use mathlib.Core.Path.{ap, _∙_}
 use native.Mathlib.Omega.{arith}
 use Rattle.space.specs.Cells.{side}

@@ -1,11 +1,11 @@
--- `space::centres_near` meets its contract: the axes not yet seen decide.
+-- `centres::centres_near` meets its contract: the axes not yet seen decide.
 use mathlib.Core.Path.{_≡_, refl, ap, _∙_}
 use Prim.Native.Nat.{_-_, _≤_}
 use native.Mathlib.Omega.{arith}
 use lib.Ieee.{binary64, add, mul, ofBits}
 use borrow.Author.Tests.{not-true, not-false}
 use Rattle.space.specs.Cells.{side}
-use Rattle.centres.specs.Centres.{nearOn}
+use Rattle.centres.specs.Centres.{nearOn, tolerance}
 use Rattle.centres.proofs.Centres.{Axis, reach-is, near-next, near-stop, near-none}
 use borrow.Author.Needs.{needs}
 use Rattle.centres.proofs.centres_near.Statement.{statement}
@@ -65,18 +65,20 @@ axis c =
     }
 
 returns : tie.Need-returns Inv-loop μ-loop
+unfolding ofBits tolerance lib.Ieee.round
 returns c =
     let n = c .before .before .before .before .before .loop .n in
-    near-stop (c .before .before .before .before .before .before .before .before .before .before .before .before .args .b) (c .before .before .before .before .before .before .before .before .before .before .before .before .args .first) (c .before .before .before .before .before .before .before .before .before .before .before .before .args .second) n (n - 1) _ _ _ _ (omega (arith, c .before .before .before .before .loop-test .taken)) (axis (c .before)) (not-true _ (c .if1 .taken)) ∙ c .before .before .before .before .before .loop .inv .1
+    near-stop (c .before .before .before .before .before .before .before .before .before .before .before .before .args .b) (c .before .before .before .before .before .before .before .before .before .before .before .before .args .first) (c .before .before .before .before .before .before .before .before .before .before .before .before .args .second) n (n - 1) _ _ _ _ _ refl (omega (arith, c .before .before .before .before .loop-test .taken)) (axis (c .before)) (not-true _ (c .if1 .taken)) ∙ c .before .before .before .before .before .loop .inv .1
 
 loop-less : tie.Need-loop-less Inv-loop μ-loop
 loop-less c = search needs
 
 loop-again : tie.Need-loop-again Inv-loop μ-loop
+unfolding ofBits tolerance lib.Ieee.round
 loop-again c =
     let n = c .before .before .before .before .before .loop .n in (
       omega (arith, c .before .before .before .before .before .loop .inv .0),
-      near-next (c .before .before .before .before .before .before .before .before .before .before .before .before .args .b) (c .before .before .before .before .before .before .before .before .before .before .before .before .args .first) (c .before .before .before .before .before .before .before .before .before .before .before .before .args .second) n (n - 1) _ _ _ _ (omega (arith, c .before .before .before .before .loop-test .taken)) (axis (c .before)) (not-false _ (c .if1 .left)) ∙ c .before .before .before .before .before .loop .inv .1,
+      near-next (c .before .before .before .before .before .before .before .before .before .before .before .before .args .b) (c .before .before .before .before .before .before .before .before .before .before .before .before .args .first) (c .before .before .before .before .before .before .before .before .before .before .before .before .args .second) n (n - 1) _ _ _ _ _ refl (omega (arith, c .before .before .before .before .loop-test .taken)) (axis (c .before)) (not-false _ (c .if1 .left)) ∙ c .before .before .before .before .before .loop .inv .1,
     )
 
 returns-2 : tie.Need-returns-2 Inv-loop μ-loop

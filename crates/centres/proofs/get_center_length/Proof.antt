@@ -1,4 +1,4 @@
--- `space::get_center_length` meets its contract.
+-- `centres::get_center_length` meets its contract.
 use mathlib.Core.Path.{sym, ap, _∙_}
 use native.Mathlib.Omega.{arith}
 use lib.Dec.{lit<}

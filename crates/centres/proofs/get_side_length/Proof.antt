@@ -1,4 +1,4 @@
--- `space::get_side_length` meets its contract.
+-- `centres::get_side_length` meets its contract.
 use mathlib.Core.Path.{sym, ap, _∙_}
 use Rattle.space.specs.Cells.{side}
 use Rattle.centres.specs.declared.SideLength.the-variants.{Side}

@@ -1,4 +1,4 @@
--- `space::key_outcome` meets its contract: the box is checked first, then the key.
+-- `centres::key_outcome` meets its contract: the box is checked first, then the key.
 use mathlib.Core.Path.{sym, _∙_}
 use Rattle.centres.proofs.Centres.{key-box-refused, key-checked}
 use borrow.Author.Needs.{needs}

@@ -1,4 +1,4 @@
--- `space::point_to_anchor` meets its contract: the refusals in their order, and the cells nest (`proofs/Nesting.antt`).
+-- `points::point_to_anchor` meets its contract: the refusals in their order, and the cells nest (`proofs/Nesting.antt`).
 use mathlib.Core.Path.{_≡_, sym, ap, _∙_}
 use Prim.Native.Nat.{_≤_}
 use native.Mathlib.Omega.{arith}
