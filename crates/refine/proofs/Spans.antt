@@ -18,7 +18,7 @@ use Rattle.morton.proofs.Cells.{key-level, key-code}
 use Rattle.refine.specs.Counts.{countAt}
 
 -- a code is from code · 2^w up to (code + 1) · 2^w exactly if it is this code, w bits longer
-in-span : (w code c : ℕ) → (leb (code * 2 ^ w) c && ltb c ((code + 1) * 2 ^ w)) ≡ eqb (c / 2 ^ w) code
+pub in-span : (w code c : ℕ) → (leb (code * 2 ^ w) c && ltb c ((code + 1) * 2 ^ w)) ≡ eqb (c / 2 ^ w) code
 in-span w code c = same-test _ _ into from
   where
     into : (leb (code * 2 ^ w) c && ltb c ((code + 1) * 2 ^ w)) ≡ true → eqb (c / 2 ^ w) code ≡ true

@@ -10,10 +10,10 @@ ghost use Rattle.refine.specs.Counts.{countAt, targetsIn};
 ghost use Rattle.refine.specs.Refinement.{nearLimit, lifted as liftedAbove, countsAround, aroundBy, factor as factorOf, splitsAt, Refinable};
 
 // The counts around a cell: how many peers, the sum of their counts, and the sum of the counts' squares.
-struct Around {
-    peers: usize,
-    sum: usize,
-    squares: usize,
+pub struct Around {
+    pub peers: usize,
+    pub sum: usize,
+    pub squares: usize,
 }
 
 // The least depth whose cells are at least as many as the sources, held to 1..16.
@@ -65,7 +65,7 @@ fn target_count(axes: usize, targets: &[u64], key: u64) -> usize
 }
 
 // A cell at or below the reference depth is replaced by its ancestor one level above that depth.
-fn lifted(axes: usize, key: u64, depth: u64) -> u64
+pub fn lifted(axes: usize, key: u64, depth: u64) -> u64
     requires { ⌜ ValidKey axes key × (1 ≤ depth) ⌝ }
     ensures { λ r. ⌜ r ≡ liftedAbove axes depth key ⌝ }
 {

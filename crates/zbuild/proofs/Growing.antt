@@ -1,0 +1,118 @@
+-- From the work as it is laid out to what the growth asks for.
+use mathlib.Core.Path.{_≡_, refl, sym, ap, subst, _∙_}
+use mathlib.Core.Bool.{true}
+use mathlib.Core.List.{List, [], _∷_}
+use Prim.Native.Nat.{ℕ, zero, suc, _+_, _*_, _-_, _^_, _≤_, _<_}
+use native.Mathlib.Omega.{arith}
+use lib.Ieee.{Float}
+use lib.ListN.{length, getD, take, drop}
+use lib.Seq.{slice, length-slice}
+use Rattle.slices.specs.Order.{Sorted, ascending}
+use Rattle.slices.proofs.Order.{ascending-sorted}
+use Rattle.axes.proofs.Known.{axes-known}
+use Rattle.codes.proofs.Codes.{encode-lt}
+use Rattle.morton.specs.Keys.{axesKnown}
+use Rattle.morton.specs.Depth.{referenceDepth}
+use Rattle.space.specs.declared.Box.{Box}
+use Rattle.space.specs.declared.Frame.{Frame}
+use Rattle.space.specs.Cells.{frameOf, anchors16, code16}
+use Rattle.space.specs.Rows.{rowsOf}
+use Rattle.space.proofs.Batches.{codes-length, code-at-row}
+use Rattle.growth.proofs.Arranged.{Codes}
+use Rattle.dealing.proofs.Frames.{slice-at}
+use Rattle.zrefine.specs.Sums.{Sums, Summable}
+use Rattle.zrefine.proofs.Made.{summable}
+use Rattle.laying.specs.Points.{codesOf}
+use Rattle.laying.proofs.Prepared.{Passed}
+use Rattle.zlaying.specs.Layout.{PointsLaid}
+use Rattle.zgrow.specs.Steps.{Coded}
+use Rattle.zbuild.specs.Asked.{Asked, ruleOf}
+use Rattle.zbuild.specs.Summing.{Sourced, SumsMade}
+
+-- a part that is lent is the slice up to its end
+pub slice-lent : (a t e : ℕ) (s : List ℕ) → e ≡ a + t → take t (drop a s) ≡ slice a e s
+slice-lent zero t e s h = let q : t ≡ e = omega (arith, h) in ap (λ (n : ℕ). take n s) q
+slice-lent (suc a) t zero s h = absurd (omega (arith, h))
+slice-lent (suc a) zero (suc e) [] h = refl
+slice-lent (suc a) (suc t) (suc e) [] h = refl
+slice-lent (suc a) t (suc e) (x ∷ xs) h = slice-lent a t e xs (omega (arith, h))
+
+-- ---- the codes of points
+code-lt : (f : Frame) (xs : List Float) → code16 f xs < 2 ^ (f .axes * 16)
+unfolding code16
+code-lt f xs = encode-lt (f .axes) 16 (anchors16 f xs)
+
+pub codes-lt : (b : Box) (xs : List Float) → Codes (b .axes) (codesOf b xs)
+codes-lt b xs i h =
+    let l : i < rowsOf b xs = omega (arith, h, codes-length (rowsOf b xs) (frameOf b) xs) in
+    subst (λ (c : ℕ). c < 2 ^ (b .axes * 16)) (sym (code-at-row (rowsOf b xs) i (frameOf b) xs l)) (code-lt (frameOf b) (drop (i * b .axes) xs))
+
+-- ---- the sums of the sources
+module _ (d rows : ℕ) (work : List ℕ) (room : ℕ) (q : Sourced d rows work room) where
+  part-is : take (rows + rows - rows) (drop rows work) ≡ slice rows (2 * rows) work
+  part-is = slice-lent rows (rows + rows - rows) (2 * rows) work (omega arith)
+
+  size : length (slice rows (2 * rows) work) ≡ rows
+  size = length-slice rows (2 * rows) work (q .inside) ∙ omega arith
+
+  pub sources-summable : (depth : ℕ) → depth ≡ referenceDepth d rows → Summable d depth (take (rows + rows - rows) (drop rows work)) room
+  sources-summable depth e =
+      subst (λ (xs : List ℕ). Summable d depth xs room) (sym part-is)
+      (summable d depth (slice rows (2 * rows) work) room (q .most) (e ∙ ap (referenceDepth d) (sym size)) (omega (arith, size, q .few))
+      (λ i h. subst (λ (x : ℕ). x < 2 ^ (d * 16)) (sym (slice-at rows (2 * rows) work i (omega (arith, h, size)))) (q .below i (omega (arith, h, size))))
+      (omega (arith, size, q .fits)))
+
+  pub sums-made : (marks depth : ℕ) (sums : List ℕ) → depth ≡ referenceDepth d rows → Sums d depth (take (rows + rows - rows) (drop rows work)) sums → SumsMade d rows marks work depth sums
+  sums-made marks depth sums e made = record { deep = λ _. e; made = λ _. subst (λ (xs : List ℕ). Sums d depth xs sums) part-is made }
+
+module _ (a : Asked) (room : ℕ) (p : Passed (a .box) (a .sources) (a .targets) (a .order) room) where
+  abbrev s : List ℕ
+  s = codesOf (a .box) (a .sources)
+
+  abbrev t : List ℕ
+  t = codesOf (a .box) (a .targets)
+
+  abbrev n : ℕ
+  n = rowsOf (a .box) (a .sources)
+
+  abbrev k : ℕ
+  k = rowsOf (a .box) (a .targets)
+
+  s-long : length s ≡ n
+  s-long = codes-length n (frameOf (a .box)) (a .sources)
+
+  pub sources-few : length (codesOf (a .box) (a .sources)) ≤ 1048576
+  sources-few = omega (arith, s-long, p .call .few)
+
+  some-targets : 0 < rowsOf (a .box) (a .targets) → a .order ≤ 64
+  some-targets h = p .call .fits (omega (arith, h, native.Mathlib.Nat.div-le-self (length (a .targets)) (a .box .axes)))
+
+  pub box-known : axesKnown (a .box .axes) ≡ true
+  box-known = axes-known (a .box .axes) (p .call .box .least) (p .call .box .most)
+
+  module _ (work : List ℕ) (len : length work ≡ room) (laid : PointsLaid (a .box) (a .sources) (a .targets) work) where
+    sources-below : (i : ℕ) → i < rowsOf (a .box) (a .sources) → getD work (rowsOf (a .box) (a .sources) + i) 0 < 2 ^ (a .box .axes * 16)
+    sources-below i h =
+        subst (λ (x : ℕ). x < 2 ^ (a .box .axes * 16)) (ap (λ (xs : List ℕ). getD xs i 0) (sym (laid .sources-at)) ∙ slice-at n (2 * n) work i (omega arith)) (codes-lt (a .box) (a .sources) i (omega (arith, s-long)))
+
+    pub work-sourced : (order : ℕ) → rowsOf (a .box) (a .sources) ≤ order → Sourced (a .box .axes) (rowsOf (a .box) (a .sources)) work order
+    work-sourced order h = record { most = p .call .box .most; few = p .call .few; inside = omega (arith, p .room, len); below = sources-below; fits = h }
+
+    pub targets-are : take (rowsOf (a .box) (a .targets)) (drop (2 * rowsOf (a .box) (a .sources)) work) ≡ ascending (codesOf (a .box) (a .targets))
+    targets-are = slice-lent (2 * n) k (2 * n + k) work refl ∙ laid .targets-at
+
+    pub work-coded : (nodes depth : ℕ) (sums : List ℕ) → SumsMade (a .box .axes) (rowsOf (a .box) (a .sources)) (rowsOf (a .box) (a .targets)) work depth sums
+        → Coded (ruleOf a) (record { sources = rowsOf (a .box) (a .sources); targets = rowsOf (a .box) (a .targets); room = nodes; depth = depth; sums = sums }) work
+    work-coded nodes depth sums made = record {
+      known = box-known;
+      few = p .call .few;
+      beside = omega (arith, p .room, len);
+      codes = sources-below;
+      refined = λ h. record {
+        order = some-targets h;
+        few = p .call .fewer;
+        sorted = subst Sorted (sym targets-are) (ascending-sorted t);
+        deep = made .deep h;
+        sums = made .made h;
+      };
+    }

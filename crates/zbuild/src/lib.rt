@@ -1,0 +1,232 @@
+// The tree grown from points: `build_tree` of `linear_tree.rs`, without its lists.
+use growth::Rule;
+use refusal::Outcome;
+use refusal::Refusal;
+use space::Box;
+use zgrow::Sizes;
+ghost use mathlib.Core.Path.{_≡_};
+ghost use mathlib.Core.List.{_++_};
+ghost use Prim.Native.Nat.{_-_, _≤_, min};
+ghost use lib.ListN.{length, take, replicate};
+ghost use Rattle.refusal.specs.declared.Outcome.the-variants.{Done};
+ghost use Rattle.ztree.specs.Order.{depthOf};
+ghost use Rattle.zbuild.specs.Asked.{used, asks, asksFor};
+ghost use Rattle.zbuild.specs.Outcomes.{nodeRoom, rooms, buildCheck, buildAnswer, orderLeft, keysLeft, ownLeft, beginsLeft, totalsLeft, BuiltSlices};
+ghost use Rattle.zbuild.specs.Summing.{Sourced, SumsMade, indices as indicesOf};
+
+pub const MOST_NODES: usize = 1048576;
+
+// The number of nodes and the depth, or why there is no tree.
+pub enum Built {
+    Tree(usize, u64),
+    Refused(Refusal),
+}
+
+// The targets that are used: all with both flags, else none.
+fn used_targets<'a>(targets: &'a [f64], keep: bool, refine: bool) -> &'a [f64]
+    ensures { λ r. ⌜ now r ≡ used keep refine (now (targets .entry)) ⌝ }
+{
+    if !keep {
+        return &targets[..0];
+    }
+    if !refine {
+        return &targets[..0];
+    }
+    targets
+}
+
+// The smaller of two numbers.
+fn smaller(a: usize, b: usize) -> usize
+    ensures { λ r. ⌜ r ≡ min a b ⌝ }
+{
+    if a < b { a } else { b }
+}
+
+// How many entries of the node columns count.
+fn node_room(key: usize, own: usize, begin: usize, total: usize) -> usize
+    ensures { λ r. ⌜ r ≡ nodeRoom key own begin total ⌝ }
+{
+    smaller(
+        MOST_NODES,
+        smaller(key, smaller(own, smaller(begin, total))),
+    )
+}
+
+// Where targets are used: puts the sums of the sources, which tell when targets split a cell, into the order column. Answers the reference depth, or 0.
+fn sum_sources(axes: usize, rows: usize, marks: usize, work: &[u64], indices: &mut [usize]) -> u64
+    requires { ⌜ Sourced axes rows (now work) (length (now indices)) ⌝ }
+    ensures { λ r. ⌜ SumsMade axes rows marks (now (work .entry)) r (now (indices .exit)) ⌝ }
+{
+    if marks == 0 {
+        return 0;
+    }
+    let depth = refine::reference_depth(axes, rows);
+    let twice = rows + rows;
+    zrefine::add_sums(axes, depth, &work[rows..twice], indices);
+    depth
+}
+
+// Writes the order column from the words in the work, clears what is unused behind the first n nodes, and answers the depth.
+fn finish(
+    rows: usize,
+    n: usize,
+    work: &mut [u64],
+    indices: &mut [usize],
+    key: &mut [u64],
+    own: &mut [usize],
+    begin: &mut [usize],
+    total: &mut [usize],
+) -> u64
+    requires { ⌜ (rows ≤ length (now work)) × (rows ≤ length (now indices)) × (n ≤ length (now key)) ⌝ }
+    ensures { λ r. ⌜ r ≡ depthOf (take n (now (key .entry))) ⌝ }
+    ensures { λ _. ⌜ now (work .exit) ≡ replicate (length (now (work .entry))) 0 ⌝ }
+    ensures { λ _. ⌜ now (indices .exit) ≡ indicesOf (take rows (now (work .entry))) ++ replicate (length (now (indices .entry)) - rows) 0 ⌝ }
+    ensures { λ _. ⌜ now (key .exit) ≡ take n (now (key .entry)) ++ replicate (length (now (key .entry)) - n) 0 ⌝ }
+    ensures { λ _. ⌜ now (own .exit) ≡ take n (now (own .entry)) ++ replicate (length (now (own .entry)) - n) 0 ⌝ }
+    ensures { λ _. ⌜ now (begin .exit) ≡ take n (now (begin .entry)) ++ replicate (length (now (begin .entry)) - n) 0 ⌝ }
+    ensures { λ _. ⌜ now (total .exit) ≡ take n (now (total .entry)) ++ replicate (length (now (total .entry)) - n) 0 ⌝ }
+{
+    let depth = ztree::depth_of(&key[..n]);
+    zgrow::take_indices(work, rows, indices);
+    slices::clear_from_usize(indices, rows);
+    slices::clear(work);
+    slices::clear_from(key, n);
+    slices::clear_from_usize(own, n);
+    slices::clear_from_usize(begin, n);
+    slices::clear_from_usize(total, n);
+    depth
+}
+
+// Builds the tree of the targets that are used. After a refusal the slices hold anything.
+fn attempt(
+    b: Box,
+    sources: &[f64],
+    targets: &[f64],
+    limit: usize,
+    order: usize,
+    keep: bool,
+    work: &mut [u64],
+    indices: &mut [usize],
+    key: &mut [u64],
+    own: &mut [usize],
+    begin: &mut [usize],
+    total: &mut [usize],
+) -> Built
+    ensures { λ r. ⌜ r ≡ buildAnswer (asks b limit order keep (now (sources .entry)) (now (targets .entry)))
+        (rooms (now (work .entry)) (now (indices .entry)) (now (key .entry)) (now (own .entry)) (now (begin .entry)) (now (total .entry))) ⌝ }
+    ensures { λ _. ⌜ (buildCheck (asks b limit order keep (now (sources .entry)) (now (targets .entry)))
+        (rooms (now (work .entry)) (now (indices .entry)) (now (key .entry)) (now (own .entry)) (now (begin .entry)) (now (total .entry))) ≡ Done
+        → BuiltSlices (asks b limit order keep (now (sources .entry)) (now (targets .entry)))
+        (rooms (now (work .entry)) (now (indices .entry)) (now (key .entry)) (now (own .entry)) (now (begin .entry)) (now (total .entry)))
+        (now (work .exit)) (now (indices .exit)) (now (key .exit)) (now (own .exit)) (now (begin .exit)) (now (total .exit))) ⌝ }
+{
+    let prepared = zlaying::prepare(b, sources, targets, order, work);
+    if let Outcome::Refused(refusal) = prepared {
+        return Built::Refused(refusal);
+    }
+    let axes = b.axes;
+    let rows = sources.len() / axes;
+    let marks = targets.len() / axes;
+    if indices.len() < rows {
+        return Built::Refused(Refusal::Room(2));
+    }
+    let g = Rule {
+        axes,
+        limit,
+        order,
+        keep,
+    };
+    let room = node_room(key.len(), own.len(), begin.len(), total.len());
+    let depth = sum_sources(axes, rows, marks, work, indices);
+    let z = Sizes {
+        sources: rows,
+        targets: marks,
+        room,
+        depth,
+    };
+    let n = zgrow::grow(g, z, indices, work, key, own, begin, total);
+    if room < n {
+        return Built::Refused(Refusal::Room(3));
+    }
+    let deepest = finish(rows, n, work, indices, key, own, begin, total);
+    Built::Tree(n, deepest)
+}
+
+// Clears every lent slice.
+fn clear_all(
+    work: &mut [u64],
+    indices: &mut [usize],
+    key: &mut [u64],
+    own: &mut [usize],
+    begin: &mut [usize],
+    total: &mut [usize],
+)
+    ensures { λ _. ⌜ now (work .exit) ≡ replicate (length (now (work .entry))) 0 ⌝ }
+    ensures { λ _. ⌜ now (indices .exit) ≡ replicate (length (now (indices .entry))) 0 ⌝ }
+    ensures { λ _. ⌜ now (key .exit) ≡ replicate (length (now (key .entry))) 0 ⌝ }
+    ensures { λ _. ⌜ now (own .exit) ≡ replicate (length (now (own .entry))) 0 ⌝ }
+    ensures { λ _. ⌜ now (begin .exit) ≡ replicate (length (now (begin .entry))) 0 ⌝ }
+    ensures { λ _. ⌜ now (total .exit) ≡ replicate (length (now (total .entry))) 0 ⌝ }
+{
+    slices::clear(work);
+    slices::clear_usize(indices);
+    slices::clear(key);
+    slices::clear_usize(own);
+    slices::clear_usize(begin);
+    slices::clear_usize(total);
+}
+
+// The tree of the sources: its keys, own sources, begins and totals, and the order column in `indices`.
+// `order` is that of the expansions, and `keep` and `refine` are the two flags.
+pub fn build_tree(
+    b: Box,
+    sources: &[f64],
+    targets: &[f64],
+    limit: usize,
+    order: usize,
+    keep: bool,
+    refine: bool,
+    work: &mut [u64],
+    indices: &mut [usize],
+    key: &mut [u64],
+    own: &mut [usize],
+    begin: &mut [usize],
+    total: &mut [usize],
+) -> Built
+    ensures { λ r. ⌜ r ≡ buildAnswer (asksFor b (now (sources .entry)) (now (targets .entry)) limit order keep refine)
+        (rooms (now (work .entry)) (now (indices .entry)) (now (key .entry)) (now (own .entry)) (now (begin .entry)) (now (total .entry))) ⌝ }
+    ensures { λ _. ⌜ now (work .exit) ≡ replicate (length (now (work .entry))) 0 ⌝ }
+    ensures { λ _. ⌜ now (indices .exit) ≡ orderLeft (asksFor b (now (sources .entry)) (now (targets .entry)) limit order keep refine)
+        (rooms (now (work .entry)) (now (indices .entry)) (now (key .entry)) (now (own .entry)) (now (begin .entry)) (now (total .entry))) ⌝ }
+    ensures { λ _. ⌜ now (key .exit) ≡ keysLeft (asksFor b (now (sources .entry)) (now (targets .entry)) limit order keep refine)
+        (rooms (now (work .entry)) (now (indices .entry)) (now (key .entry)) (now (own .entry)) (now (begin .entry)) (now (total .entry))) ⌝ }
+    ensures { λ _. ⌜ now (own .exit) ≡ ownLeft (asksFor b (now (sources .entry)) (now (targets .entry)) limit order keep refine)
+        (rooms (now (work .entry)) (now (indices .entry)) (now (key .entry)) (now (own .entry)) (now (begin .entry)) (now (total .entry))) ⌝ }
+    ensures { λ _. ⌜ now (begin .exit) ≡ beginsLeft (asksFor b (now (sources .entry)) (now (targets .entry)) limit order keep refine)
+        (rooms (now (work .entry)) (now (indices .entry)) (now (key .entry)) (now (own .entry)) (now (begin .entry)) (now (total .entry))) ⌝ }
+    ensures { λ _. ⌜ now (total .exit) ≡ totalsLeft (asksFor b (now (sources .entry)) (now (targets .entry)) limit order keep refine)
+        (rooms (now (work .entry)) (now (indices .entry)) (now (key .entry)) (now (own .entry)) (now (begin .entry)) (now (total .entry))) ⌝ }
+{
+    let marked = used_targets(targets, keep, refine);
+    let built = attempt(
+        b,
+        sources,
+        marked,
+        limit,
+        order,
+        keep,
+        work,
+        indices,
+        key,
+        own,
+        begin,
+        total,
+    );
+    match built {
+        Built::Tree(nodes, depth) => Built::Tree(nodes, depth),
+        Built::Refused(refusal) => {
+            clear_all(work, indices, key, own, begin, total);
+            Built::Refused(refusal)
+        }
+    }
+}

@@ -1,0 +1,11 @@
+pub mod Frames
+pub mod Stacks
+pub mod Near
+pub mod Roots
+pub mod Nodes
+pub mod Putting
+pub mod Ordered
+pub mod Progress
+pub mod Marks
+pub mod Pairs
+pub mod Both

@@ -1,0 +1,162 @@
+// Both lists of a tree in Z order: the U and V rows of all nodes, written whole in one pass.
+mod node; // node.rt: the rows of one node, and the stack of frames that they are taken from
+mod starts; // starts.rt: the starts of both lists in one column
+
+pub use node::Sizes;
+use starts::HALF;
+use zaround::AROUND_ROOM;
+use zaround::NEAR_ROOM;
+ghost use mathlib.Core.Path.{_≡_};
+ghost use mathlib.Core.Bool.{true, false};
+ghost use Prim.Native.Nat.{_≤_, _<_};
+ghost use lib.ListN.{length};
+ghost use Rattle.tree.specs.WellFormed.{totalsRight};
+ghost use Rattle.ztree.specs.WellFormed.{SoundTree};
+ghost use Rattle.rows.specs.Written.{keysRoom};
+ghost use Rattle.lists.specs.Descent.{listRow};
+ghost use Rattle.links.specs.Links.{LinkedTree};
+ghost use Rattle.zlists.specs.Halves.{WritesLists, WritesBoth};
+ghost use Rattle.zlists.specs.Stack.{FramesRoom};
+
+// Writes both rows of each node, one after the other, and where each begins and the last one ends; it stops where U has no room.
+fn fill_rows(
+    axes: usize,
+    key: &[u64],
+    own: &[usize],
+    links: &[usize],
+    nodes: &mut [usize],
+    places: &mut [u64],
+    masks: &mut [u64],
+    counts: &mut [usize],
+    held: &mut [u64],
+    upto: &mut [usize],
+    starts: &mut [usize],
+    u_keys: &mut [u64],
+    v_keys: &mut [u64],
+) -> Sizes
+    requires { ⌜ LinkedTree axes (now key) (now own) (now links) × FramesRoom (now nodes) (now places) (now masks) ⌝ }
+    requires { ⌜ (16 ≤ length (now counts)) × (16 ≤ length (now upto)) × (432 ≤ length (now held)) ⌝ }
+    requires { ⌜ (length (now key) < length (now starts)) × (length (now «u_keys») ≤ 16777216) × (length (now «v_keys») ≤ 16777216) ⌝ }
+    ensures { λ r. ⌜ WritesLists axes (now (key .entry)) (now (own .entry)) (now (starts .exit)) (now («u_keys» .exit)) (now («v_keys» .exit)) (r .u) (r .v) ⌝ }
+{
+    starts[0] = 0;
+    starts[1] = 0;
+    node::begin(axes, key, own, links, nodes, places, masks, counts, upto);
+    let mut sizes = Sizes { u: 0, v: 0 };
+    let mut i: usize = 1;
+    while i < key.len() {
+        sizes = node::put_node(
+            axes,
+            key,
+            own,
+            links,
+            i,
+            sizes,
+            nodes,
+            places,
+            masks,
+            counts,
+            held,
+            upto,
+            u_keys,
+            v_keys,
+        );
+        if u_keys.len() < sizes.u {
+            return sizes;
+        }
+        i += 1;
+        starts[i] = sizes.v + sizes.u * HALF;
+    }
+    sizes
+}
+
+// The same with a stack of its own. V's keys may have no room at all: then only U's rows are written.
+pub fn write_rows(
+    axes: usize,
+    key: &[u64],
+    own: &[usize],
+    links: &[usize],
+    starts: &mut [usize],
+    u_keys: &mut [u64],
+    v_keys: &mut [u64],
+) -> Sizes
+    requires { ⌜ LinkedTree axes (now key) (now own) (now links) × (length (now key) < length (now starts)) × (length (now «u_keys») ≤ 16777216) × (length (now «v_keys») ≤ 16777216) ⌝ }
+    ensures { λ r. ⌜ WritesLists axes (now (key .entry)) (now (own .entry)) (now (starts .exit)) (now («u_keys» .exit)) (now («v_keys» .exit)) (r .u) (r .v) ⌝ }
+{
+    let mut nodes = [0usize; 16 * AROUND_ROOM];
+    let mut places = [0u64; 16 * AROUND_ROOM];
+    let mut masks = [0u64; 16 * AROUND_ROOM];
+    let mut counts = [0usize; 16];
+    let mut held = [0u64; 16 * NEAR_ROOM];
+    let mut upto = [0usize; 16];
+    fill_rows(
+        axes,
+        key,
+        own,
+        links,
+        &mut nodes,
+        &mut places,
+        &mut masks,
+        &mut counts,
+        &mut held,
+        &mut upto,
+        starts,
+        u_keys,
+        v_keys,
+    )
+}
+
+// The room for keys that counts: at most 16,777,216 entries.
+fn room_of(len: usize) -> usize
+    ensures { λ r. ⌜ r ≡ keysRoom len ⌝ }
+{
+    if len < lists::MOST_KEYS {
+        return len;
+    }
+    lists::MOST_KEYS
+}
+
+// Writes both lists whole, with 0 in the unused rests, and answers 0; or says which slice of keys is short: 6 U's, 7 V's.
+// V's starts hold the links until both lists stand.
+pub fn write_lists(
+    axes: usize,
+    key: &[u64],
+    own: &[usize],
+    total: &[usize],
+    u_starts: &mut [usize],
+    u_keys: &mut [u64],
+    v_starts: &mut [usize],
+    v_keys: &mut [u64],
+) -> u64
+    requires { ⌜ SoundTree axes (now key) (now own) × (length (now key) < length (now «u_starts»)) × (length (now key) < length (now «v_starts»)) × (totalsRight axes (now key) (now own) (now total) ≡ true) ⌝ }
+    ensures { λ r. ⌜ WritesBoth (listRow axes (now (key .entry)) (now (own .entry)) false) (listRow axes (now (key .entry)) (now (own .entry)) true) (now (key .entry)) (length (now («u_starts» .entry))) (length (now («u_keys» .entry))) (length (now («v_starts» .entry))) (length (now («v_keys» .entry))) (now («u_starts» .exit)) (now («u_keys» .exit)) (now («v_starts» .exit)) (now («v_keys» .exit)) r ⌝ }
+{
+    links::link_nodes(key, total, v_starts);
+    let u_room = room_of(u_keys.len());
+    let v_room = room_of(v_keys.len());
+    let sizes = write_rows(
+        axes,
+        key,
+        own,
+        v_starts,
+        u_starts,
+        &mut u_keys[..u_room],
+        &mut v_keys[..v_room],
+    );
+    if u_room < sizes.u {
+        return 6;
+    }
+    if v_room < sizes.v {
+        return 7;
+    }
+    starts::finish(
+        u_starts,
+        u_keys,
+        v_starts,
+        v_keys,
+        key.len() + 1,
+        sizes.u,
+        sizes.v,
+    );
+    0
+}

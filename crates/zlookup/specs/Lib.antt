@@ -1,0 +1,4 @@
+pub mod Search
+pub mod Lookup
+pub mod Batch
+pub mod Single

@@ -1,0 +1,6 @@
+pub mod Order
+pub mod WellFormed
+pub mod Pass
+pub mod Leaves
+pub mod Finding
+pub mod Arrangement
