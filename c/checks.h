@@ -26,6 +26,19 @@ bool all_junk(const void *place, size_t bytes);
 #define REST_ZEROED(array, used, lent)                                                                                       \
     (all_zero((array) + (used), ((lent) - (used)) * 8) && all_junk((array) + (lent), sizeof(array) - (lent)*8))
 
+/* Columns of one axis about 4, radius 4: `nodes` entries each, but for the totals. */
+enum { MOST_ENTRIES = 18 };
+typedef struct {
+    size_t nodes, totals;
+    uint64_t key[MOST_ENTRIES];
+    size_t own[MOST_ENTRIES], begin[MOST_ENTRIES], total[MOST_ENTRIES];
+} tree;
+
+#define TREE_COLUMNS(t) (t).key, (t).nodes, (t).own, (t).nodes, (t).begin, (t).nodes, (t).total, (t).totals
+
+/* Checks that these columns are no tree for any call that takes one, and that each call leaves zeros. */
+void no_tree(tree t);
+
 /* Whether an array starts with these entries. */
 #define STARTS_WITH(array, entries) (memcmp((array), (entries), sizeof(entries)) == 0)
 
@@ -36,6 +49,7 @@ void test_points(void);
 void test_build(void);
 void test_trees(void);
 void test_totals(void);
+void test_order(void);
 void test_null(void);
 
 #endif

@@ -102,18 +102,29 @@ static void print_row(char letter, const list *l, size_t node)
         printf(" %" PRIu64, l->keys[i]);
 }
 
+/* A line for each node. A listing has them level by level, and counts them so; in the columns they stand depth first, so each
+ * level's nodes are looked for among all. Within a level the two orders agree. */
+static void print_nodes(const tree *t, const list *u, const list *v)
+{
+    size_t number = 0;
+    for (uint64_t level = 0; level <= t->depth; level++)
+        for (size_t node = 0; node < t->nodes; node++) {
+            if (t->key[node] % 32768 != level)
+                continue;
+            printf("%zu %" PRIu64 " %zu", number++, t->key[node], t->own[node]);
+            print_row('U', u, node);
+            print_row('V', v, node);
+            printf("\n");
+        }
+}
+
 int main(void)
 {
     tree t = build();
     list u = {NULL, NULL}, v = {NULL, NULL};
     make_lists(&t, &u, &v);
     printf("tree %d %zu %" PRIu64 " %d %" PRIu64 "\n", AXES, t.nodes, t.depth, SOURCES, near_work(&t, &u));
-    for (size_t node = 0; node < t.nodes; node++) {
-        printf("%zu %" PRIu64 " %zu", node, t.key[node], t.own[node]);
-        print_row('U', &u, node);
-        print_row('V', &v, node);
-        printf("\n");
-    }
+    print_nodes(&t, &u, &v);
     void *slices[9] = {t.key, t.own, t.begin, t.total, t.order, u.starts, u.keys, v.starts, v.keys};
     for (size_t i = 0; i < 9; i++)
         free(slices[i]);

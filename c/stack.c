@@ -51,6 +51,12 @@ static void leaf_sources(void)
     lohandema_leaf_sources(own, nodes, begin, nodes, order, POINTS, nodes - 1, &start);
 }
 
+static void cell_sources(void)
+{
+    size_t start;
+    lohandema_cell_sources(total, nodes, begin, nodes, order, POINTS, 0, &start);
+}
+
 static void points_to_keys(void)
 {
     size_t steps;
@@ -198,14 +204,15 @@ static struct {
     size_t said, seen;
 } calls[] = {
     {"(nothing, for comparison)", nothing, 8 * KIB, 0},
-    {"build_tree", build_tree, 24 * KIB, 0},
+    {"build_tree", build_tree, 32 * KIB, 0},
     {"is_well_formed", is_well_formed, 8 * KIB, 0},
     {"depth_of", depth_of, 8 * KIB, 0},
     {"leaf_sources", leaf_sources, 8 * KIB, 0},
+    {"cell_sources", cell_sources, 8 * KIB, 0},
     {"points_to_keys", points_to_keys, LOHANDEMA_STACK_POINTS_TO_KEYS, 0},
     {"point_to_leaf", point_to_leaf, 8 * KIB, 0},
     {"get_points_to_leaves_map", get_points_to_leaves_map, 8 * KIB, 0},
-    {"get_sourced_cells", get_sourced_cells, 24 * KIB, 0},
+    {"get_sourced_cells", get_sourced_cells, 32 * KIB, 0},
     {"get_interaction_lists", get_interaction_lists, LOHANDEMA_STACK, 0},
     {"get_near_work", get_near_work, LOHANDEMA_STACK, 0},
     {"get_neighbours", get_neighbours, 8 * KIB, 0},

@@ -79,6 +79,7 @@ int main(void)
     test_build();
     test_trees();
     test_totals();
+    test_order();
     test_null();
     printf("%u checks, %u failed\n", made, failed);
     return failed == 0 ? 0 : 1;

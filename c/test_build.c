@@ -53,9 +53,9 @@ static lohandema_ended build(asked a)
 
 static void known_tree(void)
 {
-    const uint64_t keys[9] = {0, 1, 32769, 2, 98306, 3, 32771, 196611, 229379};
-    const size_t owns[9] = {0, 0, 0, 0, 0, 1, 1, 1, 1}, begins[9] = {0, 0, 0, 0, 0, 0, 1, 2, 3};
-    const size_t totals[9] = {4, 2, 2, 2, 2, 1, 1, 1, 1}, order[4] = {0, 1, 2, 3};
+    const uint64_t keys[9] = {0, 1, 2, 3, 32771, 32769, 98306, 196611, 229379};
+    const size_t owns[9] = {0, 0, 0, 1, 1, 0, 0, 1, 1}, begins[9] = {0, 0, 0, 0, 1, 2, 2, 2, 3};
+    const size_t totals[9] = {4, 2, 2, 1, 1, 2, 2, 1, 1}, order[4] = {0, 1, 2, 3};
     asked a = example();
     ENDED(build(a), 0, 0);
     EXPECT(nodes == 9 && depth == 3 && REST_ZEROED(work, 0, a.work_len));

@@ -58,6 +58,16 @@ static void columns(void)
     EXPECT(lohandema_leaf_sources(own, 3, begin, 3, NULL, 0, 1, &start) == 0 && start == 0);
     EXPECT(lohandema_leaf_sources(own, 3, NULL, 0, begin, 3, 1, &start) == 0 && start == 0);
     EXPECT(lohandema_leaf_sources(NULL, 0, begin, 3, begin, 3, 1, &start) == 0 && start == 0);
+    start = 7;
+    EXPECT(lohandema_cell_sources(NULL, 0, NULL, 0, NULL, 0, 0, &start) == 0 && start == 0);
+    start = 7;
+    EXPECT(lohandema_cell_sources(total, 3, begin, 3, NULL, 0, 1, &start) == 0 && start == 0);
+    start = 7;
+    EXPECT(lohandema_cell_sources(total, 3, NULL, 0, begin, 3, 1, &start) == 0 && start == 0);
+    start = 7;
+    EXPECT(lohandema_cell_sources(NULL, 0, begin, 3, begin, 3, 1, &start) == 0 && start == 0);
+    start = 7;
+    EXPECT(lohandema_cell_sources(none, 1, none, 1, NULL, 0, 0, &start) == 0 && start == 0);
 }
 
 static void lookups(void)

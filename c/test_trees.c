@@ -7,12 +7,12 @@
 /* The tree of 0.5, 1.5, 6.5, 7.5 on one axis about 4, with limit 1. */
 enum { NODES = 9, ROOM = 24 };
 static const double centre[3] = {4.0, 0.0, 0.0};
-static const uint64_t key[NODES] = {0, 1, 32769, 2, 98306, 3, 32771, 196611, 229379};
-static const size_t own[NODES] = {0, 0, 0, 0, 0, 1, 1, 1, 1}, begin[NODES] = {0, 0, 0, 0, 0, 0, 1, 2, 3};
-static const size_t total[NODES] = {4, 2, 2, 2, 2, 1, 1, 1, 1};
+static const uint64_t key[NODES] = {0, 1, 2, 3, 32771, 32769, 98306, 196611, 229379};
+static const size_t own[NODES] = {0, 0, 0, 1, 1, 0, 0, 1, 1}, begin[NODES] = {0, 0, 0, 0, 1, 2, 2, 2, 3};
+static const size_t total[NODES] = {4, 2, 2, 1, 1, 2, 2, 1, 1};
 
 /* Columns that are no tree: the root's child owns a source. */
-static const size_t lying[NODES] = {0, 1, 0, 0, 0, 1, 1, 1, 1};
+static const size_t lying[NODES] = {0, 1, 0, 1, 1, 0, 0, 1, 1};
 
 #define COLUMNS(owns) key, NODES, (owns), NODES, begin, NODES, total, NODES
 
@@ -24,7 +24,7 @@ static void known_columns(void)
     EXPECT(!lohandema_is_well_formed(1, key, NODES, own, NODES, begin, NODES - 1, total, NODES));
     EXPECT(!lohandema_is_well_formed(0, COLUMNS(own)) && !lohandema_is_well_formed(4, COLUMNS(own)));
     EXPECT(lohandema_depth_of(key, NODES) == 3 && lohandema_depth_of(key, 1) == 1);
-    EXPECT(lohandema_leaf_sources(own, NODES, begin, NODES, order, 4, 6, &start) == 1 && start == 1);
+    EXPECT(lohandema_leaf_sources(own, NODES, begin, NODES, order, 4, 4, &start) == 1 && start == 1);
     EXPECT(lohandema_leaf_sources(own, NODES, begin, NODES, order, 4, 1, &start) == 0 && start == 0);
     start = 77;
     EXPECT(lohandema_leaf_sources(own, NODES, begin, NODES, order, 4, 9, &start) == 0 && start == 0);
@@ -140,7 +140,7 @@ static lohandema_ended group(size_t axes, const size_t *owns, const uint64_t *po
 static void grouping(void)
 {
     const uint64_t points[3] = {229379, 3, 229379}, bad[3] = {3, 1, 17};
-    const size_t first[NODES + 1] = {0, 0, 0, 0, 0, 0, 1, 1, 1, 3}, grouped[3] = {1, 0, 2};
+    const size_t first[NODES + 1] = {0, 0, 0, 0, 1, 1, 1, 1, 1, 3}, grouped[3] = {1, 0, 2};
     ENDED(group(1, own, points, 3, 12, 5), 0, 0);
     EXPECT(STARTS_WITH(starts, first) && REST_ZEROED(starts, NODES + 1, 12));
     EXPECT(STARTS_WITH(indices, grouped) && REST_ZEROED(indices, 3, 5));
@@ -205,12 +205,12 @@ static lohandema_ended list(size_t axes, const size_t *owns, size_t us, size_t u
         EXPECT(ZEROED(v_starts, (vs)) && ZEROED(v_keys, (vk)));                                                              \
     } while (0)
 
-static const size_t first_near[NODES + 1] = {0, 0, 0, 0, 0, 0, 2, 4, 6, 8};
+static const size_t first_near[NODES + 1] = {0, 0, 0, 0, 2, 4, 4, 4, 6, 8};
 static const uint64_t near_keys[8] = {3, 32771, 3, 32771, 196611, 229379, 196611, 229379};
 
 static void lists(void)
 {
-    const size_t first_far[NODES + 1] = {0, 0, 0, 0, 1, 2, 2, 2, 2, 2};
+    const size_t first_far[NODES + 1] = {0, 0, 0, 1, 1, 1, 1, 2, 2, 2};
     const uint64_t far_keys[2] = {98306, 2};
     ENDED(list(1, own, 12, 13, 14, 15), 0, 0);
     EXPECT(u == 8 && v == 2);

@@ -24,9 +24,8 @@
  * of the compiled code, measured on Arm (c/stack.c; docs/BENCHMARKS.md, "Stack", says what is known of x86-64) and rounded up
  * well; they are not promises. pthread_attr_setstacksize takes no less than PTHREAD_STACK_MIN, which is 131,072 bytes on some
  * systems, and fails below it: pass the larger of the two.
- *   points_to_keys                                                                          288 KiB
- *   get_interaction_lists, get_near_work                                                     48 KiB
- *   build_tree, get_sourced_cells                                                            24 KiB
+ *   points_to_keys, get_interaction_lists, get_near_work                                    128 KiB
+ *   build_tree, get_sourced_cells                                                            32 KiB
  *   every other call                                                                          8 KiB
  */
 #ifndef LOHANDEMA_H
@@ -49,9 +48,9 @@ extern "C" {
 #endif
 
 /* The version of this header and of the archive that was made with it. */
-#define LOHANDEMA_VERSION "0.2.0"
+#define LOHANDEMA_VERSION "0.3.0"
 #define LOHANDEMA_VERSION_MAJOR 0
-#define LOHANDEMA_VERSION_MINOR 2
+#define LOHANDEMA_VERSION_MINOR 3
 #define LOHANDEMA_VERSION_PATCH 0
 
 /* Limits. */
@@ -69,8 +68,8 @@ extern "C" {
 #define LOHANDEMA_MOST_CENTRE 16777216.0    /* size of a centre coordinate */
 
 /* Bytes of stack for lohandema_points_to_keys, and for any other call. A thread may need PTHREAD_STACK_MIN instead (above). */
-#define LOHANDEMA_STACK_POINTS_TO_KEYS 294912
-#define LOHANDEMA_STACK 49152
+#define LOHANDEMA_STACK_POINTS_TO_KEYS 131072
+#define LOHANDEMA_STACK 131072
 
 /* How a call ended: 0 and 0, or the number and value of a refusal.
  * The value of 6, 7, 12 and 14 is the lowest index that fails (0 where the call takes a single point), counted in points and
@@ -139,8 +138,8 @@ static inline const char *lohandema_refusal_sentence(uint64_t number)
         "the root has no parent and no siblings: ask of a key of level 1 or more",
         "a cell of level 16 has no children: ask of a key of a level below 16",
         "no leaf holds a point that is inside, and the value is its index: build with keep_empty, or take the point out",
-        "the columns are not a well-formed tree: pass all four (key, own, begin and total) as the build wrote them, each cut to its "
-        "number of nodes",
+        "the columns are not a well-formed tree: pass all four (key, own, begin and total) as the build of this version wrote "
+        "them, each cut to its number of nodes",
         "a key to group is not the key of a leaf, and the value is its index: pass keys that the lookup in this tree answered",
         "the survey file breaks its rules: write it anew as docs/RULES.md says"};
     return number < 16 ? sentences[number] : "this version knows no refusal with this number";
@@ -232,12 +231,16 @@ lohandema_ended lohandema_reference_depth(size_t axes, size_t sources, uint64_t 
 
 /* ---- Trees
  * A tree of N nodes is four columns of N entries: key; own, the sources in a leaf, 0 for other nodes; begin, the sum of own
- * before the node; total, the number of sources in the cell and all below it. Nodes stand by level, then ascending code; node
- * 0 is the root. Pass the columns cut to N entries: zeros behind the nodes are no tree. A wrong total is refused 13, as any
- * other column that is wrong. Source number order[begin[n] + i] is the i-th of leaf n. */
+ * before the node; total, the number of sources in the cell and all below it. Nodes are numbered depth first: a cell, then its
+ * children in ascending code, each followed by its own. So node 0 is the root, the first child of a node stands right behind
+ * it, and all that lies in a cell stands together. (Another way to say it: nodes ascend by code * 2^(axes * (16 - level)), the
+ * first code of level 16 in the cell, and where that is equal by level.) The order column has the indices of the sources, leaf
+ * by leaf in this numbering, ascending within a leaf: order[begin[n] + i] is the i-th source of leaf n.
+ * Pass the columns cut to N entries: zeros behind the nodes are no tree. A wrong total is refused 13, as any other column that
+ * is wrong; so are nodes in another order, as those by level that version 0.2 wrote: build such a tree anew. */
 
 /* Builds the tree of the sources into key, own, begin and total, and its order column into indices; answers nodes, N, and
- * depth.
+ * depth, the greatest level of a node, at least 1.
  *   sources, targets  coordinates, point after point; the lengths count coordinates
  *   limit             a cell with more sources than this splits (any value)
  *   order             of the interpolation; it matters, and has to be 1 to 64, only where targets are used
@@ -259,14 +262,21 @@ lohandema_ended lohandema_build_tree(const double centre[3], double radius, size
 bool lohandema_is_well_formed(size_t axes, const uint64_t *key, size_t key_len, const size_t *own, size_t own_len,
                               const size_t *begin, size_t begin_len, const size_t *total, size_t total_len);
 
-/* The level of the last node, at least 1; 1 for an empty column. For any column, and never refused. */
+/* The greatest level of any node, at least 1; 1 for an empty column. For any column, and never refused. */
 uint64_t lohandema_depth_of(const uint64_t *key, size_t key_len);
 
-/* A node's part of the order column: answers how many entries it has, and start, where they start. The part is empty where the
- * node is past own or begin, or begin plus own passes the order column's end; an empty part has start 0. For any columns, and
- * never refused. */
+/* A node's own part of the order column, which is that of a leaf: own[node] entries from begin[node] on. Answers how many
+ * entries it has, and start, where they start. The part is empty where the node is past own or begin, or begin plus own passes
+ * the order column's end; an empty part has start 0. For any columns, and never refused. */
 size_t lohandema_leaf_sources(const size_t *own, size_t own_len, const size_t *begin, size_t begin_len, const size_t *order,
                               size_t order_len, size_t node, size_t *start);
+
+/* The part of the order column that has all sources in a node's cell, of any level: total[node] entries from begin[node] on.
+ * Answers how many entries it has, and start, where they start. They come leaf by leaf, and do not ascend as a whole. The part
+ * is empty where the node is past total or begin, or begin plus total passes the order column's end; an empty part has start 0.
+ * For any columns, and never refused. */
+size_t lohandema_cell_sources(const size_t *total, size_t total_len, const size_t *begin, size_t begin_len,
+                              const size_t *order, size_t order_len, size_t node, size_t *start);
 
 /* output: the key of the leaf that holds each point. steps: the sum over the points of the depth less the leaf's level.
  * points_len counts coordinates; output needs one entry a point.

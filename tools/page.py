@@ -119,7 +119,7 @@ def mark(kind, spot, radius=MARK, **attributes):
     if kind == "target":
         plus = "M %.2f %.2f h 6 m -3 -3 v 6" % (x - 3, y)
         return tag("path", d=plus, class_=kind, stroke="#555555", stroke_width=1, fill="none", **attributes)
-    fill, stroke = ("#ffffff", "#000000") if kind == "grouped" else ("#000000", "#ffffff")
+    fill, stroke = ("#ffffff", "#000000") if kind in ("grouped", "other") else ("#000000", "#ffffff")
     # small marks run together: without outlines they stay black or white
     line = 0.36 * radius if radius >= OUTLINED_MARK else 0
     return tag("circle", cx=x, cy=y, r=radius, class_=kind, fill=fill, stroke=stroke, stroke_width=line, **attributes)

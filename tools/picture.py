@@ -1,4 +1,4 @@
-"""The picture that draw writes: a survey's cells and readings as one leaf sees them, and the legend."""
+"""The picture that draw writes: a survey's cells and readings as one leaf sees them, or those in one cell, and the legend."""
 
 import os
 from collections import Counter
@@ -10,10 +10,11 @@ from page import (CHOSEN, HATCH, LEFT, LEGEND, LINE, MARK, NEAR, PAGE_WIDTH, PLA
 
 
 class Picture:
-    """A survey and its listing, seen from one leaf, or from none."""
+    """A survey and its listing, seen from one leaf, with one cell chosen, or neither."""
 
-    def __init__(self, names, survey, listing, leaf, view):
+    def __init__(self, names, survey, listing, leaf, view, cell=None):
         self.names, self.survey, self.listing, self.leaf, self.view = names, survey, listing, leaf, view
+        self.cell = cell
         # the V rows that are not empty, the leaf's own first
         self.far = [(level, row) for level, row in listing.rows_of(leaf)[1:] if row] if leaf else []
         self.colours = {level: far_colour(i, len(self.far)) for i, (level, _) in enumerate(self.far)}
@@ -25,13 +26,19 @@ class Picture:
         self.targets = [row for row in survey.targets if names.targets and self.cuts(row)]
 
     def kind(self, source_key):
-        """How the chosen leaf meets a source: once in U, once in V, or wrongly."""
+        """How the chosen leaf meets a source: once in U, once in V, or wrongly; or whether the chosen cell holds it."""
+        if self.cell:
+            return "inside" if self.in_cell(source_key) else "other"
         if not self.leaf:
             return "single"
         around = set(house.ancestors(self.listing.axes, source_key))
         near = sum(key in around for key in self.leaf.near)
         far = sum(key in around for _, row in self.far for key in row)
         return {(1, 0): "single", (0, 1): "grouped"}.get((near, far), "fault")
+
+    def in_cell(self, key):
+        """Whether a cell is the chosen one or lies in it."""
+        return self.cell is not None and self.cell.key in house.ancestors(self.listing.axes, key)
 
     def text(self):
         legend, legend_height = self.legend()
@@ -44,6 +51,8 @@ class Picture:
     def head(self):
         if self.leaf:
             title = "What leaf %d sums singly, and what in groups" % self.leaf.number
+        elif self.cell:
+            title = "The readings in cell %d" % self.cell.key
         else:
             title = "Cells and readings"
         figures = "%s: axes %d, nodes %d, depth %d, readings %d, near work %d" % (
@@ -67,15 +76,15 @@ class Picture:
         return shapes
 
     def cells(self):
-        """The ground, and every cell of the view in plain white."""
+        """The ground, and every cell of the view: in plain white, or coloured if it lies in the chosen cell."""
         shapes = [box((LEFT, TOP, PLOT, self.view.ground), class_="ground", fill=UNSTORED)]
         for node in self.listing.nodes:
             rect = self.view.rect(node.key)
             if rect and self.view.shows(node):
                 hint = "node %d, key %d, level %d: %d readings" % (
                     node.number, node.key, house.level_of(node.key), self.listing.held[node.key])
-                shapes.append(box(rect, class_="cell", fill=PLAIN, stroke=LINE, stroke_width=line_width(rect, 0.8),
-                                  hint=hint))
+                kind, fill = ("inner", CHOSEN) if self.in_cell(node.key) else ("cell", PLAIN)
+                shapes.append(box(rect, class_=kind, fill=fill, stroke=LINE, stroke_width=line_width(rect, 0.8), hint=hint))
         return shapes
 
     def listed_cells(self):
@@ -113,15 +122,18 @@ class Picture:
         return []
 
     def chosen(self):
-        rect = self.view.rect(self.leaf.key) if self.leaf else None
+        """The chosen leaf, or the outline of the chosen cell, in which the cells are coloured already."""
+        chosen = self.leaf or self.cell
+        rect = self.view.rect(chosen.key) if chosen else None
         if not rect:
             return []
-        shapes = [box(rect, class_="chosen", fill=CHOSEN, stroke="#000000", stroke_width=2 * line_width(rect, 1.75),
-                      hint="the chosen leaf, node %d, key %d" % (self.leaf.number, self.leaf.key))]
+        what, fill = ("leaf", CHOSEN) if self.leaf else ("cell", "none")
+        shapes = [box(rect, class_="chosen", fill=fill, stroke="#000000", stroke_width=2 * line_width(rect, 1.75),
+                      hint="the chosen %s, node %d, key %d" % (what, chosen.number, chosen.key))]
         return shapes + self.ring(rect)
 
     def ring(self, rect):
-        """A ring around a chosen leaf that is too small to be seen."""
+        """A ring around a chosen leaf or cell that is too small to be seen."""
         x, y, width, height = rect
         if max(width, height) >= 10:
             return []
@@ -129,10 +141,11 @@ class Picture:
         return [tag("circle", **middle, r=13, fill="none", stroke="#000000", stroke_width=3.5)]
 
     def points(self):
-        """The marks, those in groups first, so that none of them covers a reading that is summed singly or wrongly."""
+        """The marks, those in groups or outside the chosen cell first, so that none of them covers a reading that is
+        summed singly or wrongly, or lies in the cell."""
         shapes = self.view.strip() + [mark("target", self.view.spot(row)) for row in self.targets]
         placed = list(zip(self.shown, self.spots, self.radii))
-        for kind in ("grouped", "single", "fault"):
+        for kind in ("grouped", "other", "single", "inside", "fault"):
             for i, spot, radius in placed:
                 if self.kinds[i] == kind:
                     hint = "source %d: %s" % (i, ", ".join("%r" % x for x in self.survey.sources[i]))
@@ -157,7 +170,7 @@ class Picture:
         return shapes, y - TOP
 
     def entries(self):
-        return self.slice_entry() + self.row_entries() + self.ground_entries() + self.mark_entries()
+        return self.slice_entry() + self.chosen_entry() + self.row_entries() + self.ground_entries() + self.mark_entries()
 
     def slice_entry(self):
         if self.view.cut_axis is None:
@@ -166,17 +179,22 @@ class Picture:
         return [(None, ["Slice at %s = %r%s:" % (house.AXIS_NAMES[self.view.cut_axis], self.view.cut, through),
                         "the cells that it cuts, and the readings", "in the leaves among them"])]
 
+    def chosen_entry(self):
+        chosen, what = (self.leaf, "leaf") if self.leaf else (self.cell, "cell")
+        if not chosen:
+            return []
+        rect = self.view.rect(chosen.key)
+        where = ["not cut by this slice"] if not rect else ["in the ring"] if self.ring(rect) else []
+        return [(swatch(CHOSEN, 3.5), [
+            "chosen %s: node %d, level %d," % (what, chosen.number, house.level_of(chosen.key)),
+            "key %d, %s" % (chosen.key, some(self.listing.held[chosen.key], "reading"))] + where)]
+
     def row_entries(self):
         if not self.leaf:
             return []
         level = house.level_of(self.leaf.key)
-        rect = self.view.rect(self.leaf.key)
-        where = ["not cut by this slice"] if not rect else ["in the ring"] if self.ring(rect) else []
-        entries = [(swatch(CHOSEN, 3.5), [
-            "chosen leaf: node %d, level %d," % (self.leaf.number, level),
-            "key %d, %s" % (self.leaf.key, some(self.leaf.own, "reading"))] + where)]
-        entries.append((swatch(NEAR), ["U: " + self.cells_text(self.leaf.near),
-                                       self.readings_text(self.leaf.near, "summed singly")]))
+        entries = [(swatch(NEAR), ["U: " + self.cells_text(self.leaf.near),
+                                   self.readings_text(self.leaf.near, "summed singly")])]
         for row_level, row in self.far:
             whose = "of the leaf" if row_level == level else "of its ancestor"
             entries.append((swatch(self.colours[row_level]), [
@@ -193,9 +211,11 @@ class Picture:
         shown = [node for node in self.listing.nodes if self.view.shows(node) and self.view.rect(node.key)]
         listed = {key for _, row in self.far for key in row}
         listed |= set(self.leaf.near + [self.leaf.key] if self.leaf else [])
+        listed |= {self.cell.key} if self.cell else set()
+        plain = "cell in none of these lists" if self.leaf else "other cell" if self.cell else "cell"
         entries = []
         if any(listed.isdisjoint(house.ancestors(self.listing.axes, node.key)) for node in shown):
-            entries.append((swatch(PLAIN), ["cell in none of these lists" if self.leaf else "cell"]))
+            entries.append((swatch(PLAIN), [plain]))
         covered = sum(width * height for _, _, width, height in (self.view.rect(node.key) for node in shown))
         if covered < PLOT * self.view.ground * (1 - 1e-9):
             entries.append((swatch(UNSTORED), ["no cell stored"]))
@@ -203,6 +223,7 @@ class Picture:
 
     def mark_entries(self):
         names = {"single": "reading summed singly" if self.leaf else "reading", "grouped": "reading in a group",
+                 "inside": "reading in the cell", "other": "other reading",
                  "fault": "reading in no list or in several: FAULT"}
         here = Counter(self.kinds[i] for i in self.shown)
         entries = [(sample_mark(kind), ["%s: %d%s" % (name, self.marks[kind], self.in_slice(here[kind]))])

@@ -1,120 +1,27 @@
 //! Lohandema beside the customer's Rust and beside plain Rust with sorted vectors: one process, one thread, identical trees.
 //! `run` beside this folder starts it. For each measure the least of several times counts.
 mod clock;
+mod customer;
 mod plain;
+mod plain_build;
 mod shapes;
+mod slices;
+mod words;
+mod worst;
 
 use clock::least;
-use faer::MatRef;
-use ferreus_bbfmm::bbfmm::{Dimensions, TreeLists};
-use ferreus_bbfmm::{linear_tree, morton};
+use ferreus_bbfmm::bbfmm::TreeLists;
 use lohandema::lent::{self, Asked};
-use lohandema::points::Bounds;
-use lohandema::trees::{Lists, Rows, Tree};
+use lohandema::trees::{Lists, Tree};
 use plain::Plain;
+use slices::{Lent, Room};
 use std::collections::HashMap;
+use words::Words;
 
-const LIMIT: usize = 64;
-const ORDER: usize = 5;
 const POINTS: usize = 100_000;
 const MANY: usize = 800_000;
-
-/// Whether a call is to be measured: all are, or the one after `--only`.
-fn wanted(call: &str) -> bool {
-    let words: Vec<String> = std::env::args().collect();
-    let only = words.iter().position(|word| word == "--only");
-    only.is_none_or(|at| words.get(at + 1).is_some_and(|word| word == call))
-}
-
-fn matrix(points: &[f64]) -> MatRef<'_, f64> {
-    MatRef::from_row_major_slice(points, points.len() / 3, 3)
-}
-
-fn rust_build(b: &Bounds, points: &[f64], keep: bool) -> (TreeLists, u64) {
-    let mut depth = 0;
-    let lists = linear_tree::build_tree(
-        matrix(points),
-        &b.centre.to_vec(),
-        b.radius,
-        LIMIT,
-        keep,
-        &mut depth,
-        Dimensions::Three,
-        ORDER,
-        None,
-    );
-    (lists, depth)
-}
-
-/// How many sources lie in each node's cell and all below it. Children stand behind their parents.
-fn totals(key: &[u64], own: &[usize]) -> Vec<usize> {
-    let number: HashMap<u64, usize> = key.iter().enumerate().map(|(i, k)| (*k, i)).collect();
-    let mut total = own.to_vec();
-    for node in (1..key.len()).rev() {
-        let (level, code) = (key[node] % 32768, key[node] / 32768);
-        let parent = number[&((code >> 3) * 32768 + level - 1)];
-        total[parent] += total[node];
-    }
-    total
-}
-
-/// The Rust's tree as columns.
-fn columns(b: Bounds, lists: &TreeLists) -> Tree {
-    let mut key: Vec<u64> = lists.tree.iter().copied().collect();
-    key.sort_by_key(|k| (k % 32768, k / 32768));
-    let (mut own, mut begin, mut order) = (vec![], vec![], vec![]);
-    for k in &key {
-        begin.push(order.len());
-        let sources = lists.leaf_source_indices.get(k).map_or(&[][..], |v| v);
-        own.push(sources.len());
-        order.extend_from_slice(sources);
-    }
-    let total = totals(&key, &own);
-    Tree::from_columns(b, key, own, begin, total, order)
-}
-
-fn rust_lists(b: &Bounds, l: &TreeLists) -> usize {
-    let (u, v, _) = linear_tree::get_interaction_lists(
-        &l.tree,
-        &l.leaves,
-        &l.children,
-        &l.leaf_source_indices,
-        &b.centre,
-        b.radius,
-        &Dimensions::Three,
-    );
-    u.len() + v.len()
-}
-
-/// The slices that a list call is lent, made once.
-struct Lent {
-    u_starts: Vec<usize>,
-    u_keys: Vec<u64>,
-    v_starts: Vec<usize>,
-    v_keys: Vec<u64>,
-}
-
-impl Lent {
-    fn new(tree: &Tree, u: &Rows, v: &Rows) -> Lent {
-        Lent {
-            u_starts: vec![0; tree.key.len() + 1],
-            u_keys: vec![0; u.keys.len()],
-            v_starts: vec![0; tree.key.len() + 1],
-            v_keys: vec![0; v.keys.len()],
-        }
-    }
-
-    fn fill(&mut self, tree: &Tree) -> (usize, usize) {
-        lent::get_interaction_lists(
-            tree.columns(),
-            &mut self.u_starts,
-            &mut self.u_keys,
-            &mut self.v_starts,
-            &mut self.v_keys,
-        )
-        .expect("room enough")
-    }
-}
+/// The limit with which growth is measured.
+const USUAL_LIMIT: usize = 64;
 
 /// The tree's rows by plain Rust, which works out anew each time what it needs beside the columns.
 fn plain_lists(tree: &Tree, kept: bool, lists: &mut Lists) {
@@ -126,53 +33,23 @@ fn plain_lists(tree: &Tree, kept: bool, lists: &mut Lists) {
     }
 }
 
-/// The columns that a build is lent, made once.
-struct Room {
-    work: Vec<u64>,
-    order: Vec<usize>,
-    key: Vec<u64>,
-    own: Vec<usize>,
-    begin: Vec<usize>,
-    total: Vec<usize>,
-}
-
-impl Room {
-    fn new(points: usize, nodes: usize) -> Room {
-        Room {
-            work: vec![0; 2 * points],
-            order: vec![0; points],
-            key: vec![0; nodes],
-            own: vec![0; nodes],
-            begin: vec![0; nodes],
-            total: vec![0; nodes],
-        }
-    }
-
-    fn build(&mut self, b: &Bounds, points: &[f64], keep: bool) -> (usize, u64) {
-        let mut asked = Asked::new(b, points, LIMIT);
-        asked.keep_empty = keep;
-        lent::build_tree(
-            asked,
-            &mut self.work,
-            &mut self.order,
-            &mut self.key,
-            &mut self.own,
-            &mut self.begin,
-            &mut self.total,
-        )
-        .expect("room enough")
-    }
-}
-
 fn ratio(call: &str, beside: &str, shape: &str, keep: bool, ours: f64, theirs: f64) {
     let keep = if keep { "on" } else { "off" };
     println!("  {call} {shape} keep-empty {keep}: ours {ours:.2} ms, {beside} {theirs:.2} ms");
     println!("ratio {call} {beside} {shape} {keep} {:.3}", ours / theirs);
 }
 
+/// What a build of these points is asked.
+fn asked(points: &[f64], limit: usize, keep: bool) -> Asked<'_> {
+    let mut asked = Asked::new(shapes::bounds(), points, limit);
+    asked.keep_empty = keep;
+    asked
+}
+
 /// A shape's tree as the Rust builds it, and the same in columns.
 struct Survey {
     shape: &'static str,
+    limit: usize,
     keep: bool,
     points: Vec<f64>,
     built: TreeLists,
@@ -181,17 +58,16 @@ struct Survey {
 }
 
 impl Survey {
-    fn new(shape: &'static str, keep: bool) -> Survey {
+    fn new(shape: &'static str, limit: usize, keep: bool) -> Survey {
         let points = shapes::points(shape, POINTS);
-        let (built, depth) = rust_build(&shapes::bounds(), &points, keep);
-        let tree = columns(shapes::bounds(), &built);
+        let (built, depth) = customer::build(asked(&points, limit, keep));
+        let tree = customer::columns(*shapes::bounds(), &built);
         assert_eq!(tree.depth(), depth);
-        println!(
-            "{shape}, keep-empty {keep}: {} nodes, depth {depth}",
-            tree.key.len()
-        );
+        let nodes = tree.key.len();
+        println!("{shape}, limit {limit}, keep-empty {keep}: {nodes} nodes, depth {depth}");
         Survey {
             shape,
+            limit,
             keep,
             points,
             built,
@@ -200,20 +76,24 @@ impl Survey {
         }
     }
 
+    fn asked(&self) -> Asked<'_> {
+        asked(&self.points, self.limit, self.keep)
+    }
+
     fn ratio(&self, call: &str, beside: &str, ours: f64, theirs: f64) {
         ratio(call, beside, self.shape, self.keep, ours, theirs);
     }
 
     /// The build, beside the Rust's less its lists: identical trees, then times.
     fn build(&self, runs: usize) {
-        let (b, tree) = (shapes::bounds(), &self.tree);
-        let mut room = Room::new(POINTS, tree.key.len());
-        let (nodes, _) = room.build(&b, &self.points, self.keep);
-        assert!(nodes == tree.key.len() && room.key == tree.key && room.own == tree.own);
-        assert!(room.begin == tree.begin && room.total == tree.total && room.order == tree.order);
-        let ours = least(runs, || room.build(&b, &self.points, self.keep));
-        let whole = least(runs.max(7), || rust_build(&b, &self.points, self.keep));
-        let lists = least(runs.max(7), || rust_lists(&b, &self.built));
+        let mut room = Room::new(POINTS, self.tree.key.len());
+        room.build(self.asked());
+        assert!(room.holds(&self.tree));
+        let ours = least(runs, || room.build(self.asked()));
+        let whole = least(runs.max(7), || customer::build(self.asked()));
+        let lists = least(runs.max(7), || {
+            customer::lists(shapes::bounds(), &self.built)
+        });
         self.ratio("build", "rust", ours, whole - lists);
     }
 
@@ -233,12 +113,14 @@ impl Survey {
 
     /// The lists, beside the Rust's and beside both plain readings, which as ours write where there is room already.
     fn lists(&self, runs: usize) {
-        let (b, tree) = (shapes::bounds(), &self.tree);
-        let mut rows = tree.get_interaction_lists().expect("room");
+        let tree = &self.tree;
+        let mut rows = tree.get_interaction_lists().unwrap_or_else(|refusal| {
+            panic!("{}, limit {}: {refusal}", self.shape, self.limit);
+        });
         self.same_rows(&rows);
-        let mut slices = Lent::new(tree, &rows.u, &rows.v);
+        let mut slices = Lent::new(&rows);
         let ours = least(runs, || slices.fill(tree));
-        let rust = least(3, || rust_lists(&b, &self.built));
+        let rust = least(3, || customer::lists(shapes::bounds(), &self.built));
         self.ratio("lists", "rust", ours, rust);
         for (beside, kept) in [("searched", false), ("kept", true)] {
             let time = least(runs, || plain_lists(tree, kept, &mut rows));
@@ -248,36 +130,15 @@ impl Survey {
 
     /// The lookup of all points, beside the Rust's: identical leaves, then times.
     fn lookup(&self, runs: usize) {
-        let b = shapes::bounds();
+        let (b, columns) = (shapes::bounds(), self.tree.columns());
         let mut output = vec![0; POINTS];
-        let mut ours = || lent::points_to_keys(&b, self.tree.columns(), &self.points, &mut output);
+        let mut ours = || lent::points_to_keys(b, columns, &self.points, &mut output);
         ours().expect("stored");
         let time = least(runs, &mut ours);
-        let theirs = || {
-            linear_tree::points_to_keys(
-                matrix(&self.points),
-                &self.built.leaves,
-                self.depth,
-                &b.centre,
-                b.radius,
-                &Dimensions::Three,
-            )
-        };
-        assert_eq!(theirs().unwrap(), output);
+        let theirs = || customer::look_up(b, &self.built.leaves, self.depth, &self.points);
+        assert_eq!(theirs(), output);
         self.ratio("lookup", "rust", time, least(runs, theirs));
     }
-}
-
-/// The keys of all points at level 16, one after the other by the Rust.
-fn rust_keys(b: &Bounds, points: &[f64]) -> Vec<u64> {
-    let side = morton::get_side_length(b.radius, 16);
-    let displacement: Vec<f64> = b.centre.iter().map(|c| c - b.radius).collect();
-    let rows = matrix(points);
-    let key = |i| {
-        let anchor = morton::point_to_anchor(rows.row(i), 16, &displacement, side);
-        morton::encode_morton_point(anchor, &Dimensions::Three)
-    };
-    (0..POINTS).map(key).collect()
 }
 
 /// The root and its eight children: a lookup in this tree leaves little to do but each point's code.
@@ -287,7 +148,7 @@ fn smallest_tree() -> Tree {
     let (mut own, mut total) = (vec![POINTS / 8; 9], vec![POINTS / 8; 9]);
     (own[0], total[0]) = (0, POINTS);
     Tree::from_columns(
-        shapes::bounds(),
+        *shapes::bounds(),
         [0].into_iter().chain(children).collect(),
         own,
         [0].into_iter().chain(begins).collect(),
@@ -301,10 +162,10 @@ fn smallest_tree() -> Tree {
 fn coding(shape: &str, runs: usize) {
     let (b, points) = (shapes::bounds(), shapes::points(shape, POINTS));
     let tree = smallest_tree();
-    let theirs = rust_keys(&b, &points);
+    let theirs = customer::keys(b, &points);
     let mut keys = vec![0; POINTS];
     let ours = least(runs, || {
-        lent::points_to_keys(&b, tree.columns(), &points, &mut keys).expect("a leaf for each")
+        lent::points_to_keys(b, tree.columns(), &points, &mut keys).expect("a leaf for each")
     });
     assert!(
         keys.iter()
@@ -317,71 +178,72 @@ fn coding(shape: &str, runs: usize) {
         }
     });
     assert!(keys == theirs);
-    let rust = least(runs, || rust_keys(&b, &points));
+    let rust = least(runs, || customer::keys(b, &points));
     ratio("coding", "rust", shape, false, ours, rust);
     ratio("coding-each", "rust", shape, false, each, rust);
 }
 
 /// Build and lists together, in milliseconds, for so many uniform points.
 fn build_and_lists(count: usize, runs: usize) -> f64 {
-    let b = shapes::bounds();
     let points = shapes::points("uniform", count);
-    let mut room = Room::new(count, 1 << 20);
-    let (nodes, _) = room.build(&b, &points, false);
-    let tree = Tree::from_columns(
-        b,
-        room.key[..nodes].to_vec(),
-        room.own[..nodes].to_vec(),
-        room.begin[..nodes].to_vec(),
-        room.total[..nodes].to_vec(),
-        room.order.clone(),
-    );
+    let asked = asked(&points, USUAL_LIMIT, false);
+    let tree = Tree::build(asked).expect("a tree");
     let rows = tree.get_interaction_lists().expect("room");
-    let mut slices = Lent::new(&tree, &rows.u, &rows.v);
-    let mut room = Room::new(count, nodes);
-    least(runs, || room.build(&b, &points, false)) + least(runs, || slices.fill(&tree))
+    let mut slices = Lent::new(&rows);
+    let mut room = Room::new(count, tree.key.len());
+    least(runs, || room.build(asked)) + least(runs, || slices.fill(&tree))
 }
 
 /// How much longer build and lists together take for eight times the points.
-fn growth(runs: usize) {
+fn growth(w: &Words) {
+    if w.limit != USUAL_LIMIT {
+        println!("growth is measured with limit {USUAL_LIMIT} alone, and left out here");
+        return;
+    }
     let (few, many) = (
-        build_and_lists(POINTS, runs),
-        build_and_lists(MANY, runs.min(5)),
+        build_and_lists(POINTS, w.runs()),
+        build_and_lists(MANY, w.runs().min(5)),
     );
     println!("  growth uniform: {POINTS} points {few:.2} ms, {MANY} points {many:.2} ms");
     println!("ratio growth rust uniform off {:.3}", many / few);
 }
 
 /// The calls on a tree, for each shape.
-fn surveys(runs: usize) {
+fn surveys(w: &Words) {
     for shape in shapes::SHAPES {
         for keep in [false, true] {
-            let survey = Survey::new(shape, keep);
-            if wanted("build") {
-                survey.build(runs);
+            let survey = Survey::new(shape, w.limit, keep);
+            if w.wants("build") {
+                survey.build(w.runs());
             }
-            if wanted("lookup") {
-                survey.lookup(runs);
+            if w.wants("lookup") {
+                survey.lookup(w.runs());
             }
-            if wanted("lists") {
-                survey.lists(runs);
+            if w.wants("lists") {
+                survey.lists(w.runs());
             }
         }
     }
 }
 
 fn main() {
-    let short = std::env::args().any(|word| word == "--short");
-    let runs = if short { 3 } else { 15 };
-    if ["build", "lookup", "lists"].into_iter().any(wanted) {
-        surveys(runs);
+    let words = Words::read();
+    if words.worst {
+        worst::measure(&words);
+        return;
     }
-    if wanted("coding") {
+    if ["build", "lookup", "lists"]
+        .iter()
+        .any(|call| words.wants(call))
+    {
+        surveys(&words);
+    }
+    if words.wants("coding") {
         for shape in shapes::SHAPES {
-            coding(shape, runs);
+            coding(shape, words.runs());
         }
     }
-    if wanted("growth") {
-        growth(runs);
+    if words.wants("growth") {
+        growth(&words);
     }
 }

@@ -1,15 +1,15 @@
 //! Plain Rust with sorted vectors, to measure beside: no hash set, one row at a time, nothing clever. Two readings: the stored
 //! nodes around a node are looked up by binary search wherever they are wanted, or found once for each node and kept.
 use lohandema::trees::Lists;
-use std::ops::Range;
 
-/// A tree's columns and what follows from them. A node is a place in the columns, which are by level, then code.
+/// A tree's columns and what follows from them. A node is a place in the columns, which are depth first.
 pub struct Plain<'a> {
     axes: usize,
     key: &'a [u64],
     rank: Vec<u64>,
     parent: Vec<u32>,
-    /// The children of a node begin here and end where the next node's begin.
+    /// The children of all nodes, those of one after those of another, and where each node's begin.
+    children: Vec<u32>,
     first_child: Vec<u32>,
     leaf: Vec<bool>,
     sourced: Vec<bool>,
@@ -24,9 +24,9 @@ fn code_of(key: u64) -> u64 {
     key / 32768
 }
 
-/// One number that orders keys by level, then code.
-fn rank_of(level: u64, code: u64) -> u64 {
-    level << 48 | code
+/// One number that orders keys as nodes stand: by the first level-16 code in the cell, then by level.
+pub fn rank_of(axes: usize, level: u64, code: u64) -> u64 {
+    code << (axes as u64 * (16 - level)) << 5 | level
 }
 
 /// The 16 bits of an anchor, one every so many places.
@@ -47,29 +47,42 @@ fn anchors_of(axes: usize, code: u64) -> [i32; 3] {
     anchor
 }
 
-/// Each node's parent, and its first child.
-fn links(axes: usize, key: &[u64], rank: &[u64]) -> (Vec<u32>, Vec<u32>) {
+/// Each node's parent: the last node before it that is one level up.
+fn parents_of(key: &[u64]) -> Vec<u32> {
+    let mut last = [0; 17];
     let mut parent = vec![0; key.len()];
-    let mut first_child = vec![1];
-    let mut above = 0;
     for node in 1..key.len() {
-        let wanted = rank_of(level_of(key[node]) - 1, code_of(key[node]) >> axes);
-        while rank[above] != wanted {
-            above += 1;
-            first_child.push(node as u32);
-        }
-        parent[node] = above as u32;
+        let level = level_of(key[node]) as usize;
+        parent[node] = last[level - 1];
+        last[level] = node as u32;
     }
-    first_child.resize(key.len() + 1, key.len() as u32);
-    (parent, first_child)
+    parent
+}
+
+/// The children of all nodes, and where each node's begin, with one place more for the end.
+fn children_of(parent: &[u32]) -> (Vec<u32>, Vec<u32>) {
+    let mut first_child = vec![0; parent.len() + 1];
+    for above in &parent[1..] {
+        first_child[*above as usize + 1] += 1;
+    }
+    for node in 0..parent.len() {
+        first_child[node + 1] += first_child[node];
+    }
+    let (mut next, mut children) = (first_child.clone(), vec![0; parent.len() - 1]);
+    for (node, above) in parent.iter().enumerate().skip(1) {
+        let place = &mut next[*above as usize];
+        children[*place as usize] = node as u32;
+        *place += 1;
+    }
+    (children, first_child)
 }
 
 impl<'a> Plain<'a> {
     pub fn new(axes: usize, key: &'a [u64], own: &[usize]) -> Plain<'a> {
-        let ranks = key.iter().map(|k| rank_of(level_of(*k), code_of(*k)));
+        let ranks = key.iter().map(|k| rank_of(axes, level_of(*k), code_of(*k)));
         let anchors = key.iter().map(|k| anchors_of(axes, code_of(*k)));
-        let rank: Vec<u64> = ranks.collect();
-        let (parent, first_child) = links(axes, key, &rank);
+        let parent = parents_of(key);
+        let (children, first_child) = children_of(&parent);
         let mut leaf = vec![true; key.len()];
         let mut sourced: Vec<bool> = own.iter().map(|count| *count > 0).collect();
         for node in (1..key.len()).rev() {
@@ -80,8 +93,9 @@ impl<'a> Plain<'a> {
         Plain {
             axes,
             key,
-            rank,
+            rank: ranks.collect(),
             parent,
+            children,
             first_child,
             leaf,
             sourced,
@@ -89,8 +103,8 @@ impl<'a> Plain<'a> {
         }
     }
 
-    fn children(&self, node: usize) -> Range<usize> {
-        self.first_child[node] as usize..self.first_child[node + 1] as usize
+    fn children(&self, node: usize) -> &[u32] {
+        &self.children[self.first_child[node] as usize..self.first_child[node + 1] as usize]
     }
 
     fn parent(&self, node: usize) -> usize {
@@ -144,7 +158,7 @@ impl Around for Searched<'_> {
         for z in &z[..zs] {
             for y in &y[..ys] {
                 for x in &x[..xs] {
-                    let wanted = rank_of(level, x | y | z);
+                    let wanted = rank_of(self.tree.axes, level, x | y | z);
                     if let Ok(found) = self.tree.rank.binary_search(&wanted) {
                         self.found.push(found as u32);
                     }
@@ -168,9 +182,9 @@ impl Kept {
         for node in 1..tree.key.len() {
             let above = tree.parent(node);
             for at in starts[above]..starts[above + 1] {
-                for child in tree.children(nodes[at] as usize) {
-                    if tree.touch(child, node) {
-                        nodes.push(child as u32);
+                for &child in tree.children(nodes[at] as usize) {
+                    if tree.touch(child as usize, node) {
+                        nodes.push(child);
                     }
                 }
             }
@@ -196,8 +210,8 @@ impl Plain<'_> {
             out.push(self.key[node]);
             return;
         }
-        for child in self.children(node) {
-            self.leaves_in(child, out);
+        for &child in self.children(node) {
+            self.leaves_in(child as usize, out);
         }
     }
 
@@ -219,10 +233,11 @@ impl Plain<'_> {
         out[from..].sort_unstable();
     }
 
-    /// A node's V row: its keys come rising, as the nodes do.
+    /// A node's V row: its keys, all of one level, come rising, as the nodes do.
     fn v_row(&self, node: usize, near: &mut impl Around, out: &mut Vec<u64>) {
         for &peer in near.around(self.parent(node)) {
-            for child in self.children(peer as usize) {
+            for &child in self.children(peer as usize) {
+                let child = child as usize;
                 if self.sourced[child] && !self.touch(child, node) {
                     out.push(self.key[child]);
                 }

@@ -3,14 +3,25 @@ use lohandema::points::Bounds;
 
 pub const SHAPES: [&str; 3] = ["uniform", "lines", "cluster"];
 
-pub fn bounds() -> Bounds {
-    Bounds::new(&[0.0, 0.0, 0.0], 1000.0)
+static BOUNDS: Bounds = Bounds {
+    centre: [0.0; 3],
+    radius: 1000.0,
+    axes: 3,
+};
+
+pub fn bounds() -> &'static Bounds {
+    &BOUNDS
 }
 
-struct Random(u64);
+/// Numbers that are the same in every run.
+pub struct Random(u64);
 
 impl Random {
-    fn unit(&mut self) -> f64 {
+    pub fn new() -> Random {
+        Random(41_379_942)
+    }
+
+    pub fn unit(&mut self) -> f64 {
         self.0 = self.0.wrapping_add(0x9E37_79B9_7F4A_7C15);
         let mut z = self.0;
         z = (z ^ (z >> 30)).wrapping_mul(0xBF58_476D_1CE4_E5B9);
@@ -26,7 +37,7 @@ impl Random {
 
 /// So many points of a shape, the same in every run.
 pub fn points(shape: &str, count: usize) -> Vec<f64> {
-    let mut r = Random(41_379_942);
+    let mut r = Random::new();
     let mut all = Vec::with_capacity(count * 3);
     for i in 0..count {
         let point = match shape {

@@ -1,8 +1,8 @@
-//! Calls of the C face that the Rust crate does not let through: a centre and a point that have something past the axes, and
-//! all places of a list. Each array held something before the call.
+//! Calls of the C face that the Rust crate does not let through: a centre and a point that have something past the axes,
+//! all places of a list, and where a cell's run starts. Each array held something before the call.
 use crate::keys::refused;
 use lohandema::points::Bounds;
-use lohandema::{Columns, Refusal};
+use lohandema::{Columns, Refusal, Tree};
 
 #[repr(C)]
 struct Ended {
@@ -49,6 +49,16 @@ unsafe extern "C" {
         leaf: *mut u64,
         steps: *mut u64,
     ) -> Ended;
+    fn lohandema_cell_sources(
+        total: *const usize,
+        total_len: usize,
+        begin: *const usize,
+        begin_len: usize,
+        order: *const usize,
+        order_len: usize,
+        node: usize,
+        start: *mut usize,
+    ) -> usize;
 }
 
 /// The answer. A refusal that has not written 0 is taken as one too, and differs from what is right.
@@ -111,6 +121,25 @@ pub fn point_to_leaf(
         )
     };
     answer(ended, (leaf, steps))
+}
+
+/// How many entries of the order column a cell's run has, and where they start.
+pub fn cell_sources(tree: &Tree, node: usize) -> (usize, usize) {
+    let mut start = 7;
+    // SAFETY: columns are read with their own lengths; `start` is ours.
+    let count = unsafe {
+        lohandema_cell_sources(
+            tree.total.as_ptr(),
+            tree.total.len(),
+            tree.begin.as_ptr(),
+            tree.begin.len(),
+            tree.order.as_ptr(),
+            tree.order.len(),
+            node,
+            &mut start,
+        )
+    };
+    (count, start)
 }
 
 /// These numbers, and past them something that a call has to leave unread: one of four, by turns.

@@ -10,6 +10,8 @@ mod oracle;
 mod points;
 mod random;
 mod refusals;
+mod renumbered;
+mod runs;
 mod tally;
 mod totals;
 mod trees;
@@ -63,13 +65,15 @@ const KINDS: &[Kind] = &[
     ("build", 3_000, builds::build),
     ("refine-limit", 2_000, limits::refinement),
     ("build-refusals", 10_000, builds::refusals),
+    ("renumbered", 3_000, renumbered::renumbered),
+    ("cell-sources", 3_000, runs::cell_sources),
     ("lookup", 3_000, trees::lookup),
     ("lookup-many", 1, trees::lookup_many),
     ("grouping", 2_000, trees::grouping),
     ("sourced", 2_000, trees::sourced),
     ("lists", 20_000, trees::lists),
     ("lists-odd", 30_000, trees::odd_lists),
-    ("near-work", 1_000, trees::near_work),
+    ("near-work", 3_000, trees::near_work),
     ("well-formed", 20_000, refusals::trees_handed_in),
     ("refusals", 4_000, refusals::tree_calls),
     ("large", 1, refusals::large),

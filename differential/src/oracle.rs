@@ -30,8 +30,14 @@ pub fn valid(axes: usize, key: u64) -> bool {
     level(key) <= 16 && code(key) >> (axes as u64 * level(key)) == 0
 }
 
-/// The order of nodes: by level, then ascending code.
-pub fn rank(key: u64) -> (u64, u64) {
+/// A node's place in the order of nodes, which is depth first: by the first level-16 code of the cell, then by level.
+pub fn rank(axes: usize, key: u64) -> (u128, u64) {
+    let up = 16 - level(key);
+    (u128::from(code(key)) << (axes as u64 * up), level(key))
+}
+
+/// The place that it had before, and has in a listing: by level, then ascending code.
+pub fn rank_by_level(key: u64) -> (u64, u64) {
     (level(key), code(key))
 }
 
@@ -118,24 +124,48 @@ pub fn totals(axes: usize, leaves: impl Iterator<Item = (u64, usize)>) -> HashMa
     sums
 }
 
-/// The Rust's tree as columns, in the order of nodes. The totals, which the Rust does not have, are sums over the sources of
-/// its leaves.
-pub fn columns(bounds: &Bounds, lists: &TreeLists) -> Tree {
-    let mut key: Vec<u64> = lists.tree.iter().copied().collect();
-    key.sort_by_key(|&k| rank(k));
+/// Columns of these keys in the order in which they stand, with the sources of each leaf. The totals, which the Rust does not
+/// have, are sums over the sources of its leaves.
+fn columns_of(bounds: &Bounds, key: Vec<u64>, leaves: &HashMap<u64, Vec<usize>>) -> Tree {
     let (mut own, mut begin, mut order) = (vec![], vec![], vec![]);
     for k in &key {
         begin.push(order.len());
-        let sources = lists
-            .leaf_source_indices
-            .get(k)
-            .map_or(&[][..], |v| v.as_slice());
+        let sources = leaves.get(k).map_or(&[][..], |v| v.as_slice());
         own.push(sources.len());
         order.extend_from_slice(sources);
     }
-    let leaves = lists.leaf_source_indices.iter();
-    let sums = totals(bounds.axes, leaves.map(|(k, sources)| (*k, sources.len())));
+    let counts = leaves.iter().map(|(k, sources)| (*k, sources.len()));
+    let sums = totals(bounds.axes, counts);
     let total = key.iter().map(|k| sums.get(k).copied().unwrap_or(0));
     let total = total.collect();
     Tree::from_columns(*bounds, key, own, begin, total, order)
+}
+
+/// The Rust's tree as columns, in the order of nodes.
+pub fn columns(bounds: &Bounds, lists: &TreeLists) -> Tree {
+    let mut key: Vec<u64> = lists.tree.iter().copied().collect();
+    key.sort_by_key(|&k| rank(bounds.axes, k));
+    columns_of(bounds, key, &lists.leaf_source_indices)
+}
+
+/// The same as the columns were before, level by level.
+pub fn columns_by_level(bounds: &Bounds, lists: &TreeLists) -> Tree {
+    let mut key: Vec<u64> = lists.tree.iter().copied().collect();
+    key.sort_by_key(|&k| rank_by_level(k));
+    columns_of(bounds, key, &lists.leaf_source_indices)
+}
+
+/// Columns of these keys in the order in which they stand, with so many sources in each; no order column.
+pub fn tree_in_order(bounds: Bounds, nodes: &[(u64, usize)]) -> Tree {
+    let sums = totals(bounds.axes, nodes.iter().copied());
+    let mut tree = Tree::from_columns(bounds, vec![], vec![], vec![], vec![], vec![]);
+    let mut sum = 0;
+    for (key, own) in nodes {
+        tree.key.push(*key);
+        tree.own.push(*own);
+        tree.begin.push(sum);
+        tree.total.push(sums[key]);
+        sum += own;
+    }
+    tree
 }

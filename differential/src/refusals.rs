@@ -3,6 +3,7 @@ use crate::inputs;
 use crate::keys::refused;
 use crate::oracle::{self, level, rank, valid};
 use crate::random::Random;
+use crate::renumbered;
 use crate::tally::Tally;
 use crate::totals;
 use crate::trees::{self, show};
@@ -22,7 +23,8 @@ pub fn well_formed(tree: &Tree) -> bool {
     if tree.key[0] != 0 || !tree.key.iter().all(|k| valid(tree.axes(), *k)) {
         return false;
     }
-    if !tree.key.windows(2).all(|w| rank(w[0]) < rank(w[1])) {
+    let place = |k| rank(tree.axes(), k);
+    if !tree.key.windows(2).all(|w| place(w[0]) < place(w[1])) {
         return false;
     }
     let d = oracle::dimensions(tree.axes());
@@ -64,7 +66,7 @@ fn damaged(r: &mut Random, tree: &Tree) -> Tree {
     let mut t = tree.clone();
     let n = t.key.len();
     let at = r.index(n);
-    match r.below(17) {
+    match r.below(18) {
         0 => t.bounds.axes = r.pick(&[0, 1, 2, 3, 4, usize::MAX]),
         1 => t.key[at] = r.next() >> r.below(64),
         2 => t.key[at] = t.key[at].wrapping_add(32768),
@@ -104,6 +106,7 @@ fn damaged(r: &mut Random, tree: &Tree) -> Tree {
             t.total.pop();
         }
         15 => t.total.push(0),
+        16 => t = renumbered::by_level(tree),
         _ => {}
     }
     t
@@ -119,19 +122,25 @@ fn some_tree(r: &mut Random) -> Tree {
     }
 }
 
+/// The rule, and the depth, which any columns have.
 fn compare_formed(t: &mut Tally, tree: &Tree) {
+    let input = || format!("{tree:?}");
     t.same(
         "well formed",
         tree.is_well_formed(),
         well_formed(tree),
-        || format!("{tree:?}"),
+        input,
     );
+    let greatest = tree.key.iter().map(|k| level(*k)).max();
+    let right = greatest.unwrap_or(0).max(1);
+    t.same("depth", tree.depth(), right, input);
 }
 
-/// A tree as it is, with one thing changed, and with two; and with wrong totals.
+/// A tree as it is, with one thing changed, and with two; its nodes by level; and with wrong totals.
 pub fn trees_handed_in(t: &mut Tally, r: &mut Random, case: u64) {
     if case == 0 {
         totals::chosen(t);
+        renumbered::chosen(t);
     }
     let tree = some_tree(r);
     compare_formed(t, &tree);
@@ -144,6 +153,7 @@ pub fn trees_handed_in(t: &mut Tally, r: &mut Random, case: u64) {
             compare_formed(t, &damaged(r, &once));
         }
     }
+    renumbered::handed_in_by_level(t, &tree);
     totals::wrong(t, r, &tree);
 }
 
@@ -180,7 +190,12 @@ pub fn tree_calls(t: &mut Tally, r: &mut Random, _case: u64) {
     let mut tree = oracle::columns(&s.bounds, &built);
     let whole = r.below(3) > 0;
     if !whole {
-        tree = damaged(r, &tree);
+        let by_level = r.once_in(4);
+        tree = if by_level {
+            renumbered::by_level(&tree)
+        } else {
+            damaged(r, &tree)
+        };
     }
     let good = well_formed(&tree) && whole;
     if !whole && well_formed(&tree) {
@@ -250,9 +265,39 @@ pub fn tree_calls(t: &mut Tally, r: &mut Random, _case: u64) {
         t.refusal();
     }
 
-    // lookup and grouping
+    // near work, lookup and grouping
+    near_work_call(t, r, &built, &tree, formed);
     lookup_call(t, r, &s, &built, depth, &tree, good);
     grouping_call(t, r, &built, &tree, formed);
+}
+
+/// Near work, which leaves the U list in its slices.
+fn near_work_call(
+    t: &mut Tally,
+    r: &mut Random,
+    built: &ferreus_bbfmm::bbfmm::TreeLists,
+    tree: &Tree,
+    formed: Result<(), Refusal>,
+) {
+    let u = trees::flat(tree, &built.u_lists);
+    let mut starts = lent_slice(r, u.starts.len(), usize::MAX);
+    let mut keys = lent_slice(r, u.keys.len(), u64::MAX);
+    let right = formed
+        .and(asked(u.starts.len() <= starts.len(), (8, 4)))
+        .and(asked(u.keys.len() <= keys.len(), (8, 6)))
+        .map(|_| trees::near_work_of(tree, &built.u_lists));
+    let n = |k: usize| if right.is_ok() { k } else { 0 };
+    let after = (
+        left(starts.len(), &u.starts[..n(u.starts.len())]),
+        left(keys.len(), &u.keys[..n(u.keys.len())]),
+    );
+    let ours = lent::get_near_work(tree.columns(), &mut starts, &mut keys);
+    let input = || format!("{tree:?}");
+    if right.is_err() {
+        t.refusal();
+    }
+    t.same("near work", ours, right, input);
+    t.same("near work's slices", (starts, keys), after, input);
 }
 
 /// The checks 1, 2, 3, 4, 13, 8, and then the points.

@@ -22,7 +22,7 @@ pub fn raise(tree: &mut Tree, node: usize, by: usize) {
 }
 
 /// What the calls that take a tree answer, but for the answer itself.
-fn calls(tree: &Tree) -> [Result<(), Refusal>; 6] {
+pub fn calls(tree: &Tree) -> [Result<(), Refusal>; 6] {
     let axes = tree.axes();
     let centre = &tree.bounds.centre[..axes];
     [
@@ -36,7 +36,7 @@ fn calls(tree: &Tree) -> [Result<(), Refusal>; 6] {
 }
 
 /// No tree, for any call.
-fn no_tree(t: &mut Tally, tree: &Tree, what: &str) {
+pub fn no_tree(t: &mut Tally, tree: &Tree, what: &str) {
     let right = (false, [refused(13, 0); 6]);
     t.refusal();
     let input = || format!("{tree:?}");
@@ -130,20 +130,22 @@ fn downwards(parents: &[Option<usize>], node: usize) -> Vec<usize> {
 /// Two siblings of which one has so much more and the other so much less that the sum, which may wrap, stays: in the two
 /// totals, in all below them as well, and then in the sources that the leaves own, too.
 fn pair(t: &mut Tally, r: &mut Random, tree: &Tree, parents: &[Option<usize>]) {
-    let twins = |node: &usize| parents[*node] == parents[node + 1];
-    let all: Vec<usize> = (1..tree.key.len() - 1).filter(twins).collect();
+    let next =
+        |node: usize| (node + 1..parents.len()).find(|other| parents[*other] == parents[node]);
+    let twins = (1..parents.len()).filter_map(|node| Some((node, next(node)?)));
+    let all: Vec<(usize, usize)> = twins.collect();
     if all.is_empty() {
         return;
     }
-    let one = r.pick(&all);
+    let (one, other) = r.pick(&all);
     let (most, any) = (usize::MAX - tree.total[one], r.next() as usize | 1);
     let more = r.pick(&[most, 1, 1 << 63, any]);
     let less = more.wrapping_neg();
     let mut wrong = tree.clone();
     add(&mut wrong, &[one], more);
-    add(&mut wrong, &[one + 1], less);
+    add(&mut wrong, &[other], less);
     no_tree(t, &wrong, "two totals whose sum stays");
-    let (rising, falling) = (downwards(parents, one), downwards(parents, one + 1));
+    let (rising, falling) = (downwards(parents, one), downwards(parents, other));
     let mut wrong = tree.clone();
     add(&mut wrong, &rising, more);
     add(&mut wrong, &falling, less);
@@ -191,10 +193,10 @@ const CHOSEN: [[&[usize]; 4]; 6] = [
         &[1, usize::MAX, 2],
     ],
     [
-        &[0, 1, 32769, 2, 65538],
-        &[0, 0, 0, 1, 0],
-        &[0, 0, 0, 0, 1],
-        &[1, usize::MAX, 2, 1, 0],
+        &[0, 1, 2, 32769, 65538],
+        &[0, 0, 1, 0, 0],
+        &[0, 0, 0, 1, 1],
+        &[1, usize::MAX, 1, 2, 0],
     ],
 ];
 

@@ -104,32 +104,53 @@ pub fn lookup(t: &mut Tally, r: &mut Random, _case: u64) {
     }
 }
 
-/// Lookups in a tree of so many leaves with sources that their hints are shared.
+/// Points all over the box, or nine of ten of them in a small part of it.
+fn spread(r: &mut Random, b: &Bounds, rows: usize, cluster: bool) -> Vec<f64> {
+    let low: Vec<f64> = b.centre[..b.axes].iter().map(|c| c - b.radius).collect();
+    let mut point = |row: usize| -> Vec<f64> {
+        let all_over = !cluster || row % 10 == 0;
+        let (from, wide) = if all_over { (0.0, 2.0) } else { (1.05, 0.003) };
+        let place = |low: &f64| low + b.radius * (from + wide * r.unit());
+        low.iter().map(place).collect()
+    };
+    (0..rows).flat_map(&mut point).collect()
+}
+
+/// Axes, sources, whether they cluster, and whether empty cells are kept. The table of hints has no room for all of the nodes
+/// of the second and the fourth: counts in it are full, and it is made coarser until its parts fit. In the third they fit in
+/// parts of a size for each depth.
+const MANY: [(usize, usize, bool, bool); 4] = [
+    (1, 50_000, false, true),
+    (2, 30_000, false, true),
+    (3, 4_000, true, true),
+    (3, 8_000, true, true),
+];
+
+/// Lookups in trees of many nodes: of the sources, of others, and of so few that no table is made for them.
 pub fn lookup_many(t: &mut Tally, r: &mut Random, _case: u64) {
-    let bounds = Bounds::new(&[7.5], 64.0);
-    let mut points = |rows: usize| -> Vec<f64> {
-        let low = bounds.centre[0] - bounds.radius;
-        (0..rows)
-            .map(|_| low + 2.0 * bounds.radius * r.unit())
-            .collect()
-    };
-    let (sources, others) = (points(50_000), points(20_000));
-    let s = Survey {
-        bounds,
-        sources,
-        targets: vec![],
-        limit: 1,
-        order: 1,
-        keep_empty: true,
-    };
-    let (lists, depth) = oracle::build(&s);
-    let tree = oracle::columns(&s.bounds, &lists);
-    let owners = tree.own.iter().filter(|&&own| own > 0).count();
-    assert!(owners > 32_768, "hints are not shared: {owners} leaves");
-    for points in [&s.sources, &others] {
-        let right = looked_up(&s, &lists.leaves, depth, points);
-        let ours = tree.points_to_keys(points);
-        t.same("lookup", ours, right, || format!("{} points", points.len()));
+    for (axes, rows, cluster, keep_empty) in MANY {
+        let bounds = Bounds::new(&[7.5, -3.25, 100.0][..axes], 64.0);
+        let sources = spread(r, &bounds, rows, cluster);
+        let others = spread(r, &bounds, 20_000, cluster);
+        let few = others[..axes * 200].to_vec();
+        let s = Survey {
+            bounds,
+            sources,
+            targets: vec![],
+            limit: 1,
+            order: 1,
+            keep_empty,
+        };
+        let (lists, depth) = oracle::build(&s);
+        let tree = oracle::columns(&s.bounds, &lists);
+        let nodes = tree.key.len();
+        assert!(nodes > 15_000, "{nodes} nodes are not many");
+        for points in [&s.sources, &others, &few] {
+            let right = looked_up(&s, &lists.leaves, depth, points);
+            let ours = tree.points_to_keys(points);
+            let input = || format!("{axes} axes, {} coordinates", points.len());
+            t.same("lookup", ours, right, input);
+        }
     }
 }
 
@@ -217,7 +238,7 @@ pub fn sourced(t: &mut Tally, r: &mut Random, _case: u64) {
 }
 
 /// The Rust's rows in node order; an absent entry is an empty row.
-fn flat(tree: &Tree, map: &HashMap<u64, Vec<u64>>) -> Rows {
+pub fn flat(tree: &Tree, map: &HashMap<u64, Vec<u64>>) -> Rows {
     let (mut starts, mut keys) = (vec![0], vec![]);
     for k in &tree.key {
         keys.extend(map.get(k).into_iter().flatten());
@@ -242,20 +263,23 @@ pub fn compare_lists(
     t.same("V", ours_v, Ok(flat(tree, v)), &input);
 }
 
-/// Near work, with the sum over the Rust's U.
+/// Near work, the sum over the Rust's U.
+pub fn near_work_of(tree: &Tree, u: &HashMap<u64, Vec<u64>>) -> u64 {
+    let columns = tree.key.iter().copied().zip(tree.own.iter().copied());
+    let own: HashMap<u64, usize> = columns.collect();
+    let in_row = |row: &Vec<u64>| row.iter().map(|k| own[k]).sum::<usize>();
+    let work: usize = u.iter().map(|(leaf, row)| own[leaf] * in_row(row)).sum();
+    work as u64
+}
+
 pub fn compare_near_work(
     t: &mut Tally,
     tree: &Tree,
     u: &HashMap<u64, Vec<u64>>,
     input: impl Fn() -> String,
 ) {
-    let columns = tree.key.iter().copied().zip(tree.own.iter().copied());
-    let own: HashMap<u64, usize> = columns.collect();
-    let near: usize = u
-        .iter()
-        .map(|(leaf, row)| own[leaf] * row.iter().map(|k| own[k]).sum::<usize>())
-        .sum();
-    t.same("near work", tree.get_near_work(), Ok(near as u64), input);
+    let near = near_work_of(tree, u);
+    t.same("near work", tree.get_near_work(), Ok(near), input);
 }
 
 pub fn lists(t: &mut Tally, r: &mut Random, _case: u64) {
@@ -300,7 +324,7 @@ pub fn odd_tree(r: &mut Random, most: usize) -> TreeLists {
         .filter(|k| *k != 0 && children[k].is_empty())
         .collect();
     let mut sorted: Vec<u64> = leaves.iter().copied().collect();
-    sorted.sort_by_key(|&k| rank(k));
+    sorted.sort_by_key(|&k| rank(axes, k));
     let (mut own, mut next) = (HashMap::new(), 0);
     for k in sorted {
         let count = if r.once_in(2) { 0 } else { r.index(5) };

@@ -1,5 +1,5 @@
 //! What it costs that room is guessed: build, lists and near work of a survey, with room made by the crate and with exactly
-//! the room that is needed; near work of small trees only. `cargo run --release --example room`, or with the number of points after `--`.
+//! the room that is needed. `cargo run --release --example room`, or with the number of points after `--`.
 #[path = "../../bench/src/clock.rs"]
 mod clock;
 #[path = "../../bench/src/shapes.rs"]
@@ -67,14 +67,12 @@ fn measure(name: &str, asked: Asked) {
     tell("build", guessed, least(5, || build_exactly(asked, &tree)));
     let guessed = least(5, || tree.get_interaction_lists());
     tell("lists", guessed, least(5, || lists_exactly(&tree, &lists)));
-    if nodes < 2000 {
-        let guessed = least(5, || tree.get_near_work());
-        tell(
-            "near work",
-            guessed,
-            least(5, || near_exactly(&tree, &lists)),
-        );
-    }
+    let guessed = least(5, || tree.get_near_work());
+    tell(
+        "near work",
+        guessed,
+        least(5, || near_exactly(&tree, &lists)),
+    );
 }
 
 fn main() {
@@ -83,7 +81,7 @@ fn main() {
     let bounds = shapes::bounds();
     for shape in shapes::SHAPES {
         let sources = shapes::points(shape, points);
-        let asked = Asked::new(&bounds, &sources, LIMIT);
+        let asked = Asked::new(bounds, &sources, LIMIT);
         measure(&format!("{shape}, {points} points"), asked);
         let kept = asked.keeping_empty();
         measure(&format!("{shape}, {points} points, empty cells kept"), kept);

@@ -6,7 +6,7 @@ use crate::points::Bounds;
 use crate::raw;
 use crate::refusal::answered;
 
-/// The columns of a tree and its number of axes, lent. A [`Tree`](crate::Tree) lends its own.
+/// The columns of a tree and its number of axes, lent. A [`Tree`](crate::Tree) lends its own, and says how nodes are numbered.
 #[derive(Clone, Copy, Debug, PartialEq, Eq)]
 #[must_use]
 #[non_exhaustive]

@@ -4,14 +4,16 @@
 //! times; each cell that comes of it has a Morton key ([`keys`]). A [`Tree`] holds the cells that a survey needs: a cell
 //! splits while it has more sources than a limit. For each leaf of the tree the near list (U) names the leaves whose
 //! sources are summed one by one, and for each cell the far list (V) names the cells that are summed as groups. A leaf
-//! meets each source exactly once so: through its own U row, or through the V row of itself or of one cell above it.
+//! meets each source exactly once so: through its own U row, or through the V row of itself or of one cell above it. The
+//! sources in any cell are one part of the tree's order column ([`Tree::cell_sources`]), as the nodes are numbered depth
+//! first.
 //!
 //! The calls are proved functions, linked as a static archive. This crate, which is tested and not proved, adds types,
 //! slices and vectors; it works out only how much room to lend and which nodes are nobody's parent. Modules:
 //!
 //! - [`keys`]: level, parent, children, neighbours, touching, encode and decode.
 //! - [`points`]: the box, a point's cell, the float test of two cells.
-//! - [`trees`]: a tree, its leaves, lookup, grouping, sourced cells, lists.
+//! - [`trees`]: a tree, its leaves, the sources of a cell, lookup, grouping, sourced cells, lists.
 //! - [`lent`]: the calls that write, on slices of the caller's own: nothing is allocated.
 //! - [`limits`]: how much the calls take.
 //!
@@ -39,8 +41,8 @@
 //!
 //! # Threads
 //!
-//! The calls keep no state, and any number of threads may use them at once. A thread that looks up points needs half a MiB
-//! of stack, which is less than a thread of Rust has by default.
+//! The calls keep no state, and any number of threads may use them at once. A call uses at most 128 KiB of stack, so that a
+//! thread of a quarter of a MiB can make any; a thread of Rust has 2 MiB by default.
 //!
 //! # What may come
 //!

@@ -121,6 +121,16 @@ unsafe extern "C" {
         node: usize,
         start: *mut usize,
     ) -> usize;
+    pub fn lohandema_cell_sources(
+        total: *const usize,
+        total_len: usize,
+        begin: *const usize,
+        begin_len: usize,
+        order: *const usize,
+        order_len: usize,
+        node: usize,
+        start: *mut usize,
+    ) -> usize;
     pub fn lohandema_points_to_keys(
         centre: *const [f64; 3],
         radius: f64,

@@ -55,7 +55,7 @@ impl Refusal {
     pub const DEEP: u64 = 11;
     /// A point is in the box, but no leaf of the tree holds it; the value is its index.
     pub const UNSTORED: u64 = 12;
-    /// The columns are not a well-formed tree; a wrong total is enough.
+    /// The columns are not a well-formed tree; a wrong total is enough, or nodes that do not stand depth first.
     pub const TREE: u64 = 13;
     /// A key to group is no leaf of the tree; the value is the lowest index of such.
     pub const NOTLEAF: u64 = 14;
@@ -130,7 +130,7 @@ impl Refusal {
                 "a cell of level 16 has no children: ask for those of a cell of level 15 or less"
             }
             Refusal::TREE => {
-                "the columns are not a well-formed tree: hand in all four columns of a build (key, own, begin and total), each cut to its number of nodes"
+                "the columns are not a well-formed tree: hand in all four (key, own, begin and total) as a build of this version wrote them, each cut to its number of nodes"
             }
             Refusal::FILE => "the survey file breaks its rules: write the file anew",
             _ => "the call was refused: docs/REFUSALS.md says why",

@@ -70,12 +70,21 @@ pub(crate) fn lists(tree: &Tree) -> (usize, usize) {
     (capped(u), capped(v))
 }
 
-/// How many parents these keys have, and the squares of the numbers of their children, summed. Siblings stand together.
+/// How many parents these keys have, and the squares of the numbers of their children, summed. Among the keys of one level
+/// siblings follow each other.
 fn families(axes: usize, keys: &[u64]) -> (usize, f64) {
-    let parent = |key: u64| (key % 32768, (key / 32768) >> axes);
-    let families = keys.chunk_by(|a, b| parent(*a) == parent(*b));
-    families.fold((0, 0.0), |(count, squares), children| {
-        (count + 1, squares + (children.len() as f64).powi(2))
+    // of each level, the code of the last key's parent, which no code of a key comes up to, and how many children it had
+    let mut last = [(u64::MAX, 0); DEEPEST as usize + 1];
+    keys.iter().fold((0, 0.0), |(count, squares), key| {
+        let family = &mut last[(key % 32768).min(DEEPEST) as usize];
+        let parent = (key / 32768) >> axes;
+        let nth = if family.0 == parent { family.1 + 1 } else { 1 };
+        *family = (parent, nth);
+        // n squared is the sum of the first n odd numbers
+        (
+            count + usize::from(nth == 1),
+            squares + (2 * nth - 1) as f64,
+        )
     })
 }
 

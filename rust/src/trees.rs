@@ -1,4 +1,4 @@
-//! Trees: nodes by level and then ascending code, in columns.
+//! Trees: nodes depth first, a cell, then its children ascending, each followed by its own; in columns.
 
 use crate::keys;
 use crate::lent::{self, Asked, Columns};
@@ -11,11 +11,15 @@ pub use crate::rows::{Groups, Lists, Rows};
 
 /// A tree: its box, its columns with an entry for each node, and the order of its sources.
 ///
+/// The nodes are numbered depth first: a cell, then its children ascending, each followed by its own. So all nodes at or under
+/// a cell stand together, and the sources in it are one part of the order column: [`Tree::cell_sources`].
+///
 /// A build makes a tree; [`Tree::from_columns`] takes one as it is. The fields may be changed: every call judges the columns
 /// anew, and what is no tree is refused, [`TREE`](Refusal::TREE). Well formed are columns of one length, at least 1, whose
-/// keys are valid and ascend by level, then code, the first being the root; in which each other node's parent is present,
-/// only leaves own sources, `begin` has the running sums of `own`, which come to at most 1,048,576, and `total` has for each
-/// node the number of sources in the cell and all below it.
+/// keys are valid and in that order, the first being the root; in which each other node's parent is present, only leaves own
+/// sources, `begin` has the running sums of `own`, which come to at most 1,048,576, and `total` has for each node the number
+/// of sources in the cell and all below it. Columns whose nodes stand level by level, as version 0.2 had them, are refused
+/// unless both orders are the same.
 ///
 /// ```
 /// use lohandema::{Bounds, Tree};
@@ -36,7 +40,7 @@ pub use crate::rows::{Groups, Lists, Rows};
 pub struct Tree {
     /// The box, whose axes are the tree's.
     pub bounds: Bounds,
-    /// Each node's key.
+    /// Each node's key, depth first.
     pub key: Vec<u64>,
     /// How many sources each node owns; only leaves own any.
     pub own: Vec<usize>,
@@ -45,7 +49,7 @@ pub struct Tree {
     /// The number of sources in each node's cell and all below it: a leaf's own, and the sum of the children's for any other
     /// node. That of the root is the number of all sources.
     pub total: Vec<usize>,
-    /// The indices of the sources, leaf by leaf, ascending within a leaf.
+    /// The indices of the sources, leaf by leaf in the order of the nodes, ascending within a leaf.
     pub order: Vec<usize>,
 }
 
@@ -68,10 +72,10 @@ impl Tree {
     /// use lohandema::{Asked, Bounds, Tree};
     /// let bounds = Bounds::new(&[4.0], 4.0);
     /// let tree = Tree::build(Asked::new(&bounds, &[0.5, 1.5, 6.5, 7.5], 1))?;
-    /// assert_eq!(tree.key, [0, 1, 32769, 2, 98306, 3, 32771, 196611, 229379]);
+    /// assert_eq!(tree.key, [0, 1, 2, 3, 32771, 32769, 98306, 196611, 229379]);
     /// let lists = tree.get_interaction_lists()?;
-    /// assert_eq!(lists.u.row(5), [3, 32771]);
-    /// assert_eq!(lists.v.row(3), [98306]);
+    /// assert_eq!(lists.u.row(3), [3, 32771]);
+    /// assert_eq!(lists.v.row(2), [98306]);
     /// # Ok::<(), lohandema::Refusal>(())
     /// ```
     ///
@@ -142,14 +146,15 @@ impl Tree {
         }
     }
 
-    /// The last node's level, at least 1.
+    /// The greatest level of any node, at least 1. Of any column, also where that is no tree.
     #[must_use]
     pub fn depth(&self) -> u64 {
         // SAFETY: the column is read with its own length.
         unsafe { raw::lohandema_depth_of(self.key.as_ptr(), self.key.len()) }
     }
 
-    /// A node's part of the order column; empty where a column does not have it.
+    /// A node's own part of the order column; empty where a column does not have it. [`cell_sources`](Tree::cell_sources) has
+    /// the sources of all below it too.
     #[must_use]
     pub fn leaf_sources(&self, node: usize) -> &[usize] {
         let mut start = 0;
@@ -166,6 +171,43 @@ impl Tree {
                 &mut start,
             )
         };
+        self.part(start, count)
+    }
+
+    /// The part of the order column that has all sources in a node's cell, leaf by leaf and not ascending as a whole: `total`
+    /// entries from `begin` on, which for a leaf is [`leaf_sources`](Tree::leaf_sources). Empty where a column does not have it.
+    ///
+    /// ```
+    /// use lohandema::{Asked, Bounds, Tree};
+    /// let bounds = Bounds::new(&[4.0], 4.0);
+    /// let tree = Tree::build(Asked::new(&bounds, &[1.5, 6.5, 0.5, 7.5], 1))?;
+    /// assert_eq!(tree.key[1..5], [1, 2, 3, 32771]);
+    /// assert_eq!(tree.cell_sources(1), [2, 0]);
+    /// assert_eq!(tree.cell_sources(0), tree.order);
+    /// assert_eq!(tree.cell_sources(9), []);
+    /// # Ok::<(), lohandema::Refusal>(())
+    /// ```
+    #[must_use]
+    pub fn cell_sources(&self, node: usize) -> &[usize] {
+        let mut start = 0;
+        // SAFETY: columns are read with their own lengths; `start` is ours.
+        let count = unsafe {
+            raw::lohandema_cell_sources(
+                self.total.as_ptr(),
+                self.total.len(),
+                self.begin.as_ptr(),
+                self.begin.len(),
+                self.order.as_ptr(),
+                self.order.len(),
+                node,
+                &mut start,
+            )
+        };
+        self.part(start, count)
+    }
+
+    /// So many entries of the order column from a place on.
+    fn part(&self, start: usize, count: usize) -> &[usize] {
         let part = self.order.get(start..).and_then(|rest| rest.get(..count));
         part.unwrap_or(&[])
     }
@@ -198,17 +240,14 @@ impl Tree {
         Ok(self.leaf_numbers()?.into_iter().map(leaf))
     }
 
-    /// The nodes that are nobody's parent, without the root.
+    /// The nodes that are nobody's parent, without the root. A node's first child stands right behind it.
     fn leaf_numbers(&self) -> Result<Vec<usize>, Refusal> {
         if !self.is_well_formed() {
             keys::get_level(self.axes(), 0)?;
             return Err(Refusal::new(Refusal::TREE, 0));
         }
-        let parent = |key: &u64| keys::get_parent(self.axes(), *key);
-        let mut parents: Vec<u64> = self.key.iter().flat_map(parent).collect();
-        parents.sort_unstable();
-        parents.dedup();
-        let is_leaf = |node: &usize| parents.binary_search(&self.key[*node]).is_err();
+        let level = |node: usize| self.key.get(node).map_or(0, |key| key % 32768);
+        let is_leaf = |node: &usize| level(node + 1) <= level(*node);
         Ok((1..self.key.len()).filter(is_leaf).collect())
     }
 

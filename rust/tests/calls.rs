@@ -32,26 +32,27 @@ fn scattered(axes: usize, count: usize) -> Vec<f64> {
 fn the_example() {
     let tree = example();
     assert_eq!(tree.bounds, Bounds::new(&[4.0], 4.0));
-    assert_eq!(tree.key, [0, 1, 32769, 2, 98306, 3, 32771, 196611, 229379]);
-    assert_eq!(tree.own, [0, 0, 0, 0, 0, 1, 1, 1, 1]);
-    assert_eq!(tree.begin, [0, 0, 0, 0, 0, 0, 1, 2, 3]);
-    assert_eq!(tree.total, [4, 2, 2, 2, 2, 1, 1, 1, 1]);
+    assert_eq!(tree.key, [0, 1, 2, 3, 32771, 32769, 98306, 196611, 229379]);
+    assert_eq!(tree.own, [0, 0, 0, 1, 1, 0, 0, 1, 1]);
+    assert_eq!(tree.begin, [0, 0, 0, 0, 1, 2, 2, 2, 3]);
+    assert_eq!(tree.total, [4, 2, 2, 1, 1, 2, 2, 1, 1]);
     assert_eq!(tree.order, [0, 1, 2, 3]);
     assert_eq!(tree.depth(), 3);
     assert!(tree.is_well_formed());
-    assert_eq!(tree.leaf_sources(6), [1]);
+    assert_eq!(tree.leaf_sources(4), [1]);
+    assert_eq!(tree.cell_sources(5), [2, 3]);
     assert_eq!(tree.point_to_leaf(&[6.9]), Ok((196611, 0)));
     let (leaves, steps) = tree.points_to_keys(&[7.9, 0.0]).unwrap();
     assert_eq!((leaves, steps), (vec![229379, 3], 0));
     let groups = tree.get_points_to_leaves_map(&[229379, 3, 229379]).unwrap();
-    assert_eq!(groups.starts, [0, 0, 0, 0, 0, 0, 1, 1, 1, 3]);
+    assert_eq!(groups.starts, [0, 0, 0, 0, 1, 1, 1, 1, 1, 3]);
     assert_eq!(groups.indices, [1, 0, 2]);
     assert_eq!(tree.get_sourced_cells().unwrap().len(), 9);
     assert_eq!(tree.get_near_work(), Ok(8));
     let lists = tree.get_interaction_lists().unwrap();
-    assert_eq!(lists.u.row(5), [3, 32771]);
-    assert_eq!(lists.u.row(3), []);
-    assert_eq!(lists.v.row(3), [98306]);
+    assert_eq!(lists.u.row(3), [3, 32771]);
+    assert_eq!(lists.u.row(2), []);
+    assert_eq!(lists.v.row(2), [98306]);
 }
 
 #[test]

@@ -82,6 +82,7 @@ fn calls(tree: &Tree) {
     let axes = tree.axes();
     for node in [0, 1, 2, 3, 1 << 20, usize::MAX - 1, usize::MAX] {
         assert!(tree.leaf_sources(node).len() <= tree.order.len());
+        assert!(tree.cell_sources(node).len() <= tree.order.len());
     }
     assert!(tree.depth() >= 1);
     assert!(known(axes) || !tree.is_well_formed());
@@ -141,6 +142,30 @@ fn parts_of_unequal_columns_are_empty() {
 }
 
 #[test]
+fn runs_of_unequal_columns_are_empty() {
+    let bounds = Bounds::new(&[4.0], 4.0);
+    let (key, total, begin) = (vec![0, 1, 32769], vec![3, 1, 2], vec![0, 0, 1]);
+    // what the nodes own is not looked at here
+    let mut tree = Tree::from_columns(bounds, key, vec![], begin, total, vec![4, 5, 6]);
+    assert_eq!(tree.cell_sources(0), [4, 5, 6]);
+    assert_eq!(tree.cell_sources(2), [5, 6]);
+    tree.order.pop();
+    assert!(tree.cell_sources(0).is_empty() && tree.cell_sources(2).is_empty());
+    assert_eq!(tree.cell_sources(1), [4]);
+    tree.order.extend([6, 7]);
+    tree.begin[2] = usize::MAX;
+    assert!(tree.cell_sources(2).is_empty());
+    // where the sum wraps to 1
+    tree.total[2] = 2;
+    assert!(tree.cell_sources(2).is_empty());
+    tree.begin.pop();
+    assert!(tree.cell_sources(2).is_empty());
+    tree.total.truncate(1);
+    assert!(tree.cell_sources(1).is_empty());
+    assert_eq!(tree.cell_sources(0), [4, 5, 6]);
+}
+
+#[test]
 fn builds_of_any_argument() {
     for axes in AXES {
         let mut bounds = Bounds::new(&[4.0; 3], 4.0);
@@ -194,6 +219,7 @@ fn more_points_than_are_taken() {
     assert_eq!(Tree::build(refined), Err(count));
     let tree = Tree::build(Asked::new(&bounds, &many[1..], MOST_POINTS)).unwrap();
     assert_eq!(tree.leaf_sources(1).len(), MOST_POINTS);
+    assert_eq!(tree.cell_sources(0).len(), MOST_POINTS);
     assert_eq!(tree.points_to_keys(&many), Err(count));
     assert_eq!(
         tree.points_to_keys(&many[1..]).unwrap().0.len(),

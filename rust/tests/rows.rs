@@ -16,8 +16,8 @@ fn rows_of_the_lists() {
     assert_eq!((u.len(), lists.u.len(), lists.u.is_empty()), (9, 9, false));
     assert!((0..9).all(|node| lists.u.row(node) == u[node]));
     assert!((0..9).all(|node| lists.u.get(node) == Some(u[node])));
-    assert_eq!((u[3], u[8]), (&[][..], &[196611, 229379][..]));
-    assert_eq!(lists.v.iter().rev().nth(5), Some(&[98306][..]));
+    assert_eq!((u[2], u[8]), (&[][..], &[196611, 229379][..]));
+    assert_eq!(lists.v.iter().rev().nth(6), Some(&[98306][..]));
     for node in ODD {
         assert_eq!((lists.u.row(node), lists.u.get(node)), (&[][..], None));
     }
@@ -28,7 +28,7 @@ fn groups_of_points() {
     let groups = example()
         .get_points_to_leaves_map(&[229379, 3, 229379])
         .unwrap();
-    assert_eq!((groups.group(8), groups.group(5)), (&[0, 2][..], &[1][..]));
+    assert_eq!((groups.group(8), groups.group(3)), (&[0, 2][..], &[1][..]));
     assert_eq!((groups.len(), groups.is_empty()), (9, false));
     assert_eq!(groups.iter().map(<[usize]>::len).sum::<usize>(), 3);
     for node in ODD {
@@ -56,10 +56,11 @@ fn leaves_of_a_tree() {
     let tree = example();
     let leaves: Vec<_> = tree.leaves().unwrap().collect();
     let nodes: Vec<usize> = leaves.iter().map(|leaf| leaf.node).collect();
-    assert_eq!(nodes, [5, 6, 7, 8]);
+    assert_eq!(nodes, [3, 4, 7, 8]);
     for leaf in leaves {
         assert_eq!(leaf.key, tree.key[leaf.node]);
         assert_eq!(leaf.sources, tree.leaf_sources(leaf.node));
+        assert_eq!(leaf.sources, tree.cell_sources(leaf.node));
         assert_eq!(leaf.sources.len(), 1);
     }
 }

@@ -1,4 +1,4 @@
-//! Calls keep no state: threads share a tree, and half a MiB of stack is enough for each.
+//! Calls keep no state: threads share a tree, and a quarter of a MiB of stack is enough for each.
 
 use lohandema::{Asked, Bounds, Groups, Lists, Tree};
 use std::thread;
@@ -18,13 +18,13 @@ fn calls(sources: &[f64], axes: usize) -> (Tree, Lists, Groups, u64) {
 }
 
 #[test]
-fn threads_of_half_a_mebibyte_agree() {
+fn threads_of_a_quarter_mebibyte_agree() {
     let sources: Vec<f64> = (0..600).map(|i| f64::from(i * i % 601) / 80.0).collect();
     for axes in 1..=3 {
         let here = calls(&sources, axes);
         thread::scope(|scope| {
             for _ in 0..4 {
-                let small = thread::Builder::new().stack_size(512 * 1024);
+                let small = thread::Builder::new().stack_size(256 * 1024);
                 let there = small.spawn_scoped(scope, || calls(&sources, axes)).unwrap();
                 assert!(there.join().unwrap() == here);
             }

@@ -1,4 +1,4 @@
-"""draw: the samples, each leaf's rows, slices, marks, listings with a fault, and bad input."""
+"""draw: the samples, each leaf's rows, each cell's readings, slices, marks, listings with a fault, and bad input."""
 
 import math
 import re
@@ -49,6 +49,8 @@ class Draw(ToolTest):
         for name, arguments in PICTURES.items():
             self.draw(name, *arguments.split())
             self.assertEqual(self.read("picture"), self.read(name + ".svg"), name)
+        self.cell_picture("three-lines", 98305)
+        self.assertEqual(self.read("picture"), self.read("three-lines-cell.svg"))
 
     def test_rows_of_every_leaf(self):
         """One and two axes: exactly the cells of the leaf's rows are coloured, and all readings are marked by them."""
@@ -68,6 +70,60 @@ class Draw(ToolTest):
                 marks = Counter(shape.get("class") for shape in shapes if shape.tag.endswith("circle"))
                 # the legend has one of each kind
                 self.assertEqual((marks["single"] - 1, marks["grouped"] - 1), (singly, total - singly))
+
+    def cell_picture(self, name, key, *arguments):
+        """The picture of a cell as a list of elements, and how many readings it tells."""
+        told = self.done("draw", name + ".survey", name + ".listing", "--cell", str(key), "-o", "picture", *arguments)
+        number = [node[0] for node in self.listing(name)].index(key)
+        form = r"draw: cell %d \(node %d of %s.listing, level %d\) holds ([0-9]+) readings? of ([0-9]+)\n"
+        count, of = re.fullmatch(form % (key, number, name, key % 32768), told).groups()
+        self.assertEqual(int(of), len(house.read_survey(self.path(name + ".survey")).sources))
+        return list(xml.fromstring(self.read("picture")).iter()), int(count)
+
+    def sources_in(self, name, key):
+        """The sources between the walls of a cell, by their coordinates alone."""
+        survey = house.read_survey(self.path(name + ".survey"))
+        low, high = house.cell_bounds(survey, key)
+        return {i for i, row in enumerate(survey.sources) if all(a <= x < b for a, x, b in zip(low, row, high))}
+
+    def test_every_cell(self):
+        """One and two axes: of each cell the readings in it are marked, told and in the legend; what is stored in it is
+        coloured."""
+        for name, axes in (("example", 1), ("three-lines", 2)):
+            keys = [node[0] for node in self.listing(name)]
+            parents = {house.ancestors(axes, key)[1] for key in keys[1:]}
+            for key in keys:
+                shapes, count = self.cell_picture(name, key)
+                inside = self.sources_in(name, key)
+                self.assertEqual((marked(shapes, "inside"), count), (inside, len(inside)), key)
+                told = [s.text for s in shapes if (s.text or "").startswith("reading in the cell: ")]
+                self.assertEqual(told, ["reading in the cell: %d" % count])
+                below = [k for k in keys if key in house.ancestors(axes, k) and (axes == 1 or k not in parents)]
+                self.assertEqual(len([s for s in shapes if s.get("class") == "inner"]), len(below))
+                self.assertEqual(len([s for s in shapes if s.get("class") == "chosen"]), 1)
+
+    def test_cell_in_slices(self):
+        """Three axes: slices through every layer of finest cells show each reading of a cell; without a coordinate the slice
+        goes through a reading of the cell."""
+        keys = [node[0] for node in self.listing("two-heights")]
+        for key in (keys[0], keys[4], keys[12], keys[51]):
+            inside, seen = self.sources_in("two-heights", key), set()
+            for height in range(4, 64, 8):
+                shapes, count = self.cell_picture("two-heights", key, "--slice", "z=%d" % height)
+                self.assertEqual(count, len(inside))
+                self.assertLessEqual(marked(shapes, "inside"), inside)
+                seen |= marked(shapes, "inside")
+            self.assertEqual(seen, inside)
+            shapes, _ = self.cell_picture("two-heights", key)
+            through = [s.text for s in shapes if (s.text or "").startswith("Slice at")][0]
+            self.assertIn(int(re.search("through source ([0-9]+):", through).group(1)), inside)
+
+    def test_empty_cell(self):
+        """A stored cell without readings: none is marked."""
+        empty = [node[0] for node in self.listing("two-heights") if not self.sources_in("two-heights", node[0])][0]
+        shapes, count = self.cell_picture("two-heights", empty)
+        self.assertEqual((count, marked(shapes, "inside")), (0, set()))
+        self.assertEqual(len([s for s in shapes if s.get("class") == "chosen"]), 1)
 
     def test_slices(self):
         """Three axes: slices through the middle of every layer of finest cells show each listed cell at some place."""
@@ -194,6 +250,14 @@ class Draw(ToolTest):
             "--slice w": "the axis is x, y or z",
             "--slice z=low": "'low' is not a number; give coordinates as 2.5",
             "--at=1,here": "'here' is not a number",
+            "--cell 32770": "--cell 32770: example.listing has no such cell; choose one that is stored, by the second number",
+            "--cell 65537": "--cell 65537: no key of 1 axes; give the second number of a node line of example.listing",
+            "--cell 18446744073709551616": "--cell 18446744073709551616: no key of 1 axes",
+            "--cell=-1": "'-1' is not a key; give the second number of the cell's node line",
+            "--cell all": "'all' is not a key; give the second number of the cell's node line",
+            "--cell 1 --leaf 6": "--cell marks what lies in a cell, and --leaf what a leaf sums; leave one of them out",
+            "--key 3 --cell 1": "--cell marks what lies in a cell, and --key what a leaf sums; leave one of them out",
+            "--cell 0 --at=1": "--cell marks what lies in a cell, and --at what a leaf sums; leave one of them out",
             "-o -": "-o -: nothing is written to standard output; name a file",
             "-o example.survey": "example.survey: would be written over example.survey; name another file",
         }
@@ -201,6 +265,12 @@ class Draw(ToolTest):
             self.refused(message, "draw", "example.survey", "example.listing", "-o", "out", *arguments.split())
         self.refused("--slice: z = 64.0 is outside the box of two-heights.survey",
                      "draw", "two-heights.survey", "two-heights.listing", "--slice", "z=64", "-o", "out")
+
+
+def marked(shapes, kind):
+    """The sources that have a mark of a kind: those whose hints say so."""
+    titles = [part.text for s in shapes if s.get("class") == kind for part in s]
+    return {int(re.match("source ([0-9]+): ", title).group(1)) for title in titles}
 
 
 def drawn(shapes, kind):

@@ -1,100 +1,139 @@
--- At most 6 ^ d nodes are around a cell: on each axis a cell whose parent is near has one of 6 offsets.
-use mathlib.Core.Path.{_≡_, refl, sym, ap₂, _∙_}
+-- At most 3 ^ d nodes are near a cell, and at most 6 ^ d around it: on each axis such a node has one of 3 or 6 offsets.
+use mathlib.Core.Path.{_≡_, refl, sym, ap, ap₂, _∙_}
 use mathlib.Core.Bool.{Bool, true, _&&_}
 use mathlib.Core.List.{List, map}
 use Prim.Native.Nat.{ℕ, zero, suc, _+_, _*_, _-_, _/_, _%_, _^_, _≤_, _<_}
 use native.Mathlib.Omega.{arith}
-use native.Mathlib.Nat.{not-suc-le-zero}
+use native.Mathlib.Nat.{not-suc-le-zero, suc-mul, pow-succ'}
+use native.Mathlib.Numerals.{unary-clauses}
 use native.Mathlib.Decide.{decLt}
 use lib.Dec.{eqb}
+use lib.ListN.{length, getD}
 use borrow.Author.Tests.{eqb-true}
-use Rattle.slices.specs.Every.{every}
 use Rattle.slices.specs.Lists.{sum, range, count, Mem, Distinct}
 use Rattle.slices.proofs.Tests.{and-l, and-r}
+use Rattle.slices.proofs.Every.{every-at}
 use Rattle.slices.proofs.Counts.{count-few}
 use Rattle.slices.proofs.Rows.{count-split}
-use Rattle.morton.specs.Keys.{neighboursRoom, farRoom, key, levelOf, codeOf}
+use Rattle.slices.proofs.Lists.{length-filter}
+use Rattle.morton.specs.Keys.{key, levelOf, codeOf}
 use Rattle.morton.specs.Anchors.{anchor, near, within1}
 use Rattle.morton.proofs.Cells.{key-parts}
 use Rattle.morton.proofs.Nearness.{within-lo, within-hi, anchors-tell}
-use Rattle.tree.proofs.Stored.{distinct, code-lt}
-use Rattle.sourced.specs.Trees.{SoundTree}
-use Rattle.sourced.proofs.Below.{tree-facts}
-use Rattle.around.specs.Around.{around}
+use Rattle.tree.specs.WellFormed.{SoundTree}
+use Rattle.tree.proofs.Stored.{code-lt}
+use Rattle.around.specs.Around.{around, nearTo, aroundNodes, nearNodes}
+use Rattle.around.proofs.Lists.{keys-filter, length-mapped}
+use Rattle.around.proofs.Nodes.{well, alone}
 
--- Cells of level suc level, whose parents are beside the cell with code p
-module _ (d : ℕ) (keys : List ℕ) (dist : Distinct keys) (level p : ℕ) where
+sum-most : (f : ℕ → ℕ) (b a n : ℕ) → ((v : ℕ) → f v ≤ b) → sum (map f (range a n)) ≤ n * b
+unfolding sum range
+sum-most f b a zero h = omega arith
+sum-most f b a (suc n) h = omega (arith, h a, sum-most f b (suc a) n h, suc-mul n b)
+
+-- cells of one level whose anchor on axis a is one of w from 2 before `base a` on
+module _ (d : ℕ) (keys : List ℕ) (dist : Distinct keys) (level w : ℕ) (base : ℕ → ℕ) where
   record Fit (n : ℕ) (q : ℕ → Bool) : Type 0 where
     -- the anchors on the first n axes tell the cells that pass apart
     tells : (x y : ℕ) → Mem x keys → Mem y keys → q x ≡ true → q y ≡ true
-        → ((a : ℕ) → a < n → anchor d a (suc level) (codeOf x) ≡ anchor d a (suc level) (codeOf y)) → x ≡ y
-    -- and on those axes their parents are near p
-    window : (x : ℕ) → Mem x keys → q x ≡ true → near n d level (p) (codeOf x / 2 ^ d) ≡ true
+        → ((a : ℕ) → a < n → anchor d a level (codeOf x) ≡ anchor d a level (codeOf y)) → x ≡ y
+    -- and on those axes they are in the window
+    from : (x : ℕ) → q x ≡ true → (a : ℕ) → a < n → base a ≤ anchor d a level (codeOf x) + 2
+    to : (x : ℕ) → q x ≡ true → (a : ℕ) → a < n → anchor d a level (codeOf x) + 2 < base a + w
 
-  -- from 2 cells before p on
   off : ℕ → ℕ → ℕ
-  off n x = anchor d n (suc level) (codeOf x) + 2 - 2 * anchor d n level (p)
-
-  off-span : (n : ℕ) (q : ℕ → Bool) → Fit (suc n) q → (x : ℕ) → Mem x keys → q x ≡ true
-      → (off n x + 2 * anchor d n level (p) ≡ anchor d n (suc level) (codeOf x) + 2) × (off n x < 6)
-  unfolding off anchor near every
-  off-span n q fit x m h =
-      let w = and-l (within1 (anchor d n level (p)) (anchor d n level (codeOf x / 2 ^ d))) _ (fit .window x m h) in
-      let lo = within-lo (anchor d n level (p)) (anchor d n level (codeOf x / 2 ^ d)) w in
-      let hi = within-hi (anchor d n level (p)) (anchor d n level (codeOf x / 2 ^ d)) w in
-      omega arith
+  off n x = anchor d n level (codeOf x) + 2 - base n
 
   -- the cells with one offset on axis n fit on the axes before it
   fit-at : (n : ℕ) (q : ℕ → Bool) → Fit (suc n) q → (v : ℕ) → Fit n (λ x. q x && eqb (off n x) v)
-  unfolding near every
+  unfolding off
   fit-at n q fit v = record {
-    tells = λ x y mx my hx hy e. fit .tells x y mx my (and-l _ _ hx) (and-l _ _ hy) (more x y mx my hx hy e);
-    window = λ x m h. and-r (within1 (anchor d n level (p)) (anchor d n level (codeOf x / 2 ^ d))) _ (fit .window x m (and-l _ _ h));
+    tells = λ x y mx my hx hy e. fit .tells x y mx my (and-l _ _ hx) (and-l _ _ hy) (more x y hx hy e);
+    from = λ x h a l. fit .from x (and-l _ _ h) a (omega arith);
+    to = λ x h a l. fit .to x (and-l _ _ h) a (omega arith);
   }
     where
-      more : (x y : ℕ) → Mem x keys → Mem y keys → (q x && eqb (off n x) v) ≡ true → (q y && eqb (off n y) v) ≡ true
-          → ((a : ℕ) → a < n → anchor d a (suc level) (codeOf x) ≡ anchor d a (suc level) (codeOf y))
-          → (a : ℕ) → a < suc n → anchor d a (suc level) (codeOf x) ≡ anchor d a (suc level) (codeOf y)
-      more x y mx my hx hy e a l = go (decLt a n)
+      more : (x y : ℕ) → (q x && eqb (off n x) v) ≡ true → (q y && eqb (off n y) v) ≡ true
+          → ((a : ℕ) → a < n → anchor d a level (codeOf x) ≡ anchor d a level (codeOf y))
+          → (a : ℕ) → a < suc n → anchor d a level (codeOf x) ≡ anchor d a level (codeOf y)
+      more x y hx hy e a l = go (decLt a n)
         where
-          go : Dec (a < n) → anchor d a (suc level) (codeOf x) ≡ anchor d a (suc level) (codeOf y)
+          go : Dec (a < n) → anchor d a level (codeOf x) ≡ anchor d a level (codeOf y)
           go (yes k) = e a k
           go (no k) =
               let same : a ≡ n = omega arith in
-              rw same (omega (arith, off-span n q fit x mx (and-l _ _ hx) .0, off-span n q fit y my (and-l _ _ hy) .0, eqb-true (off n x) v (and-r (q x) _ hx), eqb-true (off n y) v (and-r (q y) _ hy)))
+              rw same (omega (arith, fit .from x (and-l _ _ hx) n (omega arith), fit .from y (and-l _ _ hy) n (omega arith), eqb-true (off n x) v (and-r (q x) _ hx), eqb-true (off n y) v (and-r (q y) _ hy)))
 
-  by-offset : (n : ℕ) (q : ℕ → Bool) → Fit (suc n) q → count q keys ≡ sum (map (λ v. count (λ x. q x && eqb (off n x) v) keys) (range 0 6))
-  by-offset n q fit = count-split q (off n) keys 6 (λ x m h. off-span n q fit x m h .1)
-
-  most : (n : ℕ) (q : ℕ → Bool) → Fit n q → count q keys ≤ 6 ^ n
-  unfolding sum range
-  most zero q fit = count-few q keys dist (λ x y mx my hx hy. fit .tells x y mx my hx hy (λ a l. absurd (not-suc-le-zero l)))
+  most : (n : ℕ) (q : ℕ → Bool) → Fit n q → count q keys ≤ w ^ n
+  unfolding off
+  most zero q fit = simp unary-clauses (count-few q keys dist (λ x y mx my hx hy. fit .tells x y mx my hx hy (λ a l. absurd (not-suc-le-zero l))))
   most (suc n) q fit =
-      let at : (v : ℕ) → count (λ x. q x && eqb (off n x) v) keys ≤ 6 ^ n = λ v. most n _ (fit-at n q fit v) in
-      omega (arith, by-offset n q fit, at 0, at 1, at 2, at 3, at 4, at 5)
+      let at : (v : ℕ) → count (λ x. q x && eqb (off n x) v) keys ≤ w ^ n = λ v. most n _ (fit-at n q fit v) in
+      let split : count q keys ≡ sum (map (λ v. count (λ x. q x && eqb (off n x) v) keys) (range 0 w)) = count-split q (off n) keys w (λ x m h. omega (arith, fit .to x h n (omega arith), fit .from x h n (omega arith))) in
+      let p : w ^ suc n ≡ w * w ^ n = pow-succ' w n in
+      omega (arith, split, p, sum-most (λ v. count (λ x. q x && eqb (off n x) v) keys) (w ^ n) 0 w at)
 
--- the V row of a cell, its neighbours and the cell itself
-six : (d : ℕ) → d ≤ 3 → 6 ^ d ≤ farRoom 3 + (neighboursRoom 3 + 1)
+three : (d : ℕ) → d ≤ 3 → 3 ^ d ≤ 27
+three zero h = omega arith
+three (suc zero) h = omega arith
+three (suc (suc zero)) h = omega arith
+three (suc (suc (suc zero))) h = omega arith
+three (suc (suc (suc (suc d)))) h = absurd (omega arith)
+
+six : (d : ℕ) → d ≤ 3 → 6 ^ d ≤ 216
 six zero h = omega arith
 six (suc zero) h = omega arith
 six (suc (suc zero)) h = omega arith
 six (suc (suc (suc zero))) h = omega arith
 six (suc (suc (suc (suc d)))) h = absurd (omega arith)
 
-pub around-few : (d : ℕ) (keys own : List ℕ) → SoundTree d keys own → (p : ℕ) → count (around d keys own p) keys ≤ farRoom 3 + (neighboursRoom 3 + 1)
-around-few d keys own t p = omega (arith, most d keys dist (levelOf p) (codeOf p) d (around d keys own p) fit, six d (t .most))
-  where
-    dist : Distinct keys
-    dist = distinct d keys (tree-facts d keys own t .ascending)
+module _ (d : ℕ) (keys own : List ℕ) (t : SoundTree d keys own) (p : ℕ) where
+  -- cells of one level are told apart by their anchors
+  apart : (level : ℕ) (q : ℕ → Bool) → ((x : ℕ) → q x ≡ true → levelOf x ≡ level) → (x y : ℕ) → Mem x keys → Mem y keys → q x ≡ true → q y ≡ true
+      → ((a : ℕ) → a < d → anchor d a level (codeOf x) ≡ anchor d a level (codeOf y)) → x ≡ y
+  apart level q at x y mx my hx hy same =
+      sym (key-parts x) ∙ ap₂ key (at x hx ∙ sym (at y hy)) (anchors-tell d level (codeOf x) (codeOf y) (lt x mx hx) (lt y my hy) same) ∙ key-parts y
+    where
+      lt : (z : ℕ) → Mem z keys → q z ≡ true → codeOf z < 2 ^ (d * level)
+      lt z m h = rw (at z h) at (code-lt d keys (well d keys own t .ascending) z m)
 
-    level : (x : ℕ) → around d keys own p x ≡ true → levelOf x ≡ suc (levelOf p)
-    level x h = eqb-true (levelOf x) (suc (levelOf p)) (and-l _ _ h)
+  -- on an axis, two near codes
+  beside-at : (l x y : ℕ) → near d d l x y ≡ true → (a : ℕ) → a < d → within1 (anchor d a l x) (anchor d a l y) ≡ true
+  unfolding near
+  beside-at l x y h a k = every-at (λ a. within1 (anchor d a l x) (anchor d a l y)) d h a k
 
-    lt : (x : ℕ) → Mem x keys → around d keys own p x ≡ true → codeOf x < 2 ^ (d * suc (levelOf p))
-    lt x m h = rw (level x h) at (code-lt d keys (tree-facts d keys own t .ascending) x m)
+  pub near-few : count (nearTo d keys own p) keys ≤ 27
+  near-few = omega (arith, most d keys (alone d keys own t) (levelOf p) 3 (λ a. anchor d a (levelOf p) (codeOf p) + 1) d (nearTo d keys own p) fit, three d (t .most))
+    where
+      here : (x : ℕ) → nearTo d keys own p x ≡ true → near d d (levelOf p) (codeOf p) (codeOf x) ≡ true
+      here x h = and-l (near d d (levelOf p) (codeOf p) (codeOf x)) _ (and-r (eqb (levelOf x) (levelOf p)) _ h)
 
-    fit : Fit d keys dist (levelOf p) (codeOf p) d (around d keys own p)
-    fit = record {
-      tells = λ x y mx my hx hy same. sym (key-parts x) ∙ ap₂ key (level x hx ∙ sym (level y hy)) (anchors-tell d (suc (levelOf p)) (codeOf x) (codeOf y) (lt x mx hx) (lt y my hy) same) ∙ key-parts y;
-      window = λ x m h. and-l (near d d (levelOf p) (codeOf p) (codeOf x / 2 ^ d)) _ (and-r (eqb (levelOf x) (suc (levelOf p))) _ h);
-    }
+      fit : Fit d keys (alone d keys own t) (levelOf p) 3 (λ a. anchor d a (levelOf p) (codeOf p) + 1) d (nearTo d keys own p)
+      fit = record {
+        tells = apart (levelOf p) (nearTo d keys own p) (λ x h. eqb-true (levelOf x) (levelOf p) (and-l _ _ h));
+        from = λ x h a l. omega (arith, within-lo (anchor d a (levelOf p) (codeOf p)) (anchor d a (levelOf p) (codeOf x)) (beside-at (levelOf p) (codeOf p) (codeOf x) (here x h) a l));
+        to = λ x h a l. omega (arith, within-hi (anchor d a (levelOf p) (codeOf p)) (anchor d a (levelOf p) (codeOf x)) (beside-at (levelOf p) (codeOf p) (codeOf x) (here x h) a l));
+      }
+
+  pub around-few : count (around d keys own p) keys ≤ 216
+  around-few = omega (arith, most d keys (alone d keys own t) (suc (levelOf p)) 6 (λ a. 2 * anchor d a (levelOf p) (codeOf p)) d (around d keys own p) fit, six d (t .most))
+    where
+      here : (x : ℕ) → around d keys own p x ≡ true → near d d (levelOf p) (codeOf p) (codeOf x / 2 ^ d) ≡ true
+      here x h = and-l (near d d (levelOf p) (codeOf p) (codeOf x / 2 ^ d)) _ (and-r (eqb (levelOf x) (suc (levelOf p))) _ h)
+
+      grown : (a x : ℕ) → anchor d a (suc (levelOf p)) x ≡ x / 2 ^ a % 2 + 2 * anchor d a (levelOf p) (x / 2 ^ d)
+      grown a x = unfold anchor in refl
+
+      fit : Fit d keys (alone d keys own t) (suc (levelOf p)) 6 (λ a. 2 * anchor d a (levelOf p) (codeOf p)) d (around d keys own p)
+      fit = record {
+        tells = apart (suc (levelOf p)) (around d keys own p) (λ x h. eqb-true (levelOf x) (suc (levelOf p)) (and-l _ _ h));
+        from = λ x h a l. omega (arith, grown a (codeOf x), within-lo (anchor d a (levelOf p) (codeOf p)) (anchor d a (levelOf p) (codeOf x / 2 ^ d)) (beside-at (levelOf p) (codeOf p) (codeOf x / 2 ^ d) (here x h) a l));
+        to = λ x h a l. omega (arith, grown a (codeOf x), within-hi (anchor d a (levelOf p) (codeOf p)) (anchor d a (levelOf p) (codeOf x / 2 ^ d)) (beside-at (levelOf p) (codeOf p) (codeOf x / 2 ^ d) (here x h) a l));
+      }
+
+  -- the same of their numbers
+  pub near-length : length (nearNodes d keys own p) ≤ 27
+  near-length = omega (arith, near-few, sym (length-mapped (λ j. getD keys j 0) (nearNodes d keys own p)) ∙ ap length (keys-filter (nearTo d keys own p) keys) ∙ length-filter (nearTo d keys own p) keys)
+
+  pub around-length : length (aroundNodes d keys own p) ≤ 216
+  around-length = omega (arith, around-few, sym (length-mapped (λ j. getD keys j 0) (aroundNodes d keys own p)) ∙ ap length (keys-filter (around d keys own p) keys) ∙ length-filter (around d keys own p) keys)

@@ -1,5 +1,12 @@
-pub mod Split
-pub mod Gathering
+pub mod Offsets
+pub mod Lists
+pub mod Nodes
 pub mod Nearby
-pub mod Counting
 pub mod Few
+pub mod Gathered
+pub mod Rows
+pub mod Owners
+pub mod Root
+pub mod Putting
+pub mod Parting
+pub mod Child

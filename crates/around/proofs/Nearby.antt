@@ -1,81 +1,83 @@
--- Nearness one level up and more, and the children of a node with their places.
-use mathlib.Core.Path.{_≡_, refl, sym, ap, ap₂, _∙_, subst}
-use mathlib.Core.Bool.{true, not, _&&_}
-use mathlib.Core.List.{List, [], _∷_}
-use Prim.Native.Nat.{ℕ, zero, suc, _+_, _*_, _-_, _/_, _%_, _^_, _≤_, _<_}
+-- Nearness one level up and more, by places and by codes.
+use mathlib.Core.Path.{_≡_, refl, sym, ap, ap₂, _∙_}
+use mathlib.Core.Bool.{true}
+use Prim.Native.Nat.{ℕ, zero, suc, _+_, _*_, _-_, _/_, _%_, _^_, _≤_, _<_, min}
 use native.Mathlib.Omega.{arith}
 use native.Mathlib.Nat.{mul-suc, add-comm}
-use lib.Dec.{ltb}
-use lib.ListN.{length, getD}
 use lib.Pow.{shr-shr}
-use borrow.Author.Tests.{eqb-true, lt-ltb, le-leb}
 use Rattle.slices.specs.Every.{every}
-use Rattle.slices.proofs.Tests.{and-l, and-r, both}
+use Rattle.slices.proofs.Tests.{and-l, and-r, both, same-test}
 use Rattle.morton.specs.Keys.{levelOf, codeOf, above, ValidKey, parent}
-use Rattle.morton.specs.Anchors.{near, anchor, within1}
-use Rattle.morton.proofs.Cells.{above-zero, code-parent}
-use Rattle.morton.proofs.Nearness.{near-up, within, within-lo, within-hi}
-use Rattle.tree.specs.Nodes.{childOf}
-use Rattle.tree.specs.Finding.{Children}
-use Rattle.tree.proofs.Stored.{level-le}
-use Rattle.sourced.specs.Trees.{SoundTree}
-use Rattle.sourced.proofs.Below.{child-level, tree-facts}
-use Rattle.places.specs.Places.{placeAt, placeOf, beside}
-use Rattle.places.proofs.Laws.{beside-near, place-small, place-more}
-use Rattle.around.specs.Around.{Brood}
+use Rattle.morton.specs.Anchors.{near, anchor, within1, close}
+use Rattle.morton.proofs.Cells.{above-zero, level-at, code-at, level-parent, code-parent}
+use Rattle.morton.proofs.Nearness.{within, within-lo, within-hi}
+use Rattle.tree.specs.Nodes.{cellAt}
+use Rattle.places.specs.Places.{stepOf, placeAt, placeOf, beside}
+use Rattle.places.proofs.Laws.{beside-near, place-more}
 
-pub near-sym : (n d level x y : ℕ) → near n d level x y ≡ true → near n d level y x ≡ true
+near-turned : (n d level x y : ℕ) → near n d level x y ≡ true → near n d level y x ≡ true
 unfolding near every
-near-sym zero d level x y h = refl
-near-sym (suc n) d level x y h =
+near-turned zero d level x y h = refl
+near-turned (suc n) d level x y h =
     let w : within1 (anchor d n level x) (anchor d n level y) ≡ true = and-l _ _ h in
     both (within (anchor d n level y) (anchor d n level x) (within-hi (anchor d n level x) (anchor d n level y) w) (within-lo (anchor d n level x) (anchor d n level y) w))
-    (near-sym n d level x y (and-r (within1 (anchor d n level x) (anchor d n level y)) _ h))
+    (near-turned n d level x y (and-r (within1 (anchor d n level x) (anchor d n level y)) _ h))
 
-pub above-parent : (d m c : ℕ) → above d m (c / 2 ^ d) ≡ above d (suc m) c
+pub near-sym : (d level x y : ℕ) → near d d level x y ≡ near d d level y x
+near-sym d level x y = same-test (near d d level x y) (near d d level y x) (near-turned d d level x y) (near-turned d d level y x)
+
+pub near-self : (n d level x : ℕ) → near n d level x x ≡ true
+unfolding near every
+near-self zero d level x = refl
+near-self (suc n) d level x = both (within (anchor d n level x) (anchor d n level x) (omega arith) (omega arith)) (near-self n d level x)
+
+above-parent : (d m c : ℕ) → above d m (c / 2 ^ d) ≡ above d (suc m) c
 above-parent d m c = shr-shr c d (d * m) ∙ ap (λ n. c / 2 ^ n) (add-comm d (d * m) ∙ sym (mul-suc d m))
 
--- codes near at one level are near m levels above it
-pub near-above : (d m l x y : ℕ) → near d d (m + l) x y ≡ true → near d d l (above d m x) (above d m y) ≡ true
-near-above d zero l x y h = rw (above-zero d x, above-zero d y) (subst (λ n. near d d n x y ≡ true) (let e : 0 + l ≡ l = omega arith in e) h)
-near-above d (suc m) l x y h =
-    let e : suc m + l ≡ suc (m + l) = omega arith in
-    let up = near-up d d (m + l) x y (subst (λ n. near d d n x y ≡ true) e h) in
-    subst (λ a. near d d l a (above d (suc m) y) ≡ true) (above-parent d m x) (subst (λ b. near d d l (above d m (x / 2 ^ d)) b ≡ true) (above-parent d m y) (near-above d m l (x / 2 ^ d) (y / 2 ^ d) up))
+-- of two cells the one with the higher level is taken at the other's
+pub close-finer : (d b k : ℕ) → levelOf b ≤ levelOf k → near d d (levelOf b) (codeOf b) (codeOf (cellAt d (levelOf b) k)) ≡ close d b k
+close-finer d b k h =
+    let m : min (levelOf b) (levelOf k) ≡ levelOf b = omega arith in
+    let z : levelOf b - levelOf b ≡ 0 = omega arith in
+    sym (rw (m, z, above-zero d (codeOf b), code-at d (levelOf b) k h) refl)
 
--- the children of a node: their levels and codes
-module _ (d : ℕ) (keys : List ℕ) (i from to : ℕ) (c : Children d keys (getD keys i 0) from to) (j : ℕ) (a : from ≤ j) (b : j < to) where
-  pub kid : childOf d (getD keys i 0) (getD keys j 0) ≡ true
-  kid = c .are j (omega (arith, c .within)) ∙ both (le-leb from j a) (lt-ltb j to b)
+pub close-coarser : (d b k : ℕ) → levelOf k ≤ levelOf b → near d d (levelOf (cellAt d (levelOf k) b)) (codeOf (cellAt d (levelOf k) b)) (codeOf k) ≡ close d b k
+close-coarser d b k h =
+    let m : min (levelOf b) (levelOf k) ≡ levelOf k = omega arith in
+    let z : levelOf k - levelOf k ≡ 0 = omega arith in
+    sym (rw (m, z, above-zero d (codeOf k), level-at d (levelOf k) b h, code-at d (levelOf k) b h) refl)
 
-  pub kid-level : (left sum : ℕ) → 1 ≤ left → levelOf (getD keys i 0) + left ≡ sum → levelOf (getD keys j 0) + (left - 1) ≡ sum
-  kid-level left sum h e = omega (arith, child-level d (getD keys i 0) (getD keys j 0) kid)
+-- a cell q and its parent p
+module _ (d p q : ℕ) (deep : 0 < levelOf q) (up : parent d q ≡ p) where
+  pub up-level : suc (levelOf p) ≡ levelOf q
+  up-level = omega (arith, ap levelOf (sym up) ∙ level-parent d q)
 
-  pub kid-code : codeOf (getD keys j 0) / 2 ^ d ≡ codeOf (getD keys i 0)
-  kid-code = sym (code-parent d (getD keys j 0)) ∙ ap codeOf (eqb-true (parent d (getD keys j 0)) (getD keys i 0) (and-r (ltb 0 (levelOf (getD keys j 0))) _ kid))
+  pub up-code : codeOf p ≡ codeOf q / 2 ^ d
+  up-code = ap codeOf (sym up) ∙ code-parent d q
 
--- the children of a node, and their places
-pub brood : (d : ℕ) (keys own : List ℕ) → SoundTree d keys own → (i from to place : ℕ) → i < length keys → place ≡ placeOf d (getD keys i 0) → Children d keys (getD keys i 0) from to → Brood d keys from to place
-brood d keys own t i from to place l e c = record {
-  within = c .within;
-  small = subst (λ n. n < 1152921504606846976) (sym e) (place-small d (levelOf (getD keys i 0)) (codeOf (getD keys i 0)) (level-le d keys (tree-facts d keys own t .ascending) (getD keys i 0) (i, l, refl)));
-  placed = λ j a b.
-      let lv = child-level d (getD keys i 0) (getD keys j 0) (child j a b) in
-      sym (place-more d (levelOf (getD keys j 0)) (codeOf (getD keys j 0)) place (omega (arith, lv)) (e ∙ ap₂ (placeAt d) (omega (arith, lv)) (sym (kid-code d keys i from to c j a b))));
-}
-  where
-    child : (j : ℕ) → from ≤ j → j < to → childOf d (getD keys i 0) (getD keys j 0) ≡ true
-    child j a b = c .are j (omega (arith, c .within)) ∙ both (le-leb from j a) (lt-ltb j to b)
+  -- a cell above q's level is close to q as it is to q's parent
+  pub close-above : (x : ℕ) → levelOf x < levelOf q → close d p x ≡ close d q x
+  close-above x h = go (levelOf p) (levelOf q) (levelOf x) (codeOf p) (codeOf q) (codeOf x) up-level up-code h
+    where
+      go : (lp lq lx cp cq cx : ℕ) → suc lp ≡ lq → cp ≡ cq / 2 ^ d → lx < lq
+          → near d d (min lp lx) (above d (lp - min lp lx) cp) (above d (lx - min lp lx) cx) ≡ near d d (min lq lx) (above d (lq - min lq lx) cq) (above d (lx - min lq lx) cx)
+      go lp lq lx cp cq cx e r l =
+          let u : min lp lx ≡ lx = omega arith in
+          let v : min lq lx ≡ lx = omega arith in
+          let f : lq - lx ≡ suc (lp - lx) = omega arith in
+          let s : above d (lp - lx) cp ≡ above d (lq - lx) cq = ap (above d (lp - lx)) r ∙ above-parent d (lp - lx) cq ∙ ap (λ (m : ℕ). above d m cq) (sym f) in
+          rw (u, v) (ap (λ z. near d d lx z (above d (lx - lx) cx)) s)
 
--- the places of a node and of a cell that is not above it
-pub place-near : (d k p place spot : ℕ) → ValidKey d p → place ≡ placeOf d k → spot ≡ placeOf d p → (m : ℕ) → levelOf k + m ≡ levelOf p
-    → beside place spot m ≡ near d d (levelOf k) (codeOf k) (above d m (codeOf p))
-place-near d k p place spot v e f m h =
-    let g : levelOf p ≡ m + levelOf k = omega arith in
-    let low : m + levelOf k ≤ 16 = omega (arith, v .level) in
-    ap₂ (λ x y. beside x y m) e (f ∙ ap (λ n. placeAt d n (codeOf p)) g) ∙ beside-near d (levelOf k) m (codeOf k) (codeOf p) (v .some) (v .most) low
+  -- its place, by its index among the parent's children
+  pub child-place : (s : ℕ) → s ≡ codeOf q % 2 ^ d → stepOf s + 2 * placeOf d p ≡ placeOf d q
+  child-place s e =
+      ap (λ n. stepOf n + 2 * placeOf d p) e
+      ∙ place-more d (levelOf q) (codeOf q) (placeOf d p) deep (ap (placeOf d) (sym up) ∙ ap₂ (placeAt d) (level-parent d q) (code-parent d q))
 
--- the root
-pub root-place : (d : ℕ) (keys : List ℕ) → getD keys 0 0 ≡ 0 → 0 ≡ placeOf d (getD keys 0 0)
-unfolding placeAt
-root-place d keys e = sym (ap (placeOf d) e)
+-- at one level the test by places is the test of nearness
+pub touch-near : (d q x : ℕ) → ValidKey d q → levelOf x ≡ levelOf q → beside (placeOf d x) (placeOf d q) 0 ≡ near d d (levelOf q) (codeOf q) (codeOf x)
+touch-near d q x v e =
+    let g : levelOf q ≡ 0 + levelOf x = omega arith in
+    ap (λ n. beside (placeOf d x) (placeAt d n (codeOf q)) 0) g
+    ∙ beside-near d (levelOf x) 0 (codeOf x) (codeOf q) (v .some) (v .most) (omega (arith, v .level))
+    ∙ ap₂ (λ l y. near d d l (codeOf x) y) e (above-zero d (codeOf q)) ∙ near-sym d (levelOf q) (codeOf x) (codeOf q)

@@ -1,18 +1,17 @@
--- The nodes around a cell: those of its level that touch it, and their children.
+-- What lies around a cell: the nodes one level below it whose parents are near it, gathered once for all its children.
 use mathlib.Core.Path.{_≡_}
 use mathlib.Core.Bool.{Bool, true, _&&_}
-use mathlib.Core.List.{List, map}
-use Prim.Native.Nat.{ℕ, suc, _+_, _*_, _/_, _%_, _^_, _≤_, _<_}
+use mathlib.Core.List.{List, _++_}
+use Prim.Native.Nat.{ℕ, suc, _+_, _*_, _/_, _^_, _≤_, _<_}
 use lib.Dec.{ltb, eqb}
-use lib.ListN.{length, getD}
+use lib.ListN.{length, getD, take}
 use Rattle.slices.specs.Lists.{count, filter, range}
 use Rattle.morton.specs.Keys.{levelOf, codeOf, ValidKey}
 use Rattle.morton.specs.Anchors.{near, close}
 use Rattle.tree.specs.Nodes.{ownOf, sourced}
-use Rattle.sourced.specs.Trees.{SoundTree}
-use Rattle.sourced.specs.Room.{Puts}
-use Rattle.places.specs.Places.{stepOf, placeOf}
-use Rattle.firsts.specs.Firsts.{FirstChildren}
+use Rattle.links.specs.Links.{inner, sourcedChildren}
+use Rattle.places.specs.Places.{stepOf, placeOf, beside}
+use Rattle.around.specs.Masks.{bitOf}
 
 -- x is a sourced node one level below p, and its parent is p or touches it
 abbrev pub around : ℕ → List ℕ → List ℕ → ℕ → ℕ → Bool
@@ -26,22 +25,58 @@ nearTo d keys own q x = eqb (levelOf x) (levelOf q) && (near d d (levelOf q) (co
 abbrev pub owner : ℕ → List ℕ → List ℕ → ℕ → ℕ → ℕ → Bool
 owner d keys own b stop x = ltb 0 (ownOf keys own x) && (close d b x && ltb (levelOf x) stop)
 
--- the numbers of the nodes whose keys pass the test q were put into one slice, and their places into another
-pub record Gathers (d : ℕ) (keys : List ℕ) (q : ℕ → Bool) (nodes places : List ℕ) (n : ℕ) (nodes' places' : List ℕ) (n' : ℕ) : Type 0 where
-  pub cells : List ℕ
-  pub puts : Puts nodes n cells nodes' n'
-  pub placed : Puts places n (map (λ j. placeOf d (getD keys j 0)) cells) places' n'
-  pub those : (j : ℕ) → count (λ c. eqb c j) cells ≡ count (λ c. eqb c j) (filter (λ j. q (getD keys j 0)) (range 0 (length keys)))
+-- the numbers of the nodes around p, ascending
+abbrev pub aroundNodes : ℕ → List ℕ → List ℕ → ℕ → List ℕ
+aroundNodes d keys own p = filter (λ j. around d keys own p (getD keys j 0)) (range 0 (length keys))
 
--- what the work goes by: the tree, its first children, and a cell with its place
-pub record Setting (d : ℕ) (keys own first : List ℕ) (p place : ℕ) : Type 0 where
-  pub tree : SoundTree d keys own
-  pub firsts : FirstChildren d keys own first
-  pub valid : ValidKey d p
-  pub placed : place ≡ placeOf d p
+-- of those near q
+abbrev pub nearNodes : ℕ → List ℕ → List ℕ → ℕ → List ℕ
+nearNodes d keys own q = filter (λ j. nearTo d keys own q (getD keys j 0)) (range 0 (length keys))
 
--- the nodes from one number up to another are children of one cell, and `up` is its place
-pub record Brood (d : ℕ) (keys : List ℕ) (from to up : ℕ) : Type 0 where
-  pub within : to ≤ length keys
-  pub small : up < 1152921504606846976
-  pub placed : (j : ℕ) → from ≤ j → j < to → placeOf d (getD keys j 0) ≡ stepOf (codeOf (getD keys j 0) % 2 ^ d) + 2 * up
+-- and of those near q that have children
+abbrev pub nearInner : ℕ → List ℕ → List ℕ → ℕ → List ℕ
+nearInner d keys own q = filter (λ j. nearTo d keys own q (getD keys j 0) && inner keys j) (range 0 (length keys))
+
+-- node j touches the cell with the place `spot`, which is of its level
+abbrev pub touches : ℕ → List ℕ → ℕ → ℕ → Bool
+touches d keys spot j = beside (placeOf d (getD keys j 0)) spot 0
+
+-- the first n entries of three slices are for some nodes: their numbers, their places, and masks of the children that they touch of the cell with the place `spot`
+pub record Entries (d : ℕ) (keys : List ℕ) (spot : ℕ) (cells nodes places masks : List ℕ) (n : ℕ) : Type 0 where
+  pub fits : n ≤ length nodes
+  pub placesRoom : length places ≡ length nodes
+  pub masksRoom : length masks ≡ length nodes
+  pub numbers : take n nodes ≡ cells
+  pub placed : (i : ℕ) → i < n → getD places i 0 ≡ placeOf d (getD keys (getD nodes i 0) 0)
+  pub masked : (i s : ℕ) → i < n → s < 8 → bitOf (getD masks i 0) s ≡ touches d keys (stepOf s + 2 * spot) (getD nodes i 0)
+
+-- after the first n entries those of a node's sourced children were put
+abbrev pub PutsChildren : ℕ → List ℕ → List ℕ → ℕ → ℕ → List ℕ → ℕ → List ℕ → List ℕ → List ℕ → ℕ → Type 0
+PutsChildren d keys own node spot nodes n nodes' places' masks' n' = Entries d keys spot (take n nodes ++ sourcedChildren d keys own node) nodes' places' masks' n'
+
+-- the entries of all that is around p
+pub record Frame (d : ℕ) (keys own : List ℕ) (p : ℕ) (nodes places masks : List ℕ) (c : ℕ) : Type 0 where
+  pub entries : Entries d keys (placeOf d p) (aroundNodes d keys own p) nodes places masks c
+  pub few : c ≤ 216
+
+-- the nodes near p that have children, by number, and beside them their places
+pub record NearListed (d : ℕ) (keys own : List ℕ) (p : ℕ) (listed spots : List ℕ) (c : ℕ) : Type 0 where
+  pub fits : c ≤ length listed
+  pub room : c ≤ length spots
+  pub numbers : take c listed ≡ nearInner d keys own p
+  pub placed : (i : ℕ) → i < c → getD spots i 0 ≡ placeOf d (getD keys (getD listed i 0) 0)
+
+-- the node is near a cell with the place `spot`, and `up` is its own place
+pub record Beside (d : ℕ) (keys : List ℕ) (node up spot : ℕ) : Type 0 where
+  pub cell : ℕ
+  pub valid : ValidKey d cell
+  pub spotted : spot ≡ placeOf d cell
+  pub inside : node < length keys
+  pub level : levelOf (getD keys node 0) ≡ levelOf cell
+  pub close : near d d (levelOf cell) (codeOf cell) (codeOf (getD keys node 0)) ≡ true
+  pub placed : up ≡ placeOf d (getD keys node 0)
+
+-- the first n of `held` are the keys of the owners of levels up to p's that are close to p
+pub record Kept (d : ℕ) (keys own : List ℕ) (p : ℕ) (held : List ℕ) (n : ℕ) : Type 0 where
+  pub fits : n ≤ length held
+  pub those : (x : ℕ) → count (λ c. eqb c x) (take n held) ≡ count (λ c. eqb c x) (filter (owner d keys own p (suc (levelOf p))) keys)

@@ -1,2 +1,3 @@
+pub mod Masks
 pub mod Around
-pub mod Candidates
+pub mod Parting

@@ -1,8 +1,250 @@
-// What lies around a cell is defined here, with its laws and its rooms; nothing is computed.
+// What lies around a cell, gathered once for all its children, and what each child takes of it.
 use axes::Three;
+ghost use mathlib.Core.Path.{_≡_};
+ghost use mathlib.Core.Bool.{true};
+ghost use Prim.Native.Nat.{_+_, _≤_, _<_};
+ghost use lib.ListN.{length, take};
+ghost use Rattle.morton.specs.Keys.{ValidKey};
+ghost use Rattle.links.specs.Links.{inner, sourcedChildren, LinkedTree};
+ghost use Rattle.places.specs.Places.{placeOf};
+ghost use Rattle.around.specs.Masks.{Beneath, MaskOf};
+ghost use Rattle.around.specs.Around.{Entries, PutsChildren, Frame, NearListed, Beside};
+ghost use Rattle.around.specs.Parting.{Parting, Parts, Positions, Splits};
 
-// The most cells near a cell, itself among them.
+// The most nodes near a cell, itself among them.
 pub const NEAR_ROOM: usize = Three::NEIGHBOURS + 1;
 
-// The most cells around a cell: near one of its children, or in that child's V row.
+// The most nodes around a cell: near one of its children, or in that child's V row.
 pub const AROUND_ROOM: usize = Three::V_ROOM + NEAR_ROOM;
+
+const AXIS: u64 = 1048576;
+
+const TWO_AXES: u64 = 1099511627776;
+
+// 2 on each axis.
+const TWOS: u64 = 2199025352706;
+
+// For each axis the masks of the six offsets, a byte each, the first one lowest.
+const FIRST: u64 = 0x00AA_FFFF_5500;
+
+const SECOND: u64 = 0x00CC_FFFF_3300;
+
+const THIRD: u64 = 0x00F0_FFFF_0F00;
+
+// Which children of a cell a node one level below it touches. On each axis the node lies at one of six offsets, counted from two before the cell's first child.
+pub fn touch_mask(place: u64, spot: u64) -> u64
+    requires { ⌜ Beneath place spot ⌝ }
+    ensures { λ r. ⌜ MaskOf place spot r ⌝ }
+{
+    let g = place + TWOS - 2 * spot;
+    let x = FIRST >> (8 * (g % AXIS));
+    let y = SECOND >> (8 * (g / AXIS % AXIS));
+    let z = THIRD >> (8 * (g / TWO_AXES));
+    x & y & z & 255
+}
+
+// Puts the entries of a node's sourced children, for the cell with the place `spot`; the node is near that cell and has children, and `up` is its place.
+pub fn put_children(
+    axes: usize,
+    key: &[u64],
+    own: &[usize],
+    total: &[usize],
+    links: &[usize],
+    node: usize,
+    up: u64,
+    spot: u64,
+    nodes: &mut [usize],
+    places: &mut [u64],
+    masks: &mut [u64],
+    n: usize,
+) -> usize
+    requires { ⌜ LinkedTree axes (now key) (now own) (now total) (now links) × Beside axes (now key) node up spot × (inner (now key) node ≡ true) ⌝ }
+    requires { ⌜ Entries axes (now key) spot (take n (now nodes)) (now nodes) (now places) (now masks) n ⌝ }
+    requires { ⌜ n + length (sourcedChildren axes (now key) (now own) node) ≤ length (now nodes) ⌝ }
+    ensures { λ r. ⌜ PutsChildren axes (now (key .entry)) (now (own .entry)) node spot (now (nodes .entry)) n (now (nodes .exit)) (now (places .exit)) (now (masks .exit)) r ⌝ }
+{
+    let end = links::next_of(axes, key, total, links, node);
+    let mut m = n;
+    let mut j = links::first_sourced_child(axes, key, total, links, node);
+    while j < end {
+        let place = places::place_below(axes, up, key[j] / 32768);
+        nodes[m] = j;
+        places[m] = place;
+        masks[m] = touch_mask(place, spot);
+        m += 1;
+        j = links::next_of(axes, key, total, links, j);
+    }
+    m
+}
+
+// Gathers all that is around the cell p, whose place is `spot`: the sourced children of the nodes near it. Listed are those with children.
+pub fn around_of(
+    axes: usize,
+    key: &[u64],
+    own: &[usize],
+    total: &[usize],
+    links: &[usize],
+    p: u64,
+    spot: u64,
+    listed: &[usize],
+    spots: &[u64],
+    c: usize,
+    nodes: &mut [usize],
+    places: &mut [u64],
+    masks: &mut [u64],
+) -> usize
+    requires { ⌜ LinkedTree axes (now key) (now own) (now total) (now links) × ValidKey axes p × (spot ≡ placeOf axes p) × NearListed axes (now key) (now own) p (now listed) (now spots) c ⌝ }
+    requires { ⌜ (216 ≤ length (now nodes)) × (length (now places) ≡ length (now nodes)) × (length (now masks) ≡ length (now nodes)) ⌝ }
+    ensures { λ r. ⌜ Frame axes (now (key .entry)) (now (own .entry)) p (now (nodes .exit)) (now (places .exit)) (now (masks .exit)) r ⌝ }
+{
+    let mut m: usize = 0;
+    let mut i: usize = 0;
+    while i < c {
+        m = put_children(
+            axes,
+            key,
+            own,
+            total,
+            links,
+            listed[i],
+            spots[i],
+            spot,
+            nodes,
+            places,
+            masks,
+            m,
+        );
+        i += 1;
+    }
+    m
+}
+
+// How far the keys of the far entries reach, and how many entries are near.
+pub struct Parted {
+    pub far: usize,
+    pub near: usize,
+}
+
+// Parts the entries around a cell for its child s, where there is room for all of them: each key and each position is stored, and the next one takes its place unless it counts.
+fn store_parts(
+    key: &[u64],
+    nodes: &[usize],
+    masks: &[u64],
+    c: usize,
+    s: u64,
+    far: &mut [u64],
+    f: usize,
+    near: &mut [usize],
+) -> Parted
+    requires { ⌜ Parting (now key) (now nodes) (now masks) c s × (f + c ≤ length (now far)) × (28 ≤ length (now near)) ⌝ }
+    ensures { λ r. ⌜ Parts (now (key .entry)) (now (nodes .entry)) (now (masks .entry)) c s (now (far .entry)) f (now (far .exit)) (r .far) (now (near .exit)) (r .near) ⌝ }
+{
+    let mut m = f;
+    let mut t: usize = 0;
+    let mut j: usize = 0;
+    while j < c {
+        let bit = ((masks[j] >> s) % 2) as usize;
+        far[m] = key[nodes[j]];
+        near[t] = j;
+        m += 1 - bit;
+        t += bit;
+        j += 1;
+    }
+    Parted { far: m, near: t }
+}
+
+// The same into whatever room there is for the far keys.
+fn try_parts(
+    key: &[u64],
+    nodes: &[usize],
+    masks: &[u64],
+    c: usize,
+    s: u64,
+    far: &mut [u64],
+    f: usize,
+    near: &mut [usize],
+) -> Parted
+    requires { ⌜ Parting (now key) (now nodes) (now masks) c s × (28 ≤ length (now near)) ⌝ }
+    ensures { λ r. ⌜ Parts (now (key .entry)) (now (nodes .entry)) (now (masks .entry)) c s (now (far .entry)) f (now (far .exit)) (r .far) (now (near .exit)) (r .near) ⌝ }
+{
+    let mut m = f;
+    let mut t: usize = 0;
+    let mut j: usize = 0;
+    while j < c {
+        if (masks[j] >> s) % 2 == 1 {
+            near[t] = j;
+            t += 1;
+            j += 1;
+        } else {
+            m = sourced::put(far, m, key[nodes[j]]);
+            j += 1;
+        }
+    }
+    Parted { far: m, near: t }
+}
+
+// Parts the entries around a cell for its child s: puts the keys of those that do not touch it, and the positions of the others.
+pub fn part(
+    key: &[u64],
+    nodes: &[usize],
+    masks: &[u64],
+    c: usize,
+    s: u64,
+    far: &mut [u64],
+    f: usize,
+    near: &mut [usize],
+) -> Parted
+    requires { ⌜ Parting (now key) (now nodes) (now masks) c s × (28 ≤ length (now near)) ⌝ }
+    ensures { λ r. ⌜ Parts (now (key .entry)) (now (nodes .entry)) (now (masks .entry)) c s (now (far .entry)) f (now (far .exit)) (r .far) (now (near .exit)) (r .near) ⌝ }
+{
+    if f < far.len() {
+        if c <= far.len() - f {
+            return store_parts(key, nodes, masks, c, s, far, f, near);
+        }
+    }
+    try_parts(key, nodes, masks, c, s, far, f, near)
+}
+
+// How far the keys of the owners reach, and how many nodes have children.
+pub struct Split {
+    pub owners: usize,
+    pub inner: usize,
+}
+
+// Of the near entries, puts the keys of the nodes without children, and the numbers and places of those with children.
+pub fn split_near(
+    key: &[u64],
+    nodes: &[usize],
+    places: &[u64],
+    near: &[usize],
+    t: usize,
+    owners: &mut [u64],
+    o: usize,
+    inner: &mut [usize],
+    spots: &mut [u64],
+) -> Split
+    requires { ⌜ Positions (now key) (now nodes) (now places) (now near) t ⌝ }
+    requires { ⌜ (27 ≤ length (now inner)) × (27 ≤ length (now spots)) ⌝ }
+    ensures { λ r. ⌜ Splits (now (key .entry)) (now (nodes .entry)) (now (places .entry)) (take t (now (near .entry))) (now (owners .entry)) o (now (owners .exit)) (r .owners) (now (inner .exit)) (now (spots .exit)) (r .inner) ⌝ }
+{
+    let mut m = o;
+    let mut k: usize = 0;
+    let mut i: usize = 0;
+    while i < t {
+        let at = near[i];
+        let node = nodes[at];
+        if links::has_children(key, node) {
+            inner[k] = node;
+            spots[k] = places[at];
+            k += 1;
+            i += 1;
+        } else {
+            m = sourced::put(owners, m, key[node]);
+            i += 1;
+        }
+    }
+    Split {
+        owners: m,
+        inner: k,
+    }
+}

@@ -1,10 +1,10 @@
 -- The answers of a build, by the checks that have run.
 use mathlib.Core.Path.{_≡_, refl, sym, ap, ap₂, _∙_}
-use mathlib.Core.List.{List, _++_}
+use mathlib.Core.List.{List}
 use Prim.Native.Nat.{ℕ, _-_, _≤_, _<_}
 use native.Mathlib.Omega.{arith}
 use lib.Dec.{leb}
-use lib.ListN.{length, take, replicate}
+use lib.ListN.{length}
 use borrow.Author.Tests.{le-leb, lt-leb}
 use Rattle.refusal.specs.declared.Refusal.{Refusal}
 use Rattle.refusal.specs.declared.Refusal.the-variants.{Room}
@@ -12,16 +12,12 @@ use Rattle.refusal.specs.declared.Outcome.{Outcome}
 use Rattle.refusal.specs.declared.Outcome.the-variants.{Done, Refused}
 use Rattle.refusal.specs.Chain.{ask, _then_}
 use Rattle.refusal.proofs.Chain.{never}
-use Rattle.slices.specs.Lists.{filled}
-use Rattle.tree.specs.Nodes.{depthOf}
-use Rattle.tree.specs.Totals.{totalColumn}
-use Rattle.growth.specs.Columns.{ownColumn, beginColumn, orderColumn}
+use Rattle.tree.specs.Order.{depthOf}
 use Rattle.space.specs.Rows.{rowsOf}
-use Rattle.laying.specs.Points.{codesOf}
 use Rattle.laying.specs.Outcomes.{askedOutcome, insideOutcome, workOutcome}
 use Rattle.build.specs.declared.Built.the-variants.{Tree, Refused as NotBuilt}
-use Rattle.build.specs.Asked.{Asked, builtKeys, builtOwn, builtBegins, builtTotals, builtOrder}
-use Rattle.build.specs.Outcomes.{columnOutcome, buildOutcome, treeOr, Rooms, BuiltSlices}
+use Rattle.build.specs.Asked.{Asked, builtKeys}
+use Rattle.build.specs.Outcomes.{columnOutcome, buildOutcome, treeOr}
 
 -- an answer that is a refusal, or a tree, tells the outcome
 pub told-refused : (o : Outcome) (key : List ℕ) (r : Refusal) → NotBuilt r ≡ treeOr o key → o ≡ Refused r
@@ -62,23 +58,3 @@ module _ (a : Asked) (work order nodes : ℕ) where
       tree-built n depth key k e h d =
           ap₂ (λ (x y : ℕ). Tree x y) e (d ∙ ap depthOf k)
           ∙ sym (last ∙ ap (λ b. treeOr (ask b (Room 3)) (builtKeys a)) (le-leb (length (builtKeys a)) nodes (omega (arith, e, h))))
-
--- the columns that were written, said of what was asked
-pub columns-are : (a : Asked) (r : Rooms) (n : ℕ) (key codes : List ℕ) → take n key ≡ builtKeys a → n ≡ length (builtKeys a) → codes ≡ codesOf (a .box) (a .sources)
-    → (work₁ work₂ order₂ key₂ own₂ begin₂ total₂ : List ℕ) → length work₁ ≡ r .work → length key ≡ r .keys
-    → work₂ ≡ replicate (length work₁) 0 → order₂ ≡ filled (r .order) (orderColumn (a .box .axes) (take n key) codes)
-    → key₂ ≡ take n key ++ replicate (length key - n) 0 → own₂ ≡ filled (r .own) (ownColumn (a .box .axes) (take n key) codes)
-    → begin₂ ≡ filled (r .begins) (beginColumn (ownColumn (a .box .axes) (take n key) codes))
-    → total₂ ≡ filled (r .totals) (totalColumn (a .box .axes) (take n key) (ownColumn (a .box .axes) (take n key) codes))
-    → BuiltSlices a r work₂ order₂ key₂ own₂ begin₂ total₂
-unfolding builtOrder builtOwn builtBegins builtTotals
-columns-are a r n key codes k e c work₁ work₂ order₂ key₂ own₂ begin₂ total₂ lw lk iw io ik iown ib it =
-    let d = a .box .axes in
-    record {
-      worked = iw ∙ ap (λ (x : ℕ). replicate x 0) lw;
-      ordered = io ∙ ap₂ (λ (x y : List ℕ). filled (r .order) (orderColumn d x y)) k c;
-      keyed = ik ∙ ap₂ (λ (x : List ℕ) (m : ℕ). x ++ replicate m 0) k (ap₂ (λ (x y : ℕ). x - y) lk e);
-      owned = iown ∙ ap₂ (λ (x y : List ℕ). filled (r .own) (ownColumn d x y)) k c;
-      begun = ib ∙ ap₂ (λ (x y : List ℕ). filled (r .begins) (beginColumn (ownColumn d x y))) k c;
-      summed = it ∙ ap₂ (λ (x y : List ℕ). filled (r .totals) (totalColumn d x (ownColumn d x y))) k c;
-    }

@@ -1,51 +1,41 @@
--- From the work as it is laid out to the nodes and their leaves.
-use mathlib.Core.Path.{_≡_, sym, ap, ap₂, subst, _∙_}
-use mathlib.Core.List.{List, _++_}
-use Prim.Native.Nat.{ℕ, _+_, _*_, _^_, _≤_, _<_}
+-- From the work as it is laid out to what the growth asks for.
+use mathlib.Core.Path.{_≡_, refl, sym, ap, subst, _∙_}
+use mathlib.Core.Bool.{true}
+use mathlib.Core.List.{List, [], _∷_}
+use Prim.Native.Nat.{ℕ, zero, suc, _+_, _*_, _-_, _^_, _≤_, _<_}
 use native.Mathlib.Omega.{arith}
 use lib.Ieee.{Float}
-use lib.ListN.{length, getD, take, drop, length-append, length-drop}
-use lib.Seq.{length-take-le}
-use Rattle.slices.specs.Order.{ascending}
-use Rattle.slices.proofs.Lists.{length-ascending}
+use lib.ListN.{length, getD, take, drop}
+use lib.Seq.{slice, length-slice}
+use Rattle.slices.specs.Order.{Sorted, ascending}
 use Rattle.slices.proofs.Order.{ascending-sorted}
 use Rattle.axes.proofs.Known.{axes-known}
 use Rattle.codes.proofs.Codes.{encode-lt}
+use Rattle.morton.specs.Keys.{axesKnown}
+use Rattle.morton.specs.Depth.{referenceDepth}
 use Rattle.space.specs.declared.Box.{Box}
 use Rattle.space.specs.declared.Frame.{Frame}
 use Rattle.space.specs.Cells.{frameOf, anchors16, code16}
-use Rattle.space.proofs.Batches.{codes-length, code-at-row}
-use Rattle.space.proofs.Points.{code-small}
-use Rattle.tree.specs.WellFormed.{SoundTree}
-use Rattle.growth.specs.declared.Rule.{Rule}
-use Rattle.growth.specs.Nodes.{nodes}
-use Rattle.growth.specs.Columns.{ownColumn, beginColumn}
-use Rattle.growth.proofs.AnyOrder.{nodes-sorted}
-use Rattle.growth.proofs.Arranged.{Codes}
-use Rattle.growth.proofs.Order.{nodes-ascend, parents-stored}
-use Rattle.growth.proofs.Found.{sources-held}
-use Rattle.growth.proofs.Formed.{formed-grown}
-use Rattle.grow.specs.declared.Grown.{Grown}
-use Rattle.grow.specs.declared.Grown.the-variants.{Nodes, Full}
-use Rattle.grow.specs.Queue.{Points, Grows}
-use Rattle.arrange.specs.Sources.{InLeaves}
 use Rattle.space.specs.Rows.{rowsOf}
-use Rattle.laying.specs.Points.{codesOf, part, laid}
-use Rattle.laying.proofs.Laying.{laid-first, laid-again, laid-third}
+use Rattle.space.proofs.Batches.{codes-length, code-at-row}
+use Rattle.growth.proofs.Arranged.{Codes}
+use Rattle.dealing.proofs.Frames.{slice-at}
+use Rattle.refine.specs.Sums.{Sums, Summable}
+use Rattle.refine.proofs.Made.{summable}
+use Rattle.laying.specs.Points.{codesOf}
 use Rattle.laying.proofs.Prepared.{Passed}
-use Rattle.build.specs.Asked.{Asked, ruleOf, builtKeys}
+use Rattle.laying.specs.Layout.{PointsLaid}
+use Rattle.grow.specs.Steps.{Coded}
+use Rattle.build.specs.Asked.{Asked, ruleOf}
+use Rattle.build.specs.Summing.{Sourced, SumsMade}
 
--- ---- parts of the work whose lengths are differences
-module _ (g : Rule) (w : List ℕ) (n k m j : ℕ) (em : m ≡ n) (ej : j ≡ k) where
-  pub points-lent : Points g (part n n w) (part (n + n) k w) → Points g (part n m w) (part (n + n) j w)
-  points-lent p = subst (λ (x : ℕ). Points g (part n x w) (part (n + n) j w)) (sym em) (subst (λ (x : ℕ). Points g (part n n w) (part (n + n) x w)) (sym ej) p)
-
-  pub grown-lent : (key : List ℕ) (room : ℕ) (r : Grown) → Grows key room (nodes g (part n m w) (part (n + n) j w)) r → Grows key room (nodes g (part n n w) (part (n + n) k w)) r
-  grown-lent key room r h = subst (λ (x : ℕ). Grows key room (nodes g (part n n w) (part (n + n) x w)) r) ej (subst (λ (x : ℕ). Grows key room (nodes g (part n x w) (part (n + n) j w)) r) em h)
-
--- a first part that was lent, back in its place
-pub rejoined : (n : ℕ) (w xs : List ℕ) → n ≤ length w → length xs ≡ length (take n w) → length (xs ++ drop n w) ≡ length w
-rejoined n w xs h e = length-append xs (drop n w) ∙ omega (arith, e, length-take-le n w h, length-drop n w)
+-- a part that is lent is the slice up to its end
+pub slice-lent : (a t e : ℕ) (s : List ℕ) → e ≡ a + t → take t (drop a s) ≡ slice a e s
+slice-lent zero t e s h = let q : t ≡ e = omega (arith, h) in ap (λ (n : ℕ). take n s) q
+slice-lent (suc a) t zero s h = absurd (omega (arith, h))
+slice-lent (suc a) zero (suc e) [] h = refl
+slice-lent (suc a) (suc t) (suc e) [] h = refl
+slice-lent (suc a) t (suc e) (x ∷ xs) h = slice-lent a t e xs (omega (arith, h))
 
 -- ---- the codes of points
 code-lt : (f : Frame) (xs : List Float) → code16 f xs < 2 ^ (f .axes * 16)
@@ -57,10 +47,23 @@ codes-lt b xs i h =
     let l : i < rowsOf b xs = omega (arith, h, codes-length (rowsOf b xs) (frameOf b) xs) in
     subst (λ (c : ℕ). c < 2 ^ (b .axes * 16)) (sym (code-at-row (rowsOf b xs) i (frameOf b) xs l)) (code-lt (frameOf b) (drop (i * b .axes) xs))
 
-codes-few : (b : Box) (xs : List Float) → b .axes ≤ 3 → (i : ℕ) → i < length (codesOf b xs) → getD (codesOf b xs) i 0 < 281474976710656
-codes-few b xs m i h =
-    let l : i < rowsOf b xs = omega (arith, h, codes-length (rowsOf b xs) (frameOf b) xs) in
-    subst (λ (c : ℕ). c < 281474976710656) (sym (code-at-row (rowsOf b xs) i (frameOf b) xs l)) (code-small (frameOf b) (drop (i * b .axes) xs) m)
+-- ---- the sums of the sources
+module _ (d rows : ℕ) (work : List ℕ) (room : ℕ) (q : Sourced d rows work room) where
+  part-is : take (rows + rows - rows) (drop rows work) ≡ slice rows (2 * rows) work
+  part-is = slice-lent rows (rows + rows - rows) (2 * rows) work (omega arith)
+
+  size : length (slice rows (2 * rows) work) ≡ rows
+  size = length-slice rows (2 * rows) work (q .inside) ∙ omega arith
+
+  pub sources-summable : (depth : ℕ) → depth ≡ referenceDepth d rows → Summable d depth (take (rows + rows - rows) (drop rows work)) room
+  sources-summable depth e =
+      subst (λ (xs : List ℕ). Summable d depth xs room) (sym part-is)
+      (summable d depth (slice rows (2 * rows) work) room (q .most) (e ∙ ap (referenceDepth d) (sym size)) (omega (arith, size, q .few))
+      (λ i h. subst (λ (x : ℕ). x < 2 ^ (d * 16)) (sym (slice-at rows (2 * rows) work i (omega (arith, h, size)))) (q .below i (omega (arith, h, size))))
+      (omega (arith, size, q .fits)))
+
+  pub sums-made : (marks depth : ℕ) (sums : List ℕ) → depth ≡ referenceDepth d rows → Sums d depth (take (rows + rows - rows) (drop rows work)) sums → SumsMade d rows marks work depth sums
+  sums-made marks depth sums e made = record { deep = λ _. e; made = λ _. subst (λ (xs : List ℕ). Sums d depth xs sums) part-is made }
 
 module _ (a : Asked) (room : ℕ) (p : Passed (a .box) (a .sources) (a .targets) (a .order) room) where
   abbrev s : List ℕ
@@ -78,84 +81,38 @@ module _ (a : Asked) (room : ℕ) (p : Passed (a .box) (a .sources) (a .targets)
   s-long : length s ≡ n
   s-long = codes-length n (frameOf (a .box)) (a .sources)
 
-  t-long : length t ≡ k
-  t-long = codes-length k (frameOf (a .box)) (a .targets)
+  pub sources-few : length (codesOf (a .box) (a .sources)) ≤ 1048576
+  sources-few = omega (arith, s-long, p .call .few)
 
-  some-targets : 0 < length (ascending t) → a .order ≤ 64
-  some-targets h = p .call .fits (omega (arith, h, length-ascending t, t-long, native.Mathlib.Nat.div-le-self (length (a .targets)) (a .box .axes)))
+  some-targets : 0 < rowsOf (a .box) (a .targets) → a .order ≤ 64
+  some-targets h = p .call .fits (omega (arith, h, native.Mathlib.Nat.div-le-self (length (a .targets)) (a .box .axes)))
 
-  pub sorted-points : Points (ruleOf a) (ascending s) (ascending t)
-  sorted-points = record {
-    known = axes-known (a .box .axes) (p .call .box .least) (p .call .box .most);
-    sorted = ascending-sorted s;
-    few = omega (arith, length-ascending s, s-long, p .call .few);
-    sortedTargets = ascending-sorted t;
-    fewTargets = omega (arith, length-ascending t, t-long, p .call .fewer);
-    order = some-targets;
-  }
+  pub box-known : axesKnown (a .box .axes) ≡ true
+  box-known = axes-known (a .box .axes) (p .call .box .least) (p .call .box .most)
 
-  pub tree-leaves : InLeaves (a .box .axes) (builtKeys a) s
-  unfolding builtKeys
-  tree-leaves =
-      let known = axes-known (a .box .axes) (p .call .box .least) (p .call .box .most) in
-      record {
-        axes = known;
-        ascends = nodes-ascend (ruleOf a) s t known;
-        parents = parents-stored (ruleOf a) s t known;
-        few = omega (arith, s-long, p .call .few);
-        small = codes-few (a .box) (a .sources) (p .call .box .most);
-        in-leaf = sources-held (ruleOf a) s t known (codes-lt (a .box) (a .sources));
-      }
+  module _ (work : List ℕ) (len : length work ≡ room) (laid : PointsLaid (a .box) (a .sources) (a .targets) work) where
+    sources-below : (i : ℕ) → i < rowsOf (a .box) (a .sources) → getD work (rowsOf (a .box) (a .sources) + i) 0 < 2 ^ (a .box .axes * 16)
+    sources-below i h =
+        subst (λ (x : ℕ). x < 2 ^ (a .box .axes * 16)) (ap (λ (xs : List ℕ). getD xs i 0) (sym (laid .sources-at)) ∙ slice-at n (2 * n) work i (omega arith)) (codes-lt (a .box) (a .sources) i (omega (arith, s-long)))
 
-  -- the rule that totals ask for
-  tree-sound : SoundTree (a .box .axes) (builtKeys a) (ownColumn (a .box .axes) (builtKeys a) s)
-  unfolding builtKeys
-  tree-sound =
-      let known = axes-known (a .box .axes) (p .call .box .least) (p .call .box .most) in
-      record {
-        some = p .call .box .least;
-        most = p .call .box .most;
-        begin = beginColumn (ownColumn (a .box .axes) (nodes (ruleOf a) s t) s);
-        sound = formed-grown (ruleOf a) s t known (codes-lt (a .box) (a .sources)) (omega (arith, s-long, p .call .few));
-      }
+    pub work-sourced : (order : ℕ) → rowsOf (a .box) (a .sources) ≤ order → Sourced (a .box .axes) (rowsOf (a .box) (a .sources)) work order
+    work-sourced order h = record { most = p .call .box .most; few = p .call .few; inside = omega (arith, p .room, len); below = sources-below; fits = h }
 
-  module _ (work old : List ℕ) (e : work ≡ laid s (ascending s) (ascending t) old) where
-    pub first-part : take n work ≡ s
-    first-part = ap (take n) e ∙ laid-first s (ascending s) (ascending t) old n s-long
+    pub targets-are : take (rowsOf (a .box) (a .targets)) (drop (2 * rowsOf (a .box) (a .sources)) work) ≡ ascending (codesOf (a .box) (a .targets))
+    targets-are = slice-lent (2 * n) k (2 * n + k) work refl ∙ laid .targets-at
 
-    second-part : part n n work ≡ ascending s
-    second-part = ap (part n n) e ∙ laid-again s (ascending s) (ascending t) old n n s-long (length-ascending s ∙ s-long)
-
-    third-part : part (n + n) k work ≡ ascending t
-    third-part = ap (part (n + n) k) e ∙ laid-third s (ascending s) (ascending t) old n n k s-long (length-ascending s ∙ s-long) (length-ascending t ∙ t-long)
-
-    pub work-points : Points (ruleOf a) (part n n work) (part (n + n) k work)
-    work-points =
-        subst (λ (z : List ℕ). Points (ruleOf a) (part n n work) z) (sym third-part)
-        (subst (λ (z : List ℕ). Points (ruleOf a) z (ascending t)) (sym second-part) sorted-points)
-
-    pub work-nodes : nodes (ruleOf a) (part n n work) (part (n + n) k work) ≡ builtKeys a
-    unfolding builtKeys
-    work-nodes = ap₂ (λ (x y : List ℕ). nodes (ruleOf a) x y) second-part third-part ∙ nodes-sorted (ruleOf a) s t
-
-    pub work-leaves : (m : ℕ) (key : List ℕ) → take m key ≡ builtKeys a → InLeaves (a .box .axes) (take m key) (take n work)
-    work-leaves m key q =
-        subst (λ (z : List ℕ). InLeaves (a .box .axes) (take m key) z) (sym first-part)
-        (subst (λ (z : List ℕ). InLeaves (a .box .axes) z s) (sym q) tree-leaves)
-
-    pub work-sound : (m : ℕ) (key : List ℕ) → take m key ≡ builtKeys a → SoundTree (a .box .axes) (take m key) (ownColumn (a .box .axes) (take m key) (take n work))
-    work-sound m key q =
-        subst (λ (z : List ℕ). SoundTree (a .box .axes) (take m key) (ownColumn (a .box .axes) (take m key) z)) (sym first-part)
-        (subst (λ (z : List ℕ). SoundTree (a .box .axes) z (ownColumn (a .box .axes) z s)) (sym q) tree-sound)
-
-    -- the nodes as they are grown into the key column
-    pub work-grown : (key : List ℕ) (m : ℕ) (n′ : ℕ) (result : Grown) → result ≡ Nodes n′ → Grows key m (nodes (ruleOf a) (part n n work) (part (n + n) k work)) result
-        → (n′ ≡ length (builtKeys a)) × (n′ ≤ m) × (take n′ key ≡ builtKeys a)
-    work-grown key m n′ result told h =
-        let g = subst (λ (r : Grown). Grows key m (nodes (ruleOf a) (part n n work) (part (n + n) k work)) r) told h in
-        (g .0 ∙ ap length work-nodes, g .1, g .2 ∙ work-nodes)
-
-    pub work-full : (key : List ℕ) (m : ℕ) (result : Grown) → result ≡ Full → Grows key m (nodes (ruleOf a) (part n n work) (part (n + n) k work)) result → m < length (builtKeys a)
-    work-full key m result told h =
-        let g = subst (λ (r : Grown). Grows key m (nodes (ruleOf a) (part n n work) (part (n + n) k work)) r) told h in
-        omega (arith, g, ap length work-nodes)
+    pub work-coded : (nodes depth : ℕ) (sums : List ℕ) → SumsMade (a .box .axes) (rowsOf (a .box) (a .sources)) (rowsOf (a .box) (a .targets)) work depth sums
+        → Coded (ruleOf a) (record { sources = rowsOf (a .box) (a .sources); targets = rowsOf (a .box) (a .targets); room = nodes; depth = depth; sums = sums }) work
+    work-coded nodes depth sums made = record {
+      known = box-known;
+      few = p .call .few;
+      beside = omega (arith, p .room, len);
+      codes = sources-below;
+      refined = λ h. record {
+        order = some-targets h;
+        few = p .call .fewer;
+        sorted = subst Sorted (sym targets-are) (ascending-sorted t);
+        deep = made .deep h;
+        sums = made .made h;
+      };
+    }

@@ -1,5 +1,6 @@
 pub mod Flags
+pub mod Sorted
 pub mod Growing
-pub mod Totals
+pub mod Columns
 pub mod Answers
 pub mod Returned

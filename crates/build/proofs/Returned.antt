@@ -3,34 +3,38 @@
 use mathlib.Core.Path.{_≡_, sym, ap, _∙_}
 use mathlib.Core.Bool.{Bool, true, cond}
 use mathlib.Core.List.{List, []}
-use Prim.Native.Nat.{ℕ, _*_, _≤_, _<_}
+use Prim.Native.Nat.{ℕ, _+_, _*_, _-_, _≤_, _<_}
 use native.Mathlib.Omega.{arith}
 use lib.Dec.{eqb}
-use lib.ListN.{length, getD, drop}
+use lib.ListN.{length, getD, drop, replicate, length-append}
 use borrow.Author.Tests.{eqb-true}
 use Rattle.refusal.specs.declared.Refusal.the-variants.{Source}
 use Rattle.refusal.specs.declared.Outcome.the-variants.{Done}
 use Rattle.refusal.specs.Chain.{ask, _then_}
 use Rattle.refusal.proofs.Chain.{asked, both-done}
-use Rattle.slices.specs.Lists.{filter, sum, range, bit}
+use Rattle.slices.specs.Lists.{filter, sum, range, bit, filled}
 use Rattle.slices.specs.Order.{ascending}
 use Rattle.morton.specs.Keys.{axesKnown}
 use Rattle.morton.specs.Anchors.{close}
 use Rattle.axes.proofs.Known.{axes-known}
 use Rattle.space.specs.Cells.{frameOf, inside}
 use Rattle.space.proofs.Batches.{codes-length, row-inside}
-use Rattle.tree.specs.Nodes.{leaf, depthOf}
+use Rattle.tree.specs.Nodes.{leaf}
+use Rattle.tree.specs.Order.{depthOf}
 use Rattle.tree.specs.WellFormed.{wellFormed, mostSources, Run}
-use Rattle.tree.specs.Sources.{leafSources}
+use Rattle.tree.specs.Sources.{leafSources, cellSources}
 use Rattle.tree.proofs.Verdict.{formed-of}
+use Rattle.tree.proofs.Column.{column-root}
+use Rattle.tree.proofs.CellRuns.{cell-length}
 use Rattle.rows.specs.Lists.{uRow, vRow}
 use Rattle.rows.specs.Demand3.{brings, meetings, Far, Few}
 use Rattle.rows.proofs.Demand3.{demand-3}
-use Rattle.climb.specs.Leaves.{leafKey}
+use Rattle.tree.specs.Leaves.{leafKey}
 use Rattle.growth.specs.Columns.{holds, indicesIn}
-use Rattle.growth.proofs.Arranged.{length-indices, order-arranged}
+use Rattle.growth.proofs.Arranged.{length-indices, order-arranged, order-length}
 use Rattle.growth.proofs.Formed.{well-formed, own-total, depth-most}
-use Rattle.growth.proofs.Totals.{total-here, root-here}
+use Rattle.growth.proofs.CellTotals.{total-here}
+use Rattle.growth.proofs.CellPlaces.{place-holds, source-placed}
 use Rattle.growth.proofs.Found.{source-found}
 use Rattle.growth.proofs.Runs.{leaf-part}
 use Rattle.growth.proofs.Meets.{meets-once, meets-near}
@@ -119,16 +123,14 @@ module _ (a : Asked) (work order nodes : ℕ) (done : buildOutcome a work order 
       ∙ sym (length-indices (axes a) (sources a) (getD (builtKeys a) j 0))
       ∙ ap (λ (n : ℕ). length (filter (λ x. holds (axes a) (getD (builtKeys a) j 0) (getD (sources a) x 0)) (range 0 n))) (as-many a)
 
-  -- the root's is the number of sources
-  pub built-root : getD (builtTotals a) 0 0 ≡ count a
-  unfolding builtKeys builtOwn builtTotals
-  built-root =
-      root-here (ruleOf a) (sources a) (targets a) built-axes (codes-lt (a .box) (a .sources)) few ∙ as-many a
-
-  -- and so is what all leaves own
+  -- what all leaves own is the number of sources
   pub built-total : sum (builtOwn a) ≡ count a
   unfolding builtKeys builtOwn
   built-total = own-total (ruleOf a) (sources a) (targets a) built-axes (codes-lt (a .box) (a .sources)) ∙ as-many a
+
+  -- and so is the root's total
+  pub built-root : getD (builtTotals a) 0 0 ≡ count a
+  built-root = column-root (axes a) (builtKeys a) (builtOwn a) (builtBegins a) (builtTotals a) built-formed ∙ built-total
 
   -- its depth is at most 16
   pub built-depth : depthOf (builtKeys a) ≤ 16
@@ -148,6 +150,29 @@ module _ (a : Asked) (work order nodes : ℕ) (done : buildOutcome a work order 
       leaf-part (axes a) (builtKeys a) (sources a) j h
       ∙ ap (λ (b : Bool). cond b (indicesIn (axes a) (sources a) (getD (builtKeys a) j 0)) []) l
       ∙ ap (λ (n : ℕ). filter (λ x. holds (axes a) (getD (builtKeys a) j 0) (getD (sources a) x 0)) (range 0 n)) (as-many a)
+
+  order-long : length (builtOrder a) ≡ sum (builtOwn a)
+  unfolding builtKeys builtOwn builtOrder
+  order-long =
+      order-length (ruleOf a) (sources a) (targets a) built-axes (codes-lt (a .box) (a .sources))
+      ∙ sym (own-total (ruleOf a) (sources a) (targets a) built-axes (codes-lt (a .box) (a .sources)))
+
+  -- any cell's part of the slice that the call was lent for it: as many entries as the cell's total
+  pub built-cell : (room j : ℕ) → j < length (builtKeys a) → length (cellSources (builtTotals a) (builtBegins a) (filled room (builtOrder a)) j) ≡ getD (builtTotals a) j 0
+  built-cell room = cell-length (axes a) (builtKeys a) (builtOwn a) (builtBegins a) (builtTotals a) (filled room (builtOrder a)) built-formed
+      (omega (arith, order-long, length-append (builtOrder a) (replicate (room - length (builtOrder a)) 0)))
+
+  -- each holds the index of a source in the cell
+  pub built-cell-holds : (j p : ℕ) → j < length (builtKeys a) → getD (builtBegins a) j 0 ≤ p → p < getD (builtBegins a) j 0 + getD (builtTotals a) j 0
+      → (getD (builtOrder a) p 0 < length (sources a)) × (holds (axes a) (getD (builtKeys a) j 0) (getD (sources a) (getD (builtOrder a) p 0) 0) ≡ true)
+  unfolding builtKeys builtOwn builtBegins builtTotals builtOrder
+  built-cell-holds j p l = place-holds (ruleOf a) (sources a) (targets a) built-axes (codes-lt (a .box) (a .sources)) few j l p
+
+  -- and each source in the cell has its index there
+  pub built-cell-all : (j x : ℕ) → j < length (builtKeys a) → x < length (sources a) → holds (axes a) (getD (builtKeys a) j 0) (getD (sources a) x 0) ≡ true
+      → (p : ℕ) × (getD (builtBegins a) j 0 ≤ p) × (p < getD (builtBegins a) j 0 + getD (builtTotals a) j 0) × (getD (builtOrder a) p 0 ≡ x)
+  unfolding builtKeys builtOwn builtBegins builtTotals builtOrder
+  built-cell-all j x l = source-placed (ruleOf a) (sources a) (targets a) built-axes (codes-lt (a .box) (a .sources)) few j l x
 
   -- a source whose index stands in a node's run has that node as its leaf
   pub built-leaf : (j p : ℕ) → Run (builtOwn a) (builtBegins a) j p → leafOf a (getD (builtOrder a) p 0) ≡ getD (builtKeys a) j 0

@@ -7,8 +7,8 @@ use Rattle.space.specs.declared.Box.{Box}
 use Rattle.tree.specs.Columns.{Columns, columns}
 use Rattle.tree.specs.Totals.{totalColumn}
 use Rattle.growth.specs.declared.Rule.{Rule}
-use Rattle.growth.specs.Nodes.{nodes}
 use Rattle.growth.specs.Columns.{ownColumn, beginColumn, orderColumn}
+use Rattle.growth.specs.Nodes.{nodes}
 use Rattle.laying.specs.Points.{codesOf}
 
 -- refinement acts only with both flags: without them the targets are not looked at, as if there were none

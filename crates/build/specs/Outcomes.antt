@@ -10,7 +10,7 @@ use Rattle.refusal.specs.declared.Outcome.the-variants.{Done, Refused}
 use Rattle.refusal.specs.Chain.{ask, _then_}
 use Rattle.refusal.specs.Left.{left}
 use Rattle.slices.specs.Lists.{filled}
-use Rattle.tree.specs.Nodes.{depthOf}
+use Rattle.tree.specs.Order.{depthOf}
 use Rattle.space.specs.Rows.{rowsOf}
 use Rattle.laying.specs.Outcomes.{askedOutcome, insideOutcome, workOutcome}
 use Rattle.build.specs.declared.Built.{Built}

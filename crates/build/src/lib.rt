@@ -1,25 +1,18 @@
 // The tree grown from points: `build_tree` of `linear_tree.rs`, without its lists.
-use grow::Grown;
+use grow::Sizes;
 use growth::Rule;
 use refusal::Outcome;
 use refusal::Refusal;
 use space::Box;
 ghost use mathlib.Core.Path.{_≡_};
 ghost use mathlib.Core.List.{_++_};
-ghost use Prim.Native.Nat.{_+_, _-_, _≤_, min};
+ghost use Prim.Native.Nat.{_-_, _≤_, min};
 ghost use lib.ListN.{length, take, replicate};
 ghost use Rattle.refusal.specs.declared.Outcome.the-variants.{Done};
-ghost use Rattle.slices.specs.Lists.{filled};
-ghost use Rattle.tree.specs.Nodes.{depthOf};
-ghost use Rattle.tree.specs.Totals.{totalColumn};
-ghost use Rattle.tree.specs.WellFormed.{SoundTree};
-ghost use Rattle.growth.specs.Nodes.{nodes};
-ghost use Rattle.growth.specs.Columns.{ownColumn, beginColumn, orderColumn};
-ghost use Rattle.grow.specs.Queue.{Points, Grows};
-ghost use Rattle.arrange.specs.Sources.{InLeaves};
-ghost use Rattle.laying.specs.Points.{part};
+ghost use Rattle.tree.specs.Order.{depthOf};
 ghost use Rattle.build.specs.Asked.{used, asks, asksFor};
 ghost use Rattle.build.specs.Outcomes.{nodeRoom, rooms, buildCheck, buildAnswer, orderLeft, keysLeft, ownLeft, beginsLeft, totalsLeft, BuiltSlices};
+ghost use Rattle.build.specs.Summing.{Sourced, SumsMade, indices as indicesOf};
 
 pub const MOST_NODES: usize = 1048576;
 
@@ -59,35 +52,22 @@ fn node_room(key: usize, own: usize, begin: usize, total: usize) -> usize
     )
 }
 
-// Grows the nodes from the sorted codes in the work.
-fn grow_nodes(
-    g: Rule,
-    rows: usize,
-    marks: usize,
-    work: &[u64],
-    key: &mut [u64],
-    room: usize,
-) -> Grown
-    requires { ⌜ (rows + rows + marks ≤ length (now work)) × Points g (part rows rows (now work)) (part (rows + rows) marks (now work)) × (room ≤ length (now key)) ⌝ }
-    ensures { λ r. ⌜ Grows (now (key .exit)) room (nodes g (part rows rows (now (work .entry))) (part (rows + rows) marks (now (work .entry)))) r ⌝ }
+// Where targets are used: puts the sums of the sources, which tell when targets split a cell, into the order column. Answers the reference depth, or 0.
+fn sum_sources(axes: usize, rows: usize, marks: usize, work: &[u64], indices: &mut [usize]) -> u64
+    requires { ⌜ Sourced axes rows (now work) (length (now indices)) ⌝ }
+    ensures { λ r. ⌜ SumsMade axes rows marks (now (work .entry)) r (now (indices .exit)) ⌝ }
 {
+    if marks == 0 {
+        return 0;
+    }
+    let depth = refine::reference_depth(axes, rows);
     let twice = rows + rows;
-    let all = twice + marks;
-    grow::grow(g, &work[rows..twice], &work[twice..all], key, room)
+    refine::add_sums(axes, depth, &work[rows..twice], indices);
+    depth
 }
 
-// Writes the totals of the first n nodes, and clears what is unused.
-fn sum_up(axes: usize, n: usize, key: &[u64], own: &[usize], total: &mut [usize])
-    requires { ⌜ SoundTree axes (take n (now key)) (take n (now own)) × (n ≤ length (now key)) × (n ≤ length (now own)) × (n ≤ length (now total)) ⌝ }
-    ensures { λ _. ⌜ now (total .exit) ≡ filled (length (now (total .entry))) (totalColumn axes (take n (now (key .entry))) (take n (now (own .entry)))) ⌝ }
-{
-    tree::write_totals(axes, &key[..n], &own[..n], total);
-    slices::clear_from_usize(total, n);
-}
-
-// Arranges the sources beside the first n keys, sums them up, clears what is unused, and answers the depth.
+// Writes the order column from the words in the work, clears what is unused behind the first n nodes, and answers the depth.
 fn finish(
-    axes: usize,
     rows: usize,
     n: usize,
     work: &mut [u64],
@@ -97,22 +77,23 @@ fn finish(
     begin: &mut [usize],
     total: &mut [usize],
 ) -> u64
-    requires { ⌜ InLeaves axes (take n (now key)) (take rows (now work)) × SoundTree axes (take n (now key)) (ownColumn axes (take n (now key)) (take rows (now work)))
-        × (rows ≤ length (now work)) × (rows ≤ length (now indices)) × (n ≤ length (now key)) × (n ≤ length (now own)) × (n ≤ length (now begin)) × (n ≤ length (now total)) ⌝ }
+    requires { ⌜ (rows ≤ length (now work)) × (rows ≤ length (now indices)) × (n ≤ length (now key)) ⌝ }
     ensures { λ r. ⌜ r ≡ depthOf (take n (now (key .entry))) ⌝ }
     ensures { λ _. ⌜ now (work .exit) ≡ replicate (length (now (work .entry))) 0 ⌝ }
-    ensures { λ _. ⌜ now (indices .exit) ≡ filled (length (now (indices .entry))) (orderColumn axes (take n (now (key .entry))) (take rows (now (work .entry)))) ⌝ }
+    ensures { λ _. ⌜ now (indices .exit) ≡ indicesOf (take rows (now (work .entry))) ++ replicate (length (now (indices .entry)) - rows) 0 ⌝ }
     ensures { λ _. ⌜ now (key .exit) ≡ take n (now (key .entry)) ++ replicate (length (now (key .entry)) - n) 0 ⌝ }
-    ensures { λ _. ⌜ now (own .exit) ≡ filled (length (now (own .entry))) (ownColumn axes (take n (now (key .entry))) (take rows (now (work .entry)))) ⌝ }
-    ensures { λ _. ⌜ now (begin .exit) ≡ filled (length (now (begin .entry))) (beginColumn (ownColumn axes (take n (now (key .entry))) (take rows (now (work .entry))))) ⌝ }
-    ensures { λ _. ⌜ now (total .exit) ≡ filled (length (now (total .entry)))
-        (totalColumn axes (take n (now (key .entry))) (ownColumn axes (take n (now (key .entry))) (take rows (now (work .entry))))) ⌝ }
+    ensures { λ _. ⌜ now (own .exit) ≡ take n (now (own .entry)) ++ replicate (length (now (own .entry)) - n) 0 ⌝ }
+    ensures { λ _. ⌜ now (begin .exit) ≡ take n (now (begin .entry)) ++ replicate (length (now (begin .entry)) - n) 0 ⌝ }
+    ensures { λ _. ⌜ now (total .exit) ≡ take n (now (total .entry)) ++ replicate (length (now (total .entry)) - n) 0 ⌝ }
 {
     let depth = tree::depth_of(&key[..n]);
-    arrange::arrange(axes, &key[..n], &mut work[..rows], own, begin, indices);
-    sum_up(axes, n, key, own, total);
+    grow::take_indices(work, rows, indices);
+    slices::clear_from_usize(indices, rows);
     slices::clear(work);
     slices::clear_from(key, n);
+    slices::clear_from_usize(own, n);
+    slices::clear_from_usize(begin, n);
+    slices::clear_from_usize(total, n);
     depth
 }
 
@@ -156,14 +137,19 @@ fn attempt(
         keep,
     };
     let room = node_room(key.len(), own.len(), begin.len(), total.len());
-    let grown = grow_nodes(g, rows, marks, work, key, room);
-    match grown {
-        Grown::Full => Built::Refused(Refusal::Room(3)),
-        Grown::Nodes(n) => {
-            let depth = finish(axes, rows, n, work, indices, key, own, begin, total);
-            Built::Tree(n, depth)
-        }
+    let depth = sum_sources(axes, rows, marks, work, indices);
+    let z = Sizes {
+        sources: rows,
+        targets: marks,
+        room,
+        depth,
+    };
+    let n = grow::grow(g, z, indices, work, key, own, begin, total);
+    if room < n {
+        return Built::Refused(Refusal::Room(3));
     }
+    let deepest = finish(rows, n, work, indices, key, own, begin, total);
+    Built::Tree(n, deepest)
 }
 
 // Clears every lent slice.

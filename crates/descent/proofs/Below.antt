@@ -11,17 +11,18 @@ use lib.Seq.{slice, take-suc, take-take, take-at, drop-at, getD-take, length-tak
 use Rattle.slices.specs.Lists.{any, bit, Mem}
 use Rattle.slices.proofs.Counts.{any-elim}
 use Rattle.morton.specs.Keys.{under}
-use Rattle.tree.proofs.Totals.{same-holder}
-use Rattle.ztree.proofs.Stored.{distinct}
+use Rattle.tree.proofs.Under.{same-holder}
+use Rattle.tree.proofs.Stored.{distinct}
 use Rattle.dealing.specs.Dealt.{dealt, byLevel, levelsDealt}
 use Rattle.dealing.proofs.Laws.{dealt-count, dealt-length}
 use Rattle.sourced.specs.Room.{Holds}
 use Rattle.sourced.proofs.Putting.{fits}
-use Rattle.lists.specs.Descent.{PutsThose}
-use Rattle.lists.proofs.Those.{those-none, those-join}
-use Rattle.descent.specs.Linked.{LinkedTree, Parents}
+use Rattle.sourced.specs.Room.{PutsThose}
+use Rattle.sourced.proofs.Those.{those-none, those-join}
+use Rattle.links.specs.Links.{LinkedTree}
+use Rattle.links.proofs.Children.{tree-formed}
+use Rattle.descent.specs.Steps.{Parents}
 use Rattle.descent.specs.Owners.{owns, ownsUnder, ownsBelow}
-use Rattle.descent.proofs.Walk.{tree-formed}
 
 -- one of two that do not both hold
 either : (a b s : Bool) → (a ≡ true → b ≡ true → ⊥) → bit ((a || b) && s) ≡ bit (a && s) + bit (b && s)
@@ -46,7 +47,7 @@ any-last p (y ∷ ys) x = ap (λ b. p y || b) (any-last p ys x) ∙ regroup (p y
     regroup true b c = refl
     regroup false b c = refl
 
-module _ (d : ℕ) (keys own links : List ℕ) (t : LinkedTree d keys own links) (nodes : List ℕ) (c left : ℕ) (a : Parents keys links nodes c left) where
+module _ (d : ℕ) (keys own total links : List ℕ) (t : LinkedTree d keys own total links) (nodes : List ℕ) (c left : ℕ) (a : Parents keys nodes c left) where
   pub none-below : (out : List ℕ) (n : ℕ) → PutsThose keys (ownsBelow d keys own (take 0 nodes)) out n out n
   unfolding any
   none-below out n = those-none keys (ownsBelow d keys own []) out n (λ y m h. never h)
@@ -64,7 +65,7 @@ module _ (d : ℕ) (keys own links : List ℕ) (t : LinkedTree d keys own links)
       let pi = a .each i (omega arith) in
       let pj = a .each j l in
       let same = same-holder d (getD keys (getD nodes i 0) 0) (getD keys (getD nodes j 0) 0) y (omega (arith, pi .levels, pj .levels)) w u in
-      let one = distinct d keys (tree-formed d keys own links t .rows .tree .ascending) (getD nodes i 0) (getD nodes j 0) (pi .inside) (pj .inside) same in
+      let one = distinct d keys (tree-formed t .rows .tree .ascending) (getD nodes i 0) (getD nodes j 0) (pi .inside) (pj .inside) same in
       omega (arith, a .apart i j (omega arith) l one)
 
   pub more-below : (j : ℕ) → j < c → (out₀ out out' : List ℕ) (n m m' : ℕ) → PutsThose keys (ownsBelow d keys own (take j nodes)) out₀ n out m

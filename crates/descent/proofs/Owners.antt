@@ -11,20 +11,22 @@ use borrow.Author.Tests.{ltb-true, ltb-false, leb-true, eqb-true, lt-ltb, le-ltb
 use Rattle.slices.specs.Lists.{bit, Mem}
 use Rattle.slices.proofs.Tests.{and-l, and-r, both, same-test}
 use Rattle.morton.specs.Keys.{under}
-use Rattle.tree.specs.Nodes.{nodeNumber, ownOf, sourced}
-use Rattle.ztree.specs.Order.{endOf}
-use Rattle.ztree.proofs.Laws.{under-range}
-use Rattle.ztree.proofs.Leaves.{place-is}
-use Rattle.ztree.proofs.Stored.{own-at, distinct, sourced-by}
-use Rattle.ztree.proofs.Sourced.{under-self, sourced-facts}
-use Rattle.links.proofs.Links.{Next}
-use Rattle.links.proofs.Walk.{formed-linked}
+use Rattle.tree.specs.Nodes.{nodeNumber, ownOf, childOf, sourced}
+use Rattle.tree.specs.Order.{endOf}
+use Rattle.tree.proofs.Laws.{under-range}
+use Rattle.tree.proofs.Leaves.{place-is}
+use Rattle.tree.proofs.Stored.{own-at, distinct, sourced-by}
+use Rattle.tree.proofs.Sourced.{under-self, sourced-facts}
+use Rattle.links.specs.Links.{nextOf, inner, afterOf, LinkedTree}
+use Rattle.links.proofs.Links.{Next, next-is, hop-far}
+use Rattle.links.proofs.Walk.{inner-inside, sourced-at}
+use Rattle.links.proofs.Children.{tree-formed, tree-linked}
 use Rattle.sourced.specs.Room.{Puts}
-use Rattle.lists.specs.Descent.{PutsThose}
-use Rattle.lists.proofs.Those.{those-none, those-join, those-same, those-one}
-use Rattle.descent.specs.Linked.{LinkedTree, nextBy, parentBy, sourcedBy, afterBy, Parent, Siblings}
+use Rattle.sourced.specs.Room.{PutsThose}
+use Rattle.sourced.proofs.Those.{those-none, those-join, those-same, those-one}
+use Rattle.descent.specs.Steps.{Parent, Siblings}
 use Rattle.descent.specs.Owners.{owns, ownsUnder, ownsWithin}
-use Rattle.descent.proofs.Walk.{tree-formed, sourced-at, next-facts, next-far, child-inside, parent-owns, leaf-end, siblings-most}
+use Rattle.descent.proofs.Walk.{parent-owns, leaf-end, siblings-most}
 
 -- a number stands between two others: as a test, and as facts
 inside : (a b j : ℕ) (s : Bool) → ((leb a j && ltb j b) && s) ≡ true → (a ≤ j) × (j < b) × (s ≡ true)
@@ -51,106 +53,105 @@ joined a b c j s p q = go (decLt j a) (decLt j b) (decLt j c)
     go (no h) (no g) (yes f) = rw (le-leb a j (omega arith), le-leb b j (omega arith), lt-ltb j c f, le-ltb j b (omega arith)) (zero-too s)
     go (no h) (no g) (no f) = rw (le-leb a j (omega arith), le-leb b j (omega arith), le-ltb j c (omega arith), le-ltb j b (omega arith))
 
-module _ (d : ℕ) (keys own links : List ℕ) (t : LinkedTree d keys own links) where
+module _ (d : ℕ) (keys own total links : List ℕ) (t : LinkedTree d keys own total links) where
   own-of : (j : ℕ) → j < length keys → ownOf keys own (getD keys j 0) ≡ getD own j 0
-  own-of = own-at keys own (distinct d keys (tree-formed d keys own links t .rows .tree .ascending)) (tree-formed d keys own links t .owns)
+  own-of = own-at keys own (distinct d keys (tree-formed t .rows .tree .ascending)) (tree-formed t .owns)
 
   -- the tests, by numbers
   within-at : (a b j : ℕ) → j < length keys → ownsWithin keys own a b (getD keys j 0) ≡ ((leb a j && ltb j b) && ltb 0 (getD own j 0))
   within-at a b j l =
-      let n = place-is keys (distinct d keys (tree-formed d keys own links t .rows .tree .ascending)) j l in
+      let n = place-is keys (distinct d keys (tree-formed t .rows .tree .ascending)) j l in
       ap₂ (λ m o. (leb a m && ltb m b) && ltb 0 o) n (own-of j l)
 
   under-at : (i j : ℕ) → i < length keys → j < length keys → ownsUnder d keys own i (getD keys j 0) ≡ ((leb i j && ltb j (endOf keys i)) && ltb 0 (getD own j 0))
-  under-at i j li lj = ap₂ (λ u o. u && ltb 0 o) (under-range d keys (tree-formed d keys own links t .rows .tree) i j li lj) (own-of j lj)
+  under-at i j li lj = ap₂ (λ u o. u && ltb 0 o) (under-range d keys (tree-formed t .rows .tree) i j li lj) (own-of j lj)
 
   -- an owner is sourced
-  own-total : (j : ℕ) → j < length keys → ltb 0 (getD own j 0) ≡ true → 0 < getD (t .total) j 0
+  own-total : (j : ℕ) → j < length keys → ltb 0 (getD own j 0) ≡ true → 0 < getD total j 0
   own-total j l h =
       let o : 0 < ownOf keys own (getD keys j 0) = omega (arith, own-of j l, ltb-true 0 (getD own j 0) h) in
-      ltb-true 0 (getD (t .total) j 0)
-      (sym (Rattle.links.proofs.Walk.sourced-at d keys own (t .tree .begin) (t .total) (tree-formed d keys own links t) j l)
+      ltb-true 0 (getD total j 0)
+      (sym (sourced-at d keys own (t .tree .begin) total (tree-formed t) j l)
       ∙ sourced-by d keys own (getD keys j 0) (getD keys j 0) (j, l, refl) o (under-self d (getD keys j 0)))
 
   -- and so it stands before the end, if it stands before the next sourced node
-  own-before : (i j : ℕ) → i < length keys → j < length keys → ltb 0 (getD own j 0) ≡ true → j < nextBy links i → j < endOf keys i
-  own-before i j li lj o h = go (decLt j (endOf keys i)) (next-facts d keys own links t i li)
+  own-before : (i j : ℕ) → i < length keys → j < length keys → ltb 0 (getD own j 0) ≡ true → j < nextOf keys total i → j < endOf keys i
+  own-before i j li lj o h = go (decLt j (endOf keys i)) (next-is keys total (tree-formed t .totals) i li)
     where
-      go : Dec (j < endOf keys i) → Next keys (t .total) i (nextBy links i) → j < endOf keys i
+      go : Dec (j < endOf keys i) → Next keys total i (nextOf keys total i) → j < endOf keys i
       go (yes s) x = s
       go (no s) x = absurd (omega (arith, own-total j lj o, x .none j (omega arith) h))
 
   -- a sourced node with no children owns its sources
-  pub leaf-owns : (i : ℕ) → i < length keys → parentBy links i ≡ false → sourcedBy links i ≡ true → owns keys own (getD keys i 0) ≡ true
+  pub leaf-owns : (i : ℕ) → i < length keys → inner keys i ≡ false → sourced d keys own (getD keys i 0) ≡ true → owns keys own (getD keys i 0) ≡ true
   leaf-owns i l p s =
-      let (x, (j, lj, e), u, o) = sourced-facts d keys own (getD keys i 0)
-      (Rattle.links.proofs.Walk.sourced-at d keys own (t .tree .begin) (t .total) (tree-formed d keys own links t) i l ∙ sym (sourced-at d keys own links t i l) ∙ s) in
-      let v : (leb i j && ltb j (endOf keys i)) ≡ true = sym (under-range d keys (tree-formed d keys own links t .rows .tree) i j l lj) ∙ subst (λ y. under d (getD keys i 0) y ≡ true) (sym e) u in
-      let z : j ≡ i = omega (arith, leb-true i j (and-l _ _ v), ltb-true j (endOf keys i) (and-r (leb i j) _ v), leaf-end d keys own links t i l p) in
+      let (x, (j, lj, e), u, o) = sourced-facts d keys own (getD keys i 0) s in
+      let v : (leb i j && ltb j (endOf keys i)) ≡ true = sym (under-range d keys (tree-formed t .rows .tree) i j l lj) ∙ subst (λ y. under d (getD keys i 0) y ≡ true) (sym e) u in
+      let z : j ≡ i = omega (arith, leb-true i j (and-l _ _ v), ltb-true j (endOf keys i) (and-r (leb i j) _ v), leaf-end keys i l p) in
       lt-ltb 0 (ownOf keys own (getD keys i 0)) (subst (λ y. 0 < ownOf keys own y) (sym e ∙ ap (λ n. getD keys n 0) z) o)
 
   -- the owners under a node, by their numbers
-  pub under-within : (i : ℕ) → i < length keys → (y : ℕ) → Mem y keys → ownsUnder d keys own i y ≡ ownsWithin keys own i (nextBy links i) y
+  pub under-within : (i : ℕ) → i < length keys → (y : ℕ) → Mem y keys → ownsUnder d keys own i y ≡ ownsWithin keys own i (nextOf keys total i) y
   under-within i li y (j, lj, e) =
-      subst (λ x. ownsUnder d keys own i x ≡ ownsWithin keys own i (nextBy links i) x) e
+      subst (λ x. ownsUnder d keys own i x ≡ ownsWithin keys own i (nextOf keys total i) x) e
       (under-at i j li lj
-      ∙ same-test ((leb i j && ltb j (endOf keys i)) && ltb 0 (getD own j 0)) ((leb i j && ltb j (nextBy links i)) && ltb 0 (getD own j 0))
-      (λ h. let (a, b, o) = inside i (endOf keys i) j (ltb 0 (getD own j 0)) h in insides i (nextBy links i) j (ltb 0 (getD own j 0)) a (omega (arith, b, next-facts d keys own links t i li .from)) o)
-      (λ h. let (a, b, o) = inside i (nextBy links i) j (ltb 0 (getD own j 0)) h in insides i (endOf keys i) j (ltb 0 (getD own j 0)) a (own-before i j li lj o b) o)
-      ∙ sym (within-at i (nextBy links i) j lj))
+      ∙ same-test ((leb i j && ltb j (endOf keys i)) && ltb 0 (getD own j 0)) ((leb i j && ltb j (nextOf keys total i)) && ltb 0 (getD own j 0))
+      (λ h. let (a, b, o) = inside i (endOf keys i) j (ltb 0 (getD own j 0)) h in insides i (nextOf keys total i) j (ltb 0 (getD own j 0)) a (omega (arith, b, next-is keys total (tree-formed t .totals) i li .from)) o)
+      (λ h. let (a, b, o) = inside i (nextOf keys total i) j (ltb 0 (getD own j 0)) h in insides i (endOf keys i) j (ltb 0 (getD own j 0)) a (own-before i j li lj o b) o)
+      ∙ sym (within-at i (nextOf keys total i) j lj))
 
   -- between a node with children and the first sourced node after it there is no owner
-  own-after : (i j : ℕ) → i < length keys → parentBy links i ≡ true → j < length keys → ltb 0 (getD own j 0) ≡ true → i ≤ j → afterBy links i ≤ j
-  own-after i j li p lj o h =
-      let q : i + 1 ≡ suc i = omega arith in
-      subst (λ n. n ≤ j) (sym (ap (λ n. cond (sourcedBy links n) n (nextBy links n)) q)) (go (sourcedBy links (suc i)) refl (child-inside d keys own links t i li p))
+  own-after : (i j : ℕ) → i < length keys → inner keys i ≡ true → j < length keys → ltb 0 (getD own j 0) ≡ true → i ≤ j → afterOf keys total i ≤ j
+  unfolding afterOf
+  own-after i j li p lj o h = go (ltb 0 (getD total (suc i) 0)) refl (inner-inside keys i p)
     where
       later : i < j
       later = at (decLt i j)
         where
           at : Dec (i < j) → i < j
           at (yes s) = s
-          at (no s) = let z : j ≡ i = omega arith in absurd (omega (arith, ltb-true 0 (getD own j 0) o, ap (λ n. getD own n 0) z, parent-owns d keys own links t i li p))
+          at (no s) = let z : j ≡ i = omega arith in absurd (omega (arith, ltb-true 0 (getD own j 0) o, ap (λ n. getD own n 0) z, parent-owns d keys own total links t i li p))
 
-      go : (b : Bool) → sourcedBy links (suc i) ≡ b → suc i < length keys → cond b (suc i) (nextBy links (suc i)) ≤ j
-      go true e s = later
-      go false e s = at (decLt j (nextBy links (suc i)))
+      go : (b : Bool) → ltb 0 (getD total (suc i) 0) ≡ b → suc i < length keys → afterOf keys total i ≤ j
+      go true e s = subst (λ b. cond b (suc i) (nextOf keys total (suc i)) ≤ j) (sym e) later
+      go false e s = subst (λ b. cond b (suc i) (nextOf keys total (suc i)) ≤ j) (sym e) (at (decLt j (nextOf keys total (suc i))))
         where
-          empty : getD (t .total) (suc i) 0 ≤ 0
-          empty = ltb-false 0 (getD (t .total) (suc i) 0) (sym (sourced-at d keys own links t (suc i) s) ∙ e)
+          empty : getD total (suc i) 0 ≤ 0
+          empty = ltb-false 0 (getD total (suc i) 0) e
 
           -- what holds an owner is sourced
           same : Dec (suc i < j) → j < endOf keys (suc i) → ⊥
-          same (yes g) b = omega (arith, empty, formed-linked d keys own (t .tree .begin) (t .total) (tree-formed d keys own links t) .up (suc i) j g b lj (own-total j lj o))
-          same (no g) b = let z : j ≡ suc i = omega (arith, later) in omega (arith, empty, own-total j lj o, ap (λ n. getD (t .total) n 0) z)
+          same (yes g) b = omega (arith, empty, tree-linked t .up (suc i) j g b lj (own-total j lj o))
+          same (no g) b = let z : j ≡ suc i = omega (arith, later) in omega (arith, empty, own-total j lj o, ap (λ n. getD total n 0) z)
 
-          at : Dec (j < nextBy links (suc i)) → nextBy links (suc i) ≤ j
+          at : Dec (j < nextOf keys total (suc i)) → nextOf keys total (suc i) ≤ j
           at (no n) = omega arith
           at (yes n) = absurd (same (decLt (suc i) j) (own-before (suc i) j s lj o n))
 
-  pub under-children : (i : ℕ) → i < length keys → parentBy links i ≡ true → (y : ℕ) → Mem y keys → ownsWithin keys own (afterBy links i) (nextBy links i) y ≡ ownsUnder d keys own i y
+  pub under-children : (i : ℕ) → i < length keys → inner keys i ≡ true → (y : ℕ) → Mem y keys → ownsWithin keys own (afterOf keys total i) (nextOf keys total i) y ≡ ownsUnder d keys own i y
+  unfolding afterOf
   under-children i li p y (j, lj, e) =
       sym (under-within i li y (j, lj, e)
-      ∙ subst (λ x. ownsWithin keys own i (nextBy links i) x ≡ ownsWithin keys own (afterBy links i) (nextBy links i) x) e
-      (within-at i (nextBy links i) j lj
-      ∙ same-test ((leb i j && ltb j (nextBy links i)) && ltb 0 (getD own j 0)) ((leb (afterBy links i) j && ltb j (nextBy links i)) && ltb 0 (getD own j 0))
-      (λ h. let (a, b, o) = inside i (nextBy links i) j (ltb 0 (getD own j 0)) h in insides (afterBy links i) (nextBy links i) j (ltb 0 (getD own j 0)) (own-after i j li p lj o a) b o)
-      (λ h. let (a, b, o) = inside (afterBy links i) (nextBy links i) j (ltb 0 (getD own j 0)) h in insides i (nextBy links i) j (ltb 0 (getD own j 0)) (before (child-inside d keys own links t i li p) a) b o)
-      ∙ sym (within-at (afterBy links i) (nextBy links i) j lj)))
+      ∙ subst (λ x. ownsWithin keys own i (nextOf keys total i) x ≡ ownsWithin keys own (afterOf keys total i) (nextOf keys total i) x) e
+      (within-at i (nextOf keys total i) j lj
+      ∙ same-test ((leb i j && ltb j (nextOf keys total i)) && ltb 0 (getD own j 0)) ((leb (afterOf keys total i) j && ltb j (nextOf keys total i)) && ltb 0 (getD own j 0))
+      (λ h. let (a, b, o) = inside i (nextOf keys total i) j (ltb 0 (getD own j 0)) h in insides (afterOf keys total i) (nextOf keys total i) j (ltb 0 (getD own j 0)) (own-after i j li p lj o a) b o)
+      (λ h. let (a, b, o) = inside (afterOf keys total i) (nextOf keys total i) j (ltb 0 (getD own j 0)) h in insides i (nextOf keys total i) j (ltb 0 (getD own j 0)) (before (inner-inside keys i p) a) b o)
+      ∙ sym (within-at (afterOf keys total i) (nextOf keys total i) j lj)))
     where
-      before : suc i < length keys → afterBy links i ≤ j → i ≤ j
-      before s = at (sourcedBy links (i + 1))
+      before : suc i < length keys → afterOf keys total i ≤ j → i ≤ j
+      before s = at (ltb 0 (getD total (suc i) 0))
         where
-          at : (b : Bool) → cond b (i + 1) (nextBy links (i + 1)) ≤ j → i ≤ j
+          at : (b : Bool) → cond b (suc i) (nextOf keys total (suc i)) ≤ j → i ≤ j
           at true h = omega arith
-          at false h = omega (arith, next-far d keys own links t (i + 1) (omega arith))
+          at false h = omega (arith, hop-far keys total (tree-linked t) (suc i) s)
 
   -- the cell step: what the children step put
-  pub cell-done : (i left from to : ℕ) → Parent keys links i left → from ≡ afterBy links i → to ≡ nextBy links i → (out out' : List ℕ) (n n' : ℕ)
+  pub cell-done : (i left from to : ℕ) → Parent keys i left → from ≡ afterOf keys total i → to ≡ nextOf keys total i → (out out' : List ℕ) (n n' : ℕ)
       → PutsThose keys (ownsWithin keys own from to) out n out' n' → PutsThose keys (ownsUnder d keys own i) out n out' n'
   cell-done i left from to p ef et out out' n n' a =
-      those-same keys (ownsWithin keys own (afterBy links i) (nextBy links i)) (ownsUnder d keys own i) out out' n n' (under-children i (p .inside) (p .children))
-      (subst (λ f. PutsThose keys (ownsWithin keys own f (nextBy links i)) out n out' n') ef (subst (λ z. PutsThose keys (ownsWithin keys own from z) out n out' n') et a))
+      those-same keys (ownsWithin keys own (afterOf keys total i) (nextOf keys total i)) (ownsUnder d keys own i) out out' n n' (under-children i (p .inside) (p .children))
+      (subst (λ f. PutsThose keys (ownsWithin keys own f (nextOf keys total i)) out n out' n') ef (subst (λ z. PutsThose keys (ownsWithin keys own from z) out n out' n') et a))
 
   -- the children step: none yet, then those of one child after the other
   pub none-put : (from : ℕ) (out : List ℕ) (n : ℕ) → PutsThose keys (ownsWithin keys own from from) out n out n
@@ -159,40 +160,40 @@ module _ (d : ℕ) (keys own links : List ℕ) (t : LinkedTree d keys own links)
       none : (y : ℕ) → Mem y keys → ownsWithin keys own from from y ≡ true → ⊥
       none y m h = let (a, b, o) = inside from from (nodeNumber keys y) (owns keys own y) h in omega (arith, a, b)
 
-  pub goes-on : (c to left r : ℕ) → Siblings d keys links c to left → c < to → r ≡ nextBy links c → c < r
-  goes-on c to left r s h e = omega (arith, e, next-far d keys own links t c (omega (arith, siblings-most d keys own links t c to left s)))
+  pub goes-on : (c to left r : ℕ) → Siblings d keys own total c to left → c < to → r ≡ nextOf keys total c → c < r
+  goes-on c to left r s h e = omega (arith, e, hop-far keys total (tree-linked t) c (omega (arith, siblings-most d keys own total links t c to left s)))
 
-  module _ (from c to left r : ℕ) (f : from ≤ c) (s : Siblings d keys links c to left) (h : c < to) (e : r ≡ nextBy links c) (out₀ out out' : List ℕ) (n m m' : ℕ) (a : PutsThose keys (ownsWithin keys own from c) out₀ n out m) where
+  module _ (from c to left r : ℕ) (f : from ≤ c) (s : Siblings d keys own total c to left) (h : c < to) (e : r ≡ nextOf keys total c) (out₀ out out' : List ℕ) (n m m' : ℕ) (a : PutsThose keys (ownsWithin keys own from c) out₀ n out m) where
     here : c < length keys
-    here = omega (arith, siblings-most d keys own links t c to left s)
+    here = omega (arith, siblings-most d keys own total links t c to left s)
 
-    more : PutsThose keys (ownsWithin keys own c (nextBy links c)) out m out' m' → PutsThose keys (ownsWithin keys own from r) out₀ n out' m'
+    more : PutsThose keys (ownsWithin keys own c (nextOf keys total c)) out m out' m' → PutsThose keys (ownsWithin keys own from r) out₀ n out' m'
     more b = subst (λ z. PutsThose keys (ownsWithin keys own from z) out₀ n out' m') (sym e)
-        (those-join keys (ownsWithin keys own from c) (ownsWithin keys own c (nextBy links c)) (ownsWithin keys own from (nextBy links c)) out₀ out out' n m m'
-        (λ y my. joined from c (nextBy links c) (nodeNumber keys y) (owns keys own y) f (omega (arith, e, goes-on c to left r s h e))) a b)
+        (those-join keys (ownsWithin keys own from c) (ownsWithin keys own c (nextOf keys total c)) (ownsWithin keys own from (nextOf keys total c)) out₀ out out' n m m'
+        (λ y my. joined from c (nextOf keys total c) (nodeNumber keys y) (owns keys own y) f (omega (arith, e, goes-on c to left r s h e))) a b)
 
     pub more-under : PutsThose keys (ownsUnder d keys own c) out m out' m' → PutsThose keys (ownsWithin keys own from r) out₀ n out' m'
-    more-under b = more (those-same keys (ownsUnder d keys own c) (ownsWithin keys own c (nextBy links c)) out out' m m' (under-within c here) b)
+    more-under b = more (those-same keys (ownsUnder d keys own c) (ownsWithin keys own c (nextOf keys total c)) out out' m m' (under-within c here) b)
 
-    pub more-leaf : parentBy links c ≡ false → Puts out m (getD keys c 0 ∷ []) out' m' → PutsThose keys (ownsWithin keys own from r) out₀ n out' m'
-    more-leaf p put = more (those-same keys (λ y. eqb (getD keys c 0) y && owns keys own y) (ownsWithin keys own c (nextBy links c)) out out' m m' same
-        (those-one keys (owns keys own) (getD keys c 0) apart (c, here, refl) (leaf-owns c here p (s .sourced h)) out out' m m' put))
+    pub more-leaf : inner keys c ≡ false → Puts out m (getD keys c 0 ∷ []) out' m' → PutsThose keys (ownsWithin keys own from r) out₀ n out' m'
+    more-leaf p put = more (those-same keys (λ y. eqb (getD keys c 0) y && owns keys own y) (ownsWithin keys own c (nextOf keys total c)) out out' m m' same
+        (those-one keys (owns keys own) (getD keys c 0) apart (c, here, refl) (leaf-owns c here p (and-r (childOf d (getD keys (s .cell) 0) (getD keys c 0)) _ (s .child h))) out out' m m' put))
       where
         apart : Rattle.slices.specs.Lists.Distinct keys
-        apart = distinct d keys (tree-formed d keys own links t .rows .tree .ascending)
+        apart = distinct d keys (tree-formed t .rows .tree .ascending)
 
-        same : (y : ℕ) → Mem y keys → (eqb (getD keys c 0) y && owns keys own y) ≡ ownsWithin keys own c (nextBy links c) y
-        same y (j, lj, q) = subst (λ x. (eqb (getD keys c 0) x && owns keys own x) ≡ ownsWithin keys own c (nextBy links c) x) q
+        same : (y : ℕ) → Mem y keys → (eqb (getD keys c 0) y && owns keys own y) ≡ ownsWithin keys own c (nextOf keys total c) y
+        same y (j, lj, q) = subst (λ x. (eqb (getD keys c 0) x && owns keys own x) ≡ ownsWithin keys own c (nextOf keys total c) x) q
             (ap (λ o. eqb (getD keys c 0) (getD keys j 0) && ltb 0 o) (own-of j lj)
-            ∙ same-test (eqb (getD keys c 0) (getD keys j 0) && ltb 0 (getD own j 0)) ((leb c j && ltb j (nextBy links c)) && ltb 0 (getD own j 0))
+            ∙ same-test (eqb (getD keys c 0) (getD keys j 0) && ltb 0 (getD own j 0)) ((leb c j && ltb j (nextOf keys total c)) && ltb 0 (getD own j 0))
             (λ g.
             let z = apart c j here lj (eqb-true (getD keys c 0) (getD keys j 0) (and-l _ _ g)) in
-            insides c (nextBy links c) j (ltb 0 (getD own j 0)) (omega arith) (omega (arith, e, goes-on c to left r s h e)) (and-r (eqb (getD keys c 0) (getD keys j 0)) _ g))
+            insides c (nextOf keys total c) j (ltb 0 (getD own j 0)) (omega arith) (omega (arith, e, goes-on c to left r s h e)) (and-r (eqb (getD keys c 0) (getD keys j 0)) _ g))
             (λ g.
-            let (x, b, o) = inside c (nextBy links c) j (ltb 0 (getD own j 0)) g in
-            let z : c ≡ j = omega (arith, x, own-before c j here lj o b, leaf-end d keys own links t c here p) in
+            let (x, b, o) = inside c (nextOf keys total c) j (ltb 0 (getD own j 0)) g in
+            let z : c ≡ j = omega (arith, x, own-before c j here lj o b, leaf-end keys c here p) in
             both (eq-eqb (getD keys c 0) (getD keys j 0) (ap (λ n. getD keys n 0) z)) o)
-            ∙ sym (within-at c (nextBy links c) j lj))
+            ∙ sym (within-at c (nextOf keys total c) j lj))
 
-  pub all-put : (from c to left : ℕ) → Siblings d keys links c to left → to ≤ c → (out₀ out : List ℕ) (n m : ℕ) → PutsThose keys (ownsWithin keys own from c) out₀ n out m → PutsThose keys (ownsWithin keys own from to) out₀ n out m
+  pub all-put : (from c to left : ℕ) → Siblings d keys own total c to left → to ≤ c → (out₀ out : List ℕ) (n m : ℕ) → PutsThose keys (ownsWithin keys own from c) out₀ n out m → PutsThose keys (ownsWithin keys own from to) out₀ n out m
   all-put from c to left s h out₀ out n m a = let z : c ≡ to = omega (arith, s .most) in subst (λ x. PutsThose keys (ownsWithin keys own from x) out₀ n out m) z a

@@ -1,2 +1,2 @@
-pub mod Linked
+pub mod Steps
 pub mod Owners

@@ -1,56 +1,28 @@
 // The descent of the U rows: the owners under a cell, child by child along the links, in the order of nodes.
-ghost use mathlib.Core.Path.{_≡_};
-ghost use Prim.Native.Nat.{_+_, _<_};
-ghost use lib.ListN.{length, take};
-ghost use Rattle.lists.specs.Descent.{PutsThose};
-ghost use Rattle.descent.specs.Linked.{LinkedTree, Parent, Siblings, Parents, nextBy, parentBy, afterBy};
+ghost use lib.ListN.{take};
+ghost use Rattle.sourced.specs.Room.{PutsThose};
+ghost use Rattle.links.specs.Links.{LinkedTree};
+ghost use Rattle.descent.specs.Steps.{Parent, Siblings, Parents};
 ghost use Rattle.descent.specs.Owners.{ownsUnder, ownsWithin, ownsBelow};
-
-// The first sourced node after all that lies under a node.
-fn next_of(links: &[usize], node: usize) -> usize
-    requires { ⌜ node < length (now links) ⌝ }
-    ensures { λ r. ⌜ r ≡ nextBy (now (links .entry)) node ⌝ }
-{
-    links[node] / 4
-}
-
-// Whether a node has children.
-fn has_children(links: &[usize], node: usize) -> bool
-    requires { ⌜ node < length (now links) ⌝ }
-    ensures { λ r. ⌜ r ≡ parentBy (now (links .entry)) node ⌝ }
-{
-    links[node] / 2 % 2 == 1
-}
-
-// The first sourced node after a node that has children.
-fn after(links: &[usize], node: usize) -> usize
-    requires { ⌜ node + 1 < length (now links) ⌝ }
-    ensures { λ r. ⌜ r ≡ afterBy (now (links .entry)) node ⌝ }
-{
-    let c = node + 1;
-    if links[c] % 2 == 1 {
-        return c;
-    }
-    links[c] / 4
-}
 
 // The cell step: puts the keys of the owners under a node that has children, with so many levels below its own.
 fn cell_step(
     axes: usize,
     key: &[u64],
     own: &[usize],
+    total: &[usize],
     links: &[usize],
     node: usize,
     left: usize,
     out: &mut [u64],
     n: usize,
 ) -> usize
-    requires { ⌜ LinkedTree axes (now key) (now own) (now links) × Parent (now key) (now links) node left ⌝ }
+    requires { ⌜ LinkedTree axes (now key) (now own) (now total) (now links) × Parent (now key) node left ⌝ }
     ensures { λ r. ⌜ PutsThose (now (key .entry)) (ownsUnder axes (now (key .entry)) (now (own .entry)) node) (now (out .entry)) n (now (out .exit)) r ⌝ }
 {
-    let from = after(links, node);
-    let to = next_of(links, node);
-    children_step(axes, key, own, links, from, to, left - 1, out, n)
+    let from = links::first_sourced_child(axes, key, total, links, node);
+    let to = links::next_of(axes, key, total, links, node);
+    children_step(axes, key, own, total, links, from, to, left - 1, out, n)
 }
 
 // The children step: of the sourced children of a cell from one number up to another the leaves are put, the others go to the cell step.
@@ -58,6 +30,7 @@ fn children_step(
     axes: usize,
     key: &[u64],
     own: &[usize],
+    total: &[usize],
     links: &[usize],
     from: usize,
     to: usize,
@@ -65,18 +38,18 @@ fn children_step(
     out: &mut [u64],
     n: usize,
 ) -> usize
-    requires { ⌜ LinkedTree axes (now key) (now own) (now links) × Siblings axes (now key) (now links) from to left ⌝ }
+    requires { ⌜ LinkedTree axes (now key) (now own) (now total) (now links) × Siblings axes (now key) (now own) (now total) from to left ⌝ }
     ensures { λ r. ⌜ PutsThose (now (key .entry)) (ownsWithin (now (key .entry)) (now (own .entry)) from to) (now (out .entry)) n (now (out .exit)) r ⌝ }
 {
     let mut m = n;
     let mut c = from;
     while c < to {
-        if has_children(links, c) {
-            m = cell_step(axes, key, own, links, c, left, out, m);
-            c = next_of(links, c);
+        if links::has_children(key, c) {
+            m = cell_step(axes, key, own, total, links, c, left, out, m);
+            c = links::next_of(axes, key, total, links, c);
         } else {
             m = sourced::put(out, m, key[c]);
-            c = next_of(links, c);
+            c = links::next_of(axes, key, total, links, c);
         }
     }
     m
@@ -87,6 +60,7 @@ fn put_under(
     axes: usize,
     key: &[u64],
     own: &[usize],
+    total: &[usize],
     links: &[usize],
     nodes: &[usize],
     c: usize,
@@ -94,13 +68,13 @@ fn put_under(
     out: &mut [u64],
     n: usize,
 ) -> usize
-    requires { ⌜ LinkedTree axes (now key) (now own) (now links) × Parents (now key) (now links) (now nodes) c left ⌝ }
+    requires { ⌜ LinkedTree axes (now key) (now own) (now total) (now links) × Parents (now key) (now nodes) c left ⌝ }
     ensures { λ r. ⌜ PutsThose (now (key .entry)) (ownsBelow axes (now (key .entry)) (now (own .entry)) (take c (now (nodes .entry)))) (now (out .entry)) n (now (out .exit)) r ⌝ }
 {
     let mut m = n;
     let mut j: usize = 0;
     while j < c {
-        m = cell_step(axes, key, own, links, nodes[j], left, out, m);
+        m = cell_step(axes, key, own, total, links, nodes[j], left, out, m);
         j += 1;
     }
     m
@@ -111,6 +85,7 @@ pub fn put_deeper(
     axes: usize,
     key: &[u64],
     own: &[usize],
+    total: &[usize],
     links: &[usize],
     nodes: &[usize],
     c: usize,
@@ -118,10 +93,10 @@ pub fn put_deeper(
     out: &mut [u64],
     n: usize,
 ) -> usize
-    requires { ⌜ LinkedTree axes (now key) (now own) (now links) × Parents (now key) (now links) (now nodes) c left ⌝ }
+    requires { ⌜ LinkedTree axes (now key) (now own) (now total) (now links) × Parents (now key) (now nodes) c left ⌝ }
     ensures { λ r. ⌜ PutsThose (now (key .entry)) (ownsBelow axes (now (key .entry)) (now (own .entry)) (take c (now (nodes .entry)))) (now (out .entry)) n (now (out .exit)) r ⌝ }
 {
-    let m = put_under(axes, key, own, links, nodes, c, left, out, n);
+    let m = put_under(axes, key, own, total, links, nodes, c, left, out, n);
     if n < m && m <= out.len() && m - n <= out.len() - m {
         if !slices::is_ascending(&out[n..m]) {
             dealing::deal_by_level(out, n, m - n);

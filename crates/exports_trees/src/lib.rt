@@ -10,9 +10,9 @@ ghost use Prim.Native.Nat.{_*_, _≤_};
 ghost use lib.ListN.{length, take, drop};
 ghost use Rattle.morton.specs.Keys.{axesKnown};
 ghost use Rattle.tree.specs.Columns.{columns};
-ghost use Rattle.tree.specs.Nodes.{depthOf};
+ghost use Rattle.tree.specs.Order.{depthOf};
 ghost use Rattle.tree.specs.WellFormed.{wellFormed};
-ghost use Rattle.tree.specs.Sources.{leafSources};
+ghost use Rattle.tree.specs.Sources.{leafSources, cellSources};
 ghost use Rattle.leaf_points.specs.Grouping.{groupOutcome, groupStartsLeft, groupIndicesLeft};
 ghost use Rattle.space.specs.Rows.{rowsOf};
 ghost use Rattle.lookup.specs.Batch.{lookupOutcome, lookupAnswer, lookupLeft};
@@ -42,7 +42,29 @@ pub extern "C" fn lohandema_depth_of(key: &[u64]) -> u64
     tree::depth_of(key)
 }
 
-// A node's part of the order column, as where it starts and how long it is; an empty part starts at 0.
+// A part of the order column, as where it starts and how long it is; an empty part starts at 0.
+fn part_at(
+    counts: &[usize],
+    begin: &[usize],
+    order: &[usize],
+    node: usize,
+    start: &mut usize,
+) -> usize
+    ensures length { λ r. ⌜ r ≡ length (leafSources (now (counts .entry)) (now (begin .entry)) (now (order .entry)) node) ⌝ }
+    ensures part { λ r. ⌜ take r (drop (now (start .exit)) (now (order .entry))) ≡ leafSources (now (counts .entry)) (now (begin .entry)) (now (order .entry)) node ⌝ }
+    ensures start { λ _. ⌜ now (start .exit) ≡ partStart (now (counts .entry)) (now (begin .entry)) (now (order .entry)) node ⌝ }
+{
+    let part = tree::leaf_sources(counts, begin, order, node);
+    let count = part.len();
+    if count == 0 {
+        *start = 0;
+        return 0;
+    }
+    *start = begin[node];
+    count
+}
+
+// A leaf's part of the order column: what it owns.
 #[no_mangle]
 pub extern "C" fn lohandema_leaf_sources(
     own: &[usize],
@@ -55,14 +77,23 @@ pub extern "C" fn lohandema_leaf_sources(
     ensures part { λ r. ⌜ take r (drop (now (start .exit)) (now (order .entry))) ≡ leafSources (now (own .entry)) (now (begin .entry)) (now (order .entry)) node ⌝ }
     ensures start { λ _. ⌜ now (start .exit) ≡ partStart (now (own .entry)) (now (begin .entry)) (now (order .entry)) node ⌝ }
 {
-    let part = tree::leaf_sources(own, begin, order, node);
-    let count = part.len();
-    if count == 0 {
-        *start = 0;
-        return 0;
-    }
-    *start = begin[node];
-    count
+    part_at(own, begin, order, node, start)
+}
+
+// Any cell's part of the order column: all sources in it.
+#[no_mangle]
+pub extern "C" fn lohandema_cell_sources(
+    total: &[usize],
+    begin: &[usize],
+    order: &[usize],
+    node: usize,
+    start: &mut usize,
+) -> usize
+    ensures length { λ r. ⌜ r ≡ length (cellSources (now (total .entry)) (now (begin .entry)) (now (order .entry)) node) ⌝ }
+    ensures part { λ r. ⌜ take r (drop (now (start .exit)) (now (order .entry))) ≡ cellSources (now (total .entry)) (now (begin .entry)) (now (order .entry)) node ⌝ }
+    ensures start { λ _. ⌜ now (start .exit) ≡ partStart (now (total .entry)) (now (begin .entry)) (now (order .entry)) node ⌝ }
+{
+    part_at(total, begin, order, node, start)
 }
 
 #[no_mangle]

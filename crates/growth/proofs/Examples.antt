@@ -1,4 +1,4 @@
--- Document 01's example, one axis, limit 1: sources 0.5, 1.5, 6.5 and 7.5 of a box from 0 to 8, computed.
+-- Document 01's example in Z order, one axis, limit 1: sources 0.5, 1.5, 6.5 and 7.5 of a box from 0 to 8, computed.
 use mathlib.Core.Path.{_≡_, refl}
 use mathlib.Core.Bool.{false}
 use mathlib.Core.List.{List, [], _∷_}
@@ -9,10 +9,13 @@ use Rattle.morton.specs.Anchors.{encode, spread, anchor}
 use Rattle.morton.specs.Depth.{depthFrom}
 use Rattle.refine.specs.Counts.{countAt}
 use Rattle.refine.specs.Refinement.{factor, countsAround}
-use Rattle.tree.specs.Nodes.{leaf}
+use Rattle.tree.specs.Nodes.{leaf, ownOf}
 use Rattle.growth.specs.declared.Rule.{Rule}
-use Rattle.growth.specs.Nodes.{splits, kids, cellsAt, nodesTo, nodes}
+use Rattle.growth.specs.Nodes.{splits, kids}
 use Rattle.growth.specs.Columns.{ownColumn, beginColumn, indicesIn, orderColumn}
+use Rattle.tree.specs.Totals.{totalIn, totalColumn}
+use Rattle.tree.proofs.Examples.{keys₁, own₁, begin₁, total₁}
+use Rattle.growth.specs.Nodes.{preorder, nodes}
 
 abbrev rule : Rule
 rule = record { axes = 1; limit = 1; order = 1; keep = false }
@@ -20,21 +23,23 @@ rule = record { axes = 1; limit = 1; order = 1; keep = false }
 abbrev sources : List ℕ
 sources = 4096 ∷ 12288 ∷ 53248 ∷ 61440 ∷ []
 
-abbrev keys : List ℕ
-keys = 0 ∷ 1 ∷ 32769 ∷ 2 ∷ 98306 ∷ 3 ∷ 32771 ∷ 196611 ∷ 229379 ∷ []
-
-pub grown : nodes rule sources [] ≡ keys
-unfolding nodes nodesTo cellsAt kids splits factor countsAround countAt count sum encode spread anchor range filter every depthFrom concatMap
+pub grown : nodes rule sources [] ≡ keys₁
+unfolding nodes preorder kids splits factor countsAround countAt count sum encode spread anchor range filter every depthFrom concatMap
 grown = refl
 
-pub owned : ownColumn 1 keys sources ≡ 0 ∷ 0 ∷ 0 ∷ 0 ∷ 0 ∷ 1 ∷ 1 ∷ 1 ∷ 1 ∷ []
+pub owned : ownColumn 1 keys₁ sources ≡ own₁
 unfolding ownColumn leaf any countAt count
 owned = refl
 
-pub begun : beginColumn (0 ∷ 0 ∷ 0 ∷ 0 ∷ 0 ∷ 1 ∷ 1 ∷ 1 ∷ 1 ∷ []) ≡ 0 ∷ 0 ∷ 0 ∷ 0 ∷ 0 ∷ 0 ∷ 1 ∷ 2 ∷ 3 ∷ []
+pub begun : beginColumn own₁ ≡ begin₁
 unfolding beginColumn range sum
 begun = refl
 
-pub ordered : orderColumn 1 keys sources ≡ 0 ∷ 1 ∷ 2 ∷ 3 ∷ []
+pub totalled : totalColumn 1 keys₁ own₁ ≡ total₁
+unfolding totalIn sum ownOf
+totalled = refl
+
+-- the order column, leaf by leaf in the new numbering
+pub ordered : orderColumn 1 keys₁ sources ≡ 0 ∷ 1 ∷ 2 ∷ 3 ∷ []
 unfolding orderColumn concatMap filter leaf any indicesIn range
 ordered = refl

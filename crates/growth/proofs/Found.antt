@@ -14,10 +14,11 @@ use Rattle.slices.proofs.Tests.{refute}
 use Rattle.slices.proofs.Counts.{pos-count}
 use Rattle.morton.specs.Keys.{deepest, levelOf, above, axesKnown}
 use Rattle.morton.proofs.Cells.{key-level}
-use Rattle.tree.specs.Nodes.{leaf, depthOf}
+use Rattle.tree.specs.Nodes.{leaf}
+use Rattle.tree.specs.Order.{depthOf}
 use Rattle.tree.specs.WellFormed.{Run}
 use Rattle.tree.proofs.Runs.{run-of}
-use Rattle.climb.specs.Leaves.{cellOf, climbed, leafLevel, held, leafKey}
+use Rattle.tree.specs.Leaves.{cellOf, climbed, leafLevel, held, leafKey}
 use Rattle.growth.specs.declared.Rule.{Rule}
 use Rattle.growth.specs.Nodes.{nodes}
 use Rattle.growth.specs.Columns.{holds, ownColumn, beginColumn, orderColumn}

@@ -15,13 +15,12 @@ use Rattle.morton.specs.Keys.{deepest, levelOf, codeOf, above, axesKnown, under
 use Rattle.tree.specs.Nodes.{leaf}
 use Rattle.tree.proofs.Stored.{stored-mem, distinct, leaf-under}
 use Rattle.tree.proofs.Sourced.{under-facts}
-use Rattle.climb.specs.Leaves.{cellOf}
+use Rattle.tree.specs.Leaves.{cellOf}
 use Rattle.growth.specs.declared.Rule.{Rule}
 use Rattle.growth.specs.Nodes.{nodes}
 use Rattle.growth.specs.Columns.{holds}
-use Rattle.growth.proofs.Kids.{node-good}
+use Rattle.growth.proofs.Sorted.{node-good, nodes-ascending, nodes-tree}
 use Rattle.growth.proofs.Leaves.{holds-code, cell-holds, source-leaf}
-use Rattle.growth.proofs.Order.{nodes-ascending, nodes-parents}
 
 pub leaf-mem : (d : ℕ) (keys : List ℕ) (k : ℕ) → leaf d keys k ≡ true → Mem k keys
 unfolding leaf
@@ -57,7 +56,7 @@ module _ (g : Rule) (s t : List ℕ) (known : axesKnown (g .axes) ≡ true) wher
       → holds (g .axes) j c ≡ true → holds (g .axes) k c ≡ true → j ≡ k
   ordered-leaf j k c l lj lk hj hk =
       let m = leaf-mem (g .axes) (nodes g s t) k lk in
-      leaf-under (g .axes) (nodes g s t) (nodes-ascending g s t known) (nodes-parents g s t known) j k lj m
+      leaf-under (g .axes) (nodes g s t) (nodes-ascending g s t known) (nodes-tree g s t known .parents) j k lj m
       (held-under (g .axes) j k c l (node-good g s t known k m .level) hj hk)
 
   -- no code is held by two leaves

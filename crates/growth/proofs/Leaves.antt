@@ -20,11 +20,13 @@ use Rattle.anchors.proofs.Laws.{children-under}
 use Rattle.refine.specs.Counts.{countAt, sourcesIn}
 use Rattle.tree.specs.Nodes.{stored, childOf, leaf}
 use Rattle.tree.proofs.Stored.{mem-stored}
-use Rattle.climb.specs.Leaves.{cellOf}
+use Rattle.tree.specs.Leaves.{cellOf}
 use Rattle.growth.specs.declared.Rule.{Rule}
 use Rattle.growth.specs.Nodes.{splits, nodes}
 use Rattle.growth.specs.Columns.{holds}
-use Rattle.growth.proofs.Kids.{Kid, splits-root, splits-level, child-below, node-good, root-node, node-up, node-down}
+use Rattle.growth.proofs.Kids.{Kid, splits-root, splits-level, child-below}
+use Rattle.growth.proofs.Sorted.{node-good}
+use Rattle.growth.proofs.Members.{root-node, node-up, node-down}
 
 pub holds-code : (d k c : ℕ) → holds d k c ≡ true → above d (deepest - levelOf k) c ≡ codeOf k
 holds-code d k c h = eqb-true (above d (deepest - levelOf k) c) (codeOf k) h

@@ -1,7 +1,7 @@
 -- Document 01, "How the tree grows": the nodes. Sources and targets are the level-16 codes of the points;
 -- targets that are not used are no targets.
 use mathlib.Core.Bool.{Bool, true, false, _&&_, _||_, cond}
-use mathlib.Core.List.{List, [], _∷_, _++_}
+use mathlib.Core.List.{List, [], _∷_}
 use Prim.Native.Nat.{ℕ, zero, suc}
 use lib.Dec.{ltb, eqb}
 use Rattle.slices.specs.Lists.{filter, concatMap}
@@ -26,17 +26,13 @@ module _ (g : Rule) (sources targets : List ℕ) where
   unfolding splits
   kids k = cond (splits k) (filter kept (children (g .axes) k)) []
 
-  -- the cells stored at a level, in ascending code
-  unfoldable pub cellsAt : ℕ → List ℕ
-  unfolding kids
-  cellsAt zero = 0 ∷ []
-  cellsAt (suc l) = concatMap kids (cellsAt l)
+  -- cell k, then its stored children ascending, each followed by its own; at most so many levels are left
+  unfoldable pub preorder : ℕ → ℕ → List ℕ
+  unfolding concatMap kids
+  preorder zero k = k ∷ []
+  preorder (suc left) k = k ∷ concatMap (preorder left) (kids k)
 
-  unfoldable pub nodesTo : ℕ → List ℕ
-  unfolding cellsAt
-  nodesTo zero = cellsAt zero
-  nodesTo (suc l) = nodesTo l ++ cellsAt (suc l)
-
-  -- nodes are numbered by level, then ascending code
+  -- the nodes in Z order
   unfoldable pub nodes : List ℕ
-  nodes = nodesTo deepest
+  unfolding preorder
+  nodes = preorder deepest 0

@@ -16,10 +16,10 @@ use Rattle.refusal.proofs.Chain.{asked, both-done}
 use Rattle.tree.specs.Columns.{columns}
 use Rattle.rows.specs.Lists.{uRow, vRow}
 use Rattle.sourced.specs.Answers.{treeCheck}
-use Rattle.sourced.specs.Trees.{SoundTree}
+use Rattle.tree.specs.WellFormed.{SoundTree}
 use Rattle.sourced.proofs.Checks.{passed}
 use Rattle.rows.specs.Written.{keysRoom}
-use Rattle.quick_lists.specs.Halves.{hasRoom, WritesBoth}
+use Rattle.lists.specs.Halves.{hasRoom, WritesBoth}
 use Rattle.interaction.specs.declared.ListsAnswer.the-variants as lists
 use Rattle.interaction.specs.Answers.{keysOf, startsCheck, listsCheck, listsOr, listsAnswer}
 

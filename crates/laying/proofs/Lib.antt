@@ -1,4 +1,4 @@
 pub mod Calls
 pub mod Inside
-pub mod Laying
 pub mod Prepared
+pub mod Layouts

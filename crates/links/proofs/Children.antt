@@ -2,76 +2,29 @@
 use mathlib.Core.Path.{_≡_, refl, sym, ap, _∙_, subst}
 use mathlib.Core.Bool.{Bool, true, false, cond}
 use mathlib.Core.List.{List, [], _∷_, _++_, append-nil}
-use Prim.Native.Nat.{ℕ, suc, _+_, _*_, _-_, _/_, _%_, _≤_, _<_}
+use Prim.Native.Nat.{ℕ, suc, _+_, _-_, _≤_, _<_}
 use native.Mathlib.Omega.{arith}
 use native.Mathlib.Nat.{zero-add}
 use native.Mathlib.Decide.{decLt}
-use lib.Dec.{leb, ltb, eqb}
+use lib.Dec.{leb, ltb}
 use lib.ListN.{length, getD}
 use borrow.Author.Tests.{ltb-true, ltb-false, lt-ltb, eq-eqb}
-use Rattle.slices.specs.Lists.{bit, filter, range, Mem}
+use Rattle.slices.specs.Lists.{filter, range, Mem}
 use Rattle.slices.proofs.Tests.{and-l, and-r, both, refute}
 use Rattle.slices.proofs.Counts.{here, there}
 use Rattle.slices.proofs.Lists.{filter-append, length-range, getD-range, range-append}
 use Rattle.morton.specs.Keys.{levelOf, parent}
-use Rattle.tree.specs.Nodes.{childOf, sourced}
+use Rattle.tree.specs.Nodes.{childOf}
 use Rattle.tree.specs.WellFormed.{totalsRight}
-use Rattle.ztree.specs.Order.{endOf}
-use Rattle.ztree.specs.WellFormed.{SoundTree}
-use Rattle.ztree.proofs.Rules.{Formed, facts, rows-of, total-facts}
-use Rattle.ztree.proofs.Ends.{ends}
-use Rattle.ztree.proofs.Laws.{under-range, first-child}
-use Rattle.ztree.proofs.Sourced.{child-under}
-use Rattle.links.specs.Links.{nextOf, inner, afterOf, marksOf, linkOf, sourcedChild, Linked, Links, Reads, LinkedTree}
-use Rattle.links.proofs.Links.{Next, next-is, link-next}
-use Rattle.links.proofs.Walk.{sourced-at, formed-linked, level, later, next-child, next-over}
-
--- ---- what an entry tells
-link-inner : (keys total : List ℕ) (i : ℕ) → eqb (linkOf keys total i / 2 % 2) 1 ≡ inner keys i
-unfolding linkOf marksOf
-link-inner keys total i = go (inner keys i) (ltb 0 (getD total i 0))
-  where
-    go : (a b : Bool) → eqb ((4 * nextOf keys total i + (2 * bit a + bit b)) / 2 % 2) 1 ≡ a
-    go true true = let e : (4 * nextOf keys total i + 3) / 2 % 2 ≡ 1 = omega arith in eq-eqb _ 1 e
-    go true false = let e : (4 * nextOf keys total i + 2) / 2 % 2 ≡ 1 = omega arith in eq-eqb _ 1 e
-    go false true = let e : (4 * nextOf keys total i + 1) / 2 % 2 ≡ 0 = omega arith in ap (λ n. eqb n 1) e
-    go false false = let e : (4 * nextOf keys total i + 0) / 2 % 2 ≡ 0 = omega arith in ap (λ n. eqb n 1) e
-
-link-mark : (keys total : List ℕ) (i : ℕ) → linkOf keys total i % 2 ≡ bit (ltb 0 (getD total i 0))
-unfolding linkOf marksOf
-link-mark keys total i = go (inner keys i) (ltb 0 (getD total i 0))
-  where
-    go : (a b : Bool) → (4 * nextOf keys total i + (2 * bit a + bit b)) % 2 ≡ bit b
-    go true true = omega arith
-    go true false = omega arith
-    go false true = omega arith
-    go false false = omega arith
-
-pub reads-next : (links : List ℕ) (i : ℕ) → Reads links i (λ keys total. getD links i 0 / 4 ≡ nextOf keys total i)
-reads-next links i keys total e = ap (λ n. n / 4) e ∙ link-next keys total i
-
-pub reads-inner : (links : List ℕ) (i : ℕ) → Reads links i (λ keys total. eqb (getD links i 0 / 2 % 2) 1 ≡ inner keys i)
-reads-inner links i keys total e = ap (λ n. eqb (n / 2 % 2) 1) e ∙ link-inner keys total i
-
-module _ (links : List ℕ) (i c : ℕ) (e : c ≡ suc i) where
-  entry : (keys total : List ℕ) → getD links (suc i) 0 ≡ linkOf keys total (suc i) → getD links c 0 % 2 ≡ bit (ltb 0 (getD total (suc i) 0))
-  entry keys total h = ap (λ n. getD links n 0 % 2) e ∙ ap (λ n. n % 2) h ∙ link-mark keys total (suc i)
-
-  pub reads-past : getD links c 0 % 2 ≡ 0 → Reads links (suc i) (λ keys total. getD links c 0 / 4 ≡ afterOf keys total i)
-  unfolding afterOf
-  reads-past z keys total h = ap (λ n. getD links n 0 / 4) e ∙ reads-next links (suc i) keys total h ∙ go (ltb 0 (getD total (suc i) 0)) refl
-    where
-      go : (b : Bool) → ltb 0 (getD total (suc i) 0) ≡ b → nextOf keys total (suc i) ≡ afterOf keys total i
-      go true q = absurd (omega (arith, z, entry keys total h ∙ ap bit q))
-      go false q = sym (ap (λ b. cond b (suc i) (nextOf keys total (suc i))) q)
-
-  pub reads-after : (getD links c 0 % 2 ≡ 0 → ⊥) → Reads links (suc i) (λ keys total. c ≡ afterOf keys total i)
-  unfolding afterOf
-  reads-after z keys total h = e ∙ go (ltb 0 (getD total (suc i) 0)) refl
-    where
-      go : (b : Bool) → ltb 0 (getD total (suc i) 0) ≡ b → suc i ≡ afterOf keys total i
-      go true q = sym (ap (λ b. cond b (suc i) (nextOf keys total (suc i))) q)
-      go false q = absurd (z (entry keys total h ∙ ap bit q))
+use Rattle.tree.specs.Order.{endOf}
+use Rattle.tree.specs.WellFormed.{SoundTree}
+use Rattle.tree.proofs.Rules.{Formed, facts, rows-of, total-facts}
+use Rattle.tree.proofs.Ends.{ends}
+use Rattle.tree.proofs.Laws.{under-range, first-child}
+use Rattle.tree.proofs.Sourced.{child-under}
+use Rattle.links.specs.Links.{nextOf, inner, afterOf, sourcedChild, Linked, Links, LinkedTree}
+use Rattle.links.proofs.Links.{Next, next-is}
+use Rattle.links.proofs.Walk.{inner-inside, inner-deeper, sourced-at, formed-linked, level, later, next-child, next-over}
 
 -- ---- those of the first numbers that pass
 pub filter-none : (p : ℕ → Bool) (xs : List ℕ) → ((x : ℕ) → Mem x xs → p x ≡ false) → filter p xs ≡ []
@@ -121,11 +74,18 @@ sound-formed {d} {keys} {own} {total} t h =
 pub sound-linked : {d : ℕ} {keys own total : List ℕ} → SoundTree d keys own → totalsRight d keys own total ≡ true → Linked keys total
 sound-linked {d} {keys} {own} {total} t h = formed-linked d keys own (t .begin) total (sound-formed t h)
 
-pub linked-tree : {d : ℕ} {keys own total old links : List ℕ} → SoundTree d keys own → totalsRight d keys own total ≡ true → length keys ≤ length old → Links keys total old links → LinkedTree d keys own links
-linked-tree {total = total} t h room l = record { tree = t; total = total; totals = h; room = omega (arith, l .long); right = l .right }
+pub linked-tree : {d : ℕ} {keys own total old links : List ℕ} → SoundTree d keys own → totalsRight d keys own total ≡ true → Links keys total old links → LinkedTree d keys own total links
+linked-tree t h l = record { tree = t; totals = h; right = λ j _ k. l .right j k }
 
-pub tree-formed : {d : ℕ} {keys own links : List ℕ} → (t : LinkedTree d keys own links) → Formed d keys own (t .tree .begin) (t .total)
+-- no links at all
+pub unlinked-tree : {d : ℕ} {keys own total links : List ℕ} → SoundTree d keys own → totalsRight d keys own total ≡ true → length links ≡ 0 → LinkedTree d keys own total links
+unlinked-tree t h none = record { tree = t; totals = h; right = λ j l k. absurd (omega arith) }
+
+pub tree-formed : {d : ℕ} {keys own total links : List ℕ} → (t : LinkedTree d keys own total links) → Formed d keys own (t .tree .begin) total
 tree-formed t = sound-formed (t .tree) (t .totals)
+
+pub tree-linked : {d : ℕ} {keys own total links : List ℕ} → LinkedTree d keys own total links → Linked keys total
+tree-linked t = sound-linked (t .tree) (t .totals)
 
 module _ (d : ℕ) (keys own begin total : List ℕ) (w : Formed d keys own begin total) (node : ℕ) (l : node < length keys) where
   k : Linked keys total
@@ -151,7 +111,7 @@ module _ (d : ℕ) (keys own begin total : List ℕ) (w : Formed d keys own begi
     pub child : c < nextOf keys total node → (c < length keys) × (sourcedChild d keys own node c ≡ true)
 
   -- from a child on
-  hop : (c : ℕ) → c < length keys → childOf d (getD keys node 0) (getD keys c 0) ≡ true → At (nextOf keys total c)
+  pub hop : (c : ℕ) → c < length keys → childOf d (getD keys node 0) (getD keys c 0) ≡ true → At (nextOf keys total c)
   hop c lc h = record { most = most (decLt (nextOf keys total c) (endOf keys node)); child = λ s. child s (decLt (nextOf keys total c) (endOf keys node)) }
     where
       most : Dec (nextOf keys total c < endOf keys node) → nextOf keys total c ≤ nextOf keys total node
@@ -175,11 +135,12 @@ module _ (d : ℕ) (keys own begin total : List ℕ) (w : Formed d keys own begi
 
   module _ (h : inner keys node ≡ true) where
     inside : suc node < length keys
-    inside = ltb-true (suc node) (length keys) (and-l _ _ h)
+    inside = inner-inside keys node h
 
-    first : childOf d (getD keys node 0) (getD keys (suc node) 0) ≡ true
-    first =
-        let deep = ltb-true (levelOf (getD keys node 0)) (levelOf (getD keys (suc node) 0)) (and-r (ltb (suc node) (length keys)) _ h) in
+    -- the first of them is next
+    pub inner-first : childOf d (getD keys node 0) (getD keys (suc node) 0) ≡ true
+    inner-first =
+        let deep = inner-deeper keys node h in
         both (lt-ltb 0 (levelOf (getD keys (suc node) 0)) (omega arith)) (eq-eqb (parent d (getD keys (suc node) 0)) (getD keys node 0) (first-child d keys (w .rows .tree) node inside deep))
 
     pub walked-start : Walked (afterOf keys total node) []
@@ -190,12 +151,12 @@ module _ (d : ℕ) (keys own begin total : List ℕ) (w : Formed d keys own begi
         go true e = subst (λ c. Walked c []) (sym (ap (λ b. cond b (suc node) (nextOf keys total (suc node))) e)) (record {
           at = record {
             most = omega (arith, nx node l .from, ends keys node l .after);
-            child = λ s. (inside, both first (sourced-at d keys own begin total w (suc node) inside ∙ e));
+            child = λ s. (inside, both inner-first (sourced-at d keys own begin total w (suc node) inside ∙ e));
           };
           are = none-before (suc node) (omega (arith, inside)) (λ j s lj p. omega (arith, child-facts j lj p .0));
         })
         go false e = subst (λ c. Walked c []) (sym (ap (λ b. cond b (suc node) (nextOf keys total (suc node))) e)) (record {
-          at = hop (suc node) inside first;
+          at = hop (suc node) inside inner-first;
           are = none-before (nextOf keys total (suc node)) (nx (suc node) inside .within) not-yet;
         })
           where

@@ -3,20 +3,18 @@ use mathlib.Core.Path.{_≡_, refl, sym, ap, _∙_, subst}
 use mathlib.Core.Bool.{Bool, true, false, _&&_, cond}
 use mathlib.Core.List.{List, [], _∷_}
 use mathlib.Core.Logic.{_⊎_, inl, inr}
-use Prim.Native.Nat.{ℕ, zero, suc, _+_, _*_, _-_, _/_, _≤_, _<_}
+use Prim.Native.Nat.{ℕ, zero, suc, _+_, _-_, _≤_, _<_}
 use native.Mathlib.Omega.{arith}
-use native.Mathlib.Nat.{not-suc-le-zero}
 use native.Mathlib.Decide.{decLt}
 use lib.Dec.{leb, ltb}
 use lib.ListN.{length, getD, drop, set, length-drop, length-set}
 use lib.Seq.{getD-drop, getD-set-same, getD-set-other}
-use borrow.Author.Tests.{ltb-true, ltb-false, leb-true, leb-false, lt-ltb, le-ltb, le-leb, lt-leb}
+use borrow.Author.Tests.{ltb-true, ltb-false, leb-true, leb-false, le-leb, lt-leb}
 use Rattle.slices.proofs.Tests.{and-l, and-r}
-use Rattle.slices.specs.Lists.{bit}
 use Rattle.morton.specs.Keys.{levelOf}
-use Rattle.ztree.specs.Order.{endOf}
-use Rattle.ztree.proofs.Ends.{Ends, ends}
-use Rattle.links.specs.Links.{zeros, nextOf, inner, marksOf, linkOf, Linked, From, Links}
+use Rattle.tree.specs.Order.{endOf}
+use Rattle.tree.proofs.Ends.{Ends, ends}
+use Rattle.links.specs.Links.{zeros, nextOf, Linked, From, Links}
 
 record Zeros (ns : List ℕ) (r : ℕ) : Type 0 where
   most : r ≤ length ns
@@ -56,17 +54,6 @@ next-is keys total e i l = go (zeros (drop (endOf keys i) total)) (run (drop (en
           sym (getD-drop (endOf keys i) total (m - endOf keys i) 0 ∙ ap (λ x. getD total x 0) q) ∙ z .all (m - endOf keys i) (omega arith);
       sourced = λ h. subst (λ x. 0 < x) (getD-drop (endOf keys i) total r 0) (z .stop (omega (arith, length-drop (endOf keys i) total)));
     }
-
--- a link's three parts
-pub link-next : (keys total : List ℕ) (i : ℕ) → linkOf keys total i / 4 ≡ nextOf keys total i
-unfolding linkOf marksOf
-link-next keys total i = go (inner keys i) (ltb 0 (getD total i 0))
-  where
-    go : (a b : Bool) → (4 * nextOf keys total i + (2 * bit a + bit b)) / 4 ≡ nextOf keys total i
-    go true true = omega arith
-    go true false = omega arith
-    go false true = omega arith
-    go false false = omega arith
 
 -- a walk from node i has come to j
 pub record Hop (keys total : List ℕ) (i j : ℕ) : Type 0 where
@@ -157,11 +144,10 @@ module _ (keys total : List ℕ) (k : Linked keys total) where
     pub hop-end : (j : ℕ) → Hop keys total i j → length keys ≤ j → j ≡ nextOf keys total i
     hop-end j h l = omega (arith, h .most, nx .within)
 
-    pub hop-more : (j : ℕ) → Hop keys total i j → j < length keys → (levelOf (getD keys i 0) < levelOf (getD keys j 0)) ⊎ (getD total j 0 ≡ 0) → (r : ℕ) → r ≡ linkOf keys total j → Hop keys total i (r / 4)
+    pub hop-more : (j : ℕ) → Hop keys total i j → j < length keys → (levelOf (getD keys i 0) < levelOf (getD keys j 0)) ⊎ (getD total j 0 ≡ 0) → (r : ℕ) → r ≡ nextOf keys total j → Hop keys total i r
     hop-more j h l c r e =
         let y = next-is keys total (k .totals) j l in
-        let q : r / 4 ≡ nextOf keys total j = ap (λ x. x / 4) e ∙ link-next keys total j in
-        subst (Hop keys total i) (sym q) (record { after = omega (arith, h .after, ends keys j l .after, y .from); most = go (decLt (nextOf keys total i) (nextOf keys total j)) })
+        subst (Hop keys total i) (sym e) (record { after = omega (arith, h .after, ends keys j l .after, y .from); most = go (decLt (nextOf keys total i) (nextOf keys total j)) })
       where
         go : Dec (nextOf keys total i < nextOf keys total j) → nextOf keys total j ≤ nextOf keys total i
         go (no s) = omega arith
@@ -202,51 +188,18 @@ module _ (keys total : List ℕ) (k : Linked keys total) where
         hop-here j h l (leb-true (levelOf (getD keys j 0)) (levelOf (getD keys i 0)) (and-l _ _ b))
         (λ z. omega (arith, ltb-true 0 (getD total j 0) (and-r (leb (levelOf (getD keys j 0)) (levelOf (getD keys i 0))) _ b)))
 
-    pub stop-not : (j : ℕ) → Hop keys total i j → j < length keys → (leb (levelOf (getD keys j 0)) (levelOf (getD keys i 0)) && ltb 0 (getD total j 0)) ≡ false → (r : ℕ) → r ≡ linkOf keys total j → Hop keys total i (r / 4)
+    pub stop-not : (j : ℕ) → Hop keys total i j → j < length keys → (leb (levelOf (getD keys j 0)) (levelOf (getD keys i 0)) && ltb 0 (getD total j 0)) ≡ false → (r : ℕ) → r ≡ nextOf keys total j → Hop keys total i r
     stop-not j h l b r e = hop-more j h l (go (leb (levelOf (getD keys j 0)) (levelOf (getD keys i 0))) refl b) r e
       where
         go : (t : Bool) → leb (levelOf (getD keys j 0)) (levelOf (getD keys i 0)) ≡ t → (t && ltb 0 (getD total j 0)) ≡ false → (levelOf (getD keys i 0) < levelOf (getD keys j 0)) ⊎ (getD total j 0 ≡ 0)
         go false q b = inl (leb-false (levelOf (getD keys j 0)) (levelOf (getD keys i 0)) q)
         go true q b = inr (omega (arith, ltb-false 0 (getD total j 0) b))
 
--- the marks, as the code makes them
-module _ (keys total : List ℕ) (i s : ℕ) (e : s ≡ bit (ltb 0 (getD total i 0))) where
-  pub mark-last : length keys ≤ i + 1 → s ≡ marksOf keys total i
-  unfolding marksOf
-  mark-last h = rw (le-ltb (suc i) (length keys) (omega arith)) (omega arith)
-
-  pub mark-leaf : i + 1 < length keys → levelOf (getD keys (i + 1) 0) ≤ levelOf (getD keys i 0) → s ≡ marksOf keys total i
-  unfolding marksOf
-  mark-leaf h g =
-      let q : i + 1 ≡ suc i = omega arith in
-      let g2 : levelOf (getD keys (suc i) 0) ≤ levelOf (getD keys i 0) = subst (λ x. levelOf (getD keys x 0) ≤ levelOf (getD keys i 0)) q g in
-      rw (lt-ltb (suc i) (length keys) (omega arith), le-ltb (levelOf (getD keys i 0)) (levelOf (getD keys (suc i) 0)) g2) (omega arith)
-
-  pub mark-inner : i + 1 < length keys → levelOf (getD keys i 0) < levelOf (getD keys (i + 1) 0) → 2 + s ≡ marksOf keys total i
-  unfolding marksOf
-  mark-inner h g =
-      let q : i + 1 ≡ suc i = omega arith in
-      let g2 : levelOf (getD keys i 0) < levelOf (getD keys (suc i) 0) = subst (λ x. levelOf (getD keys i 0) < levelOf (getD keys x 0)) q g in
-      rw (lt-ltb (suc i) (length keys) (omega arith), lt-ltb (levelOf (getD keys i 0)) (levelOf (getD keys (suc i) 0)) g2) (omega arith)
-
-pub marks-few : (keys total : List ℕ) (i : ℕ) → marksOf keys total i ≤ 3
-unfolding marksOf
-marks-few keys total i = go (inner keys i) (ltb 0 (getD total i 0))
-  where
-    go : (a b : Bool) → 2 * bit a + bit b ≤ 3
-    go true true = omega arith
-    go true false = omega arith
-    go false true = omega arith
-    go false false = omega arith
-
-pub next-most : (keys total : List ℕ) → Linked keys total → (i : ℕ) → i < length keys → nextOf keys total i ≤ length keys
-next-most keys total k i l = next-is keys total (k .totals) i l .within
-
 -- the pass from the last node back
 pub record Linking (keys total old links : List ℕ) (i : ℕ) : Type 0 where
   pub most : i ≤ length keys
   pub long : length links ≡ length old
-  pub right : (j : ℕ) → i ≤ j → j < length keys → getD links j 0 ≡ linkOf keys total j
+  pub right : (j : ℕ) → i ≤ j → j < length keys → getD links j 0 ≡ nextOf keys total j
   pub rest : (j : ℕ) → length keys ≤ j → getD links j 0 ≡ getD old j 0
 
 module _ (keys total old : List ℕ) (k : Linked keys total) (room : length keys ≤ length old) where
@@ -256,44 +209,30 @@ module _ (keys total old : List ℕ) (k : Linked keys total) (room : length keys
   pub linking-from : (links : List ℕ) (n i : ℕ) → Linking keys total old links n → n ≡ suc i → From keys total links (suc i)
   linking-from links n i a e = record { linked = k; room = omega (arith, a .long); right = λ j h l. a .right j (omega arith) l }
 
-  pub linking-more : (links : List ℕ) (n i : ℕ) → Linking keys total old links n → n ≡ suc i → (next marks : ℕ) → next ≡ nextOf keys total i → marks ≡ marksOf keys total i
-      → Linking keys total old (set links i (4 * next + marks)) i
-  unfolding linkOf
-  linking-more links n i a e next marks en em = record {
+  pub linking-more : (links : List ℕ) (n i : ℕ) → Linking keys total old links n → n ≡ suc i → (next : ℕ) → next ≡ nextOf keys total i → Linking keys total old (set links i next) i
+  linking-more links n i a e next en = record {
     most = omega (arith, a .most);
-    long = length-set links i (4 * next + marks) ∙ a .long;
+    long = length-set links i next ∙ a .long;
     right = λ j h l. here j h l (decLt i j);
-    rest = λ j h. getD-set-other links i j (4 * next + marks) 0 (λ q. omega (arith, a .most)) ∙ a .rest j h;
+    rest = λ j h. getD-set-other links i j next 0 (λ q. omega (arith, a .most)) ∙ a .rest j h;
   }
     where
-      here : (j : ℕ) → i ≤ j → j < length keys → Dec (i < j) → getD (set links i (4 * next + marks)) j 0 ≡ linkOf keys total j
-      here j h l (yes g) = getD-set-other links i j (4 * next + marks) 0 (λ q. omega arith) ∙ a .right j (omega arith) l
+      here : (j : ℕ) → i ≤ j → j < length keys → Dec (i < j) → getD (set links i next) j 0 ≡ nextOf keys total j
+      here j h l (yes g) = getD-set-other links i j next 0 (λ q. omega arith) ∙ a .right j (omega arith) l
       here j h l (no g) =
           let z : j ≡ i = omega arith in
-          subst (λ x. getD (set links i (4 * next + marks)) x 0 ≡ linkOf keys total x) (sym z)
-          (getD-set-same links i (4 * next + marks) 0 (omega (arith, a .long, a .most)) ∙ omega arith)
+          subst (λ x. getD (set links i next) x 0 ≡ nextOf keys total x) (sym z)
+          (getD-set-same links i next 0 (omega (arith, a .long, a .most)) ∙ en)
 
   pub linking-done : (links : List ℕ) (i : ℕ) → Linking keys total old links i → i ≤ 0 → Links keys total old links
   linking-done links i a h = record { long = a .long; right = λ j l. a .right j (omega arith) l; rest = a .rest }
 
 -- each hop goes on
-pub hop-far : (keys total : List ℕ) → Linked keys total → (j r : ℕ) → j < length keys → r ≡ linkOf keys total j → j < r / 4
-hop-far keys total k j r l e =
-    let q : r / 4 ≡ nextOf keys total j = ap (λ x. x / 4) e ∙ link-next keys total j in
-    omega (arith, next-is keys total (k .totals) j l .from, ends keys j l .after)
-
-pub mark-some : (n : ℕ) → 0 < n → _≡_ {A = ℕ} 1 (bit (ltb 0 n))
-mark-some n h = rw (lt-ltb 0 n h)
-
-pub mark-none : (n : ℕ) → n ≤ 0 → _≡_ {A = ℕ} 0 (bit (ltb 0 n))
-mark-none n h = rw (le-ltb 0 n h)
+pub hop-far : (keys total : List ℕ) → Linked keys total → (j : ℕ) → j < length keys → j < nextOf keys total j
+hop-far keys total k j l = omega (arith, next-is keys total (k .totals) j l .from, ends keys j l .after)
 
 pub goes-on : (level k n : ℕ) → level < levelOf k → false ≡ (leb (levelOf k) level && ltb 0 n)
 goes-on level k n h = rw (lt-leb (levelOf k) level h)
 
 pub may-stop : (level k n : ℕ) → levelOf k ≤ level → ltb 0 n ≡ (leb (levelOf k) level && ltb 0 n)
 may-stop level k n h = rw (le-leb (levelOf k) level h)
-
-pub bit-few : (b : Bool) (s : ℕ) → s ≡ bit b → s ≤ 1
-bit-few true s e = omega arith
-bit-few false s e = omega arith

@@ -1,21 +1,18 @@
 -- Where a node's walk goes on, found by search: from the end of its range on, past each range that has no sources.
-use mathlib.Core.Path.{_≡_, refl, sym, ap, _∙_, subst}
-use mathlib.Core.Bool.{Bool, true, false, _&&_}
+use mathlib.Core.Path.{_≡_, ap}
 use mathlib.Core.List.{List}
-use Prim.Native.Nat.{ℕ, suc, _+_, _≤_, _<_}
+use Prim.Native.Nat.{ℕ, _≤_, _<_}
 use native.Mathlib.Omega.{arith}
 use native.Mathlib.Decide.{decLt}
-use lib.Dec.{leb, ltb}
 use lib.ListN.{length, getD}
 use borrow.Author.Tests.{le-leb}
 use Rattle.slices.proofs.Tests.{both}
-use Rattle.morton.specs.Keys.{axesKnown}
-use Rattle.tree.proofs.Rules.{facts-parents}
-use Rattle.ztree.specs.Order.{endOf}
-use Rattle.ztree.specs.WellFormed.{SoundTree}
-use Rattle.ztree.specs.Finding.{TreeKeys}
-use Rattle.ztree.proofs.Rules.{facts, facts-ascend}
-use Rattle.ztree.proofs.Ends.{ends}
+use Rattle.tree.proofs.Clauses.{facts-parents}
+use Rattle.tree.specs.Order.{endOf}
+use Rattle.tree.specs.WellFormed.{SoundTree}
+use Rattle.tree.specs.Finding.{TreeKeys}
+use Rattle.tree.proofs.Rules.{facts, facts-ascend}
+use Rattle.tree.proofs.Ends.{ends}
 use Rattle.links.specs.Links.{nextOf, Linked}
 use Rattle.links.proofs.Links.{Next, next-is}
 

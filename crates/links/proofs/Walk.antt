@@ -1,26 +1,33 @@
 -- In a well-formed tree the links of later nodes lead from child to child: a node's sourced children are walked by hops.
-use mathlib.Core.Path.{_≡_, refl, sym, ap, _∙_, subst}
-use mathlib.Core.Bool.{Bool, true, false, _&&_}
+use mathlib.Core.Path.{_≡_, sym, ap, _∙_}
+use mathlib.Core.Bool.{true}
 use mathlib.Core.List.{List}
 use Prim.Native.Nat.{ℕ, suc, _-_, _≤_, _<_}
 use native.Mathlib.Omega.{arith}
 use native.Mathlib.Decide.{decLt}
-use lib.Dec.{leb, ltb, eqb}
+use lib.Dec.{leb, ltb}
 use lib.ListN.{length, getD}
 use borrow.Author.Tests.{ltb-true, eqb-true, lt-ltb, le-leb, eq-eqb}
 use Rattle.slices.proofs.Tests.{and-l, and-r, both}
-use Rattle.morton.specs.Keys.{levelOf, parent, under}
+use Rattle.morton.specs.Keys.{levelOf, parent}
 use Rattle.morton.proofs.Cells.{level-parent}
 use Rattle.tree.specs.Nodes.{childOf, sourced}
-use Rattle.ztree.specs.Order.{endOf}
-use Rattle.tree.specs.Totals.{totalIn}
-use Rattle.ztree.proofs.Rules.{Formed}
-use Rattle.ztree.proofs.Ranges.{parent-is, under-later}
-use Rattle.ztree.proofs.Ends.{Ends, ends}
-use Rattle.ztree.proofs.Laws.{under-range}
-use Rattle.ztree.proofs.Sourced.{sourced-up, sourced-total, child-under}
-use Rattle.links.specs.Links.{nextOf, Linked}
+use Rattle.tree.specs.Order.{endOf}
+use Rattle.tree.proofs.Rules.{Formed}
+use Rattle.tree.proofs.Ranges.{parent-is, under-later}
+use Rattle.tree.proofs.Ends.{Ends, ends}
+use Rattle.tree.proofs.Laws.{under-range}
+use Rattle.tree.proofs.Sourced.{sourced-up, sourced-total, child-under}
+use Rattle.links.specs.Links.{nextOf, inner, Linked}
 use Rattle.links.proofs.Links.{Next, next-is, next-level}
+
+-- a node with children has a deeper one next
+module _ (keys : List ℕ) (i : ℕ) (h : inner keys i ≡ true) where
+  pub inner-inside : suc i < length keys
+  inner-inside = ltb-true (suc i) (length keys) (and-l _ _ h)
+
+  pub inner-deeper : levelOf (getD keys i 0) < levelOf (getD keys (suc i) 0)
+  inner-deeper = ltb-true (levelOf (getD keys i 0)) (levelOf (getD keys (suc i) 0)) (and-r (ltb (suc i) (length keys)) _ h)
 
 module _ (d : ℕ) (keys own begin total : List ℕ) (w : Formed d keys own begin total) where
   -- a node is sourced if its total is not 0

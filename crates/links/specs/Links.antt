@@ -1,16 +1,16 @@
--- One column beside a tree in Z order: for each node where its walk goes on, whether it has children, and whether it is sourced.
+-- Where the walk along a tree in Z order goes on after a node, and one column beside the tree that tells it.
 use mathlib.Core.Path.{_≡_}
-use mathlib.Core.Bool.{Bool, true, false, _&&_, cond}
+use mathlib.Core.Bool.{Bool, true, _&&_, cond}
 use mathlib.Core.List.{List, [], _∷_}
-use Prim.Native.Nat.{ℕ, zero, suc, _+_, _*_, _≤_, _<_}
+use Prim.Native.Nat.{ℕ, suc, _+_, _≤_, _<_}
 use lib.Dec.{ltb}
 use lib.ListN.{length, getD, drop}
-use Rattle.slices.specs.Lists.{bit, filter, range}
+use Rattle.slices.specs.Lists.{filter, range}
 use Rattle.morton.specs.Keys.{levelOf}
 use Rattle.tree.specs.Nodes.{childOf, sourced}
 use Rattle.tree.specs.WellFormed.{totalsRight}
-use Rattle.ztree.specs.Order.{endOf}
-use Rattle.ztree.specs.WellFormed.{SoundTree}
+use Rattle.tree.specs.Order.{endOf}
+use Rattle.tree.specs.WellFormed.{SoundTree}
 
 -- how many from the first on are 0
 unfoldable pub zeros : List ℕ → ℕ
@@ -25,14 +25,6 @@ nextOf keys total i = endOf keys i + zeros (drop (endOf keys i) total)
 -- the next row is deeper
 abbrev pub inner : List ℕ → ℕ → Bool
 inner keys i = ltb (suc i) (length keys) && ltb (levelOf (getD keys i 0)) (levelOf (getD keys (suc i) 0))
-
--- 2 for children, 1 for sources
-unfoldable pub marksOf : List ℕ → List ℕ → ℕ → ℕ
-marksOf keys total i = 2 * bit (inner keys i) + bit (ltb 0 (getD total i 0))
-
-unfoldable pub linkOf : List ℕ → List ℕ → ℕ → ℕ
-unfolding nextOf marksOf
-linkOf keys total i = 4 * nextOf keys total i + marksOf keys total i
 
 -- the node after node i if it is sourced, else the first sourced one after all that lies under that
 unfoldable pub afterOf : List ℕ → List ℕ → ℕ → ℕ
@@ -56,22 +48,20 @@ pub record Linked (keys total : List ℕ) : Type 0 where
 pub record From (keys total links : List ℕ) (i : ℕ) : Type 0 where
   pub linked : Linked keys total
   pub room : length keys ≤ length links
-  pub right : (j : ℕ) → i ≤ j → j < length keys → getD links j 0 ≡ linkOf keys total j
+  pub right : (j : ℕ) → i ≤ j → j < length keys → getD links j 0 ≡ nextOf keys total j
 
 -- each node's link, and past the nodes what stood there
 pub record Links (keys total old links : List ℕ) : Type 0 where
   pub long : length links ≡ length old
-  pub right : (j : ℕ) → j < length keys → getD links j 0 ≡ linkOf keys total j
+  pub right : (j : ℕ) → j < length keys → getD links j 0 ≡ nextOf keys total j
   pub rest : (j : ℕ) → length keys ≤ j → getD links j 0 ≡ getD old j 0
 
--- whatever columns entry i is a link of, it tells this
-abbrev pub Reads : List ℕ → ℕ → (List ℕ → List ℕ → Type 0) → Type 0
-Reads links i tells = (keys total : List ℕ) → getD links i 0 ≡ linkOf keys total i → tells keys total
-
--- a sound tree, the links by its totals, and as many entries as it has nodes or more
-pub record LinkedTree (d : ℕ) (keys own links : List ℕ) : Type 0 where
+-- a sound tree with its totals, and links of which each is right; there may be fewer of them than nodes, or none
+pub record LinkedTree (d : ℕ) (keys own total links : List ℕ) : Type 0 where
   pub tree : SoundTree d keys own
-  pub total : List ℕ
   pub totals : totalsRight d keys own total ≡ true
-  pub room : length keys ≤ length links
-  pub right : (j : ℕ) → j < length keys → getD links j 0 ≡ linkOf keys total j
+  pub right : (j : ℕ) → j < length links → j < length keys → getD links j 0 ≡ nextOf keys total j
+
+-- the same, whatever its nodes own
+abbrev pub Walkable : ℕ → List ℕ → List ℕ → List ℕ → Type 0
+Walkable d keys total links = (own : List ℕ) × LinkedTree d keys own total links

@@ -1,14 +1,12 @@
-// Links: for each node the first sourced node after all that lies under it, with two marks.
+// Where the walk along a tree's sourced nodes goes on after a node: read from a column of links, or found by search.
 ghost use mathlib.Core.Path.{_≡_};
 ghost use mathlib.Core.Bool.{_&&_};
-ghost use mathlib.Core.List.{List};
-ghost use Prim.Native.Nat.{ℕ, suc, _≤_, _<_};
+ghost use Prim.Native.Nat.{suc, _≤_, _<_};
 ghost use lib.Dec.{leb, ltb};
-ghost use lib.ListN.{length, getD};
-ghost use Rattle.slices.specs.Lists.{bit};
+ghost use lib.ListN.{length};
 ghost use Rattle.morton.specs.Keys.{levelOf};
-ghost use Rattle.ztree.specs.Finding.{TreeKeys};
-ghost use Rattle.links.specs.Links.{nextOf, inner, afterOf, marksOf, linkOf, Linked, From, Links, Reads};
+ghost use Rattle.tree.specs.Finding.{TreeKeys};
+ghost use Rattle.links.specs.Links.{nextOf, inner, afterOf, Linked, From, Links, Walkable};
 
 // Whether a walk that hops from a node of a level stops at the one with key k, whose total is n.
 fn stops(level: u64, k: u64, n: usize) -> bool
@@ -31,35 +29,9 @@ fn find_next(key: &[u64], total: &[usize], links: &[usize], i: usize) -> usize
         if stops(level, key[j], total[j]) {
             return j;
         }
-        j = links[j] / 4;
+        j = links[j];
     }
     j
-}
-
-// 1 for a number of sources that is not 0.
-fn mark(n: usize) -> usize
-    ensures { λ r. ⌜ r ≡ bit (ltb 0 n) ⌝ }
-{
-    if 0 < n {
-        return 1;
-    }
-    0
-}
-
-// Node i's two marks.
-fn marks_of(key: &[u64], total: &[usize], i: usize) -> usize
-    requires { ⌜ (i < length (now key)) × (i < length (now total)) ⌝ }
-    ensures { λ r. ⌜ r ≡ marksOf (now (key .entry)) (now (total .entry)) i ⌝ }
-{
-    let sourced = mark(total[i]);
-    let next = i + 1;
-    if key.len() <= next {
-        return sourced;
-    }
-    if key[next] % 32768 <= key[i] % 32768 {
-        return sourced;
-    }
-    2 + sourced
 }
 
 // The links of all nodes, from the last back.
@@ -71,7 +43,7 @@ pub fn link_nodes(key: &[u64], total: &[usize], links: &mut [usize])
     while 0 < i {
         i -= 1;
         let next = find_next(key, total, links, i);
-        links[i] = 4 * next + marks_of(key, total, i);
+        links[i] = next;
     }
 }
 
@@ -80,40 +52,53 @@ fn find_by_search(axes: usize, key: &[u64], total: &[usize], i: usize) -> usize
     requires { ⌜ TreeKeys axes (now key) × Linked (now key) (now total) × (i < length (now key)) ⌝ }
     ensures { λ r. ⌜ r ≡ nextOf (now (key .entry)) (now (total .entry)) i ⌝ }
 {
-    let mut j = ztree::end_of(axes, key, i);
+    let mut j = tree::end_of(axes, key, i);
     while j < key.len() {
         if 0 < total[j] {
             return j;
         }
-        j = ztree::end_of(axes, key, j);
+        j = tree::end_of(axes, key, j);
     }
     j
 }
 
-// Where node i's walk goes on: the first sourced node after all that lies under it, or the number of nodes.
-pub fn next_of(links: &[usize], i: usize) -> usize
-    requires { ⌜ i < length (now links) ⌝ }
-    ensures { λ r. ⌜ Reads (now (links .entry)) i (λ keys total. r ≡ nextOf keys total i) ⌝ }
+// Where node i's walk goes on: the first sourced node after all that lies under it, or the number of nodes. Its link tells it, if there is one.
+pub fn next_of(axes: usize, key: &[u64], total: &[usize], links: &[usize], i: usize) -> usize
+    requires { ⌜ Walkable axes (now key) (now total) (now links) × (i < length (now key)) ⌝ }
+    ensures { λ r. ⌜ r ≡ nextOf (now (key .entry)) (now (total .entry)) i ⌝ }
 {
-    links[i] / 4
+    if i < links.len() {
+        return links[i];
+    }
+    find_by_search(axes, key, total, i)
 }
 
 // Whether node i has children.
-pub fn has_children(links: &[usize], i: usize) -> bool
-    requires { ⌜ i < length (now links) ⌝ }
-    ensures { λ r. ⌜ Reads (now (links .entry)) i (λ keys total. r ≡ inner keys i) ⌝ }
+pub fn has_children(key: &[u64], i: usize) -> bool
+    requires { ⌜ i < length (now key) ⌝ }
+    ensures { λ r. ⌜ r ≡ inner (now (key .entry)) i ⌝ }
 {
-    links[i] / 2 % 2 == 1
+    let next = i + 1;
+    if key.len() <= next {
+        return false;
+    }
+    key[i] % 32768 < key[next] % 32768
 }
 
 // Where the walk along the children of node i begins: its first sourced child, if it has one.
-pub fn first_sourced_child(links: &[usize], i: usize) -> usize
-    requires { ⌜ suc i < length (now links) ⌝ }
-    ensures { λ r. ⌜ Reads (now (links .entry)) (suc i) (λ keys total. r ≡ afterOf keys total i) ⌝ }
+pub fn first_sourced_child(
+    axes: usize,
+    key: &[u64],
+    total: &[usize],
+    links: &[usize],
+    i: usize,
+) -> usize
+    requires { ⌜ Walkable axes (now key) (now total) (now links) × (suc i < length (now key)) ⌝ }
+    ensures { λ r. ⌜ r ≡ afterOf (now (key .entry)) (now (total .entry)) i ⌝ }
 {
     let c = i + 1;
-    if links[c] % 2 == 0 {
-        return links[c] / 4;
+    if 0 < total[c] {
+        return c;
     }
-    c
+    next_of(axes, key, total, links, c)
 }

@@ -1,6 +1,5 @@
-pub mod Upwards
-pub mod Tests
-pub mod Those
-pub mod Split
-pub mod Rows
 pub mod Writing
+pub mod Progress
+pub mod Marks
+pub mod Pairs
+pub mod Both

@@ -10,24 +10,18 @@ use lib.ListN.{length, getD, take, drop, set, length-set, length-take, drop-of-l
 use lib.Seq.{drop-cons, getD-take, take-all}
 use borrow.Author.Tests.{eq-eqb, ne-eqb}
 use Rattle.slices.specs.Lists.{sum}
-use Rattle.tree.specs.Nodes.{depthOf}
-use Rattle.tree.specs.WellFormed.{keysAscend}
-use Rattle.tree.proofs.Rules.{ascend-facts}
+use Rattle.tree.specs.Order.{depthOf}
 use Rattle.lookup.specs.declared.Climb.the-variants.{Leaf, Unstored}
 use Rattle.lookup.specs.declared.Climbs.the-variants.{Ended, Failed}
 use Rattle.grouping.proofs.Values.{up-more, up-next}
 use Rattle.grouping.proofs.Passing.{Passed, pass-start, pass-more, pass-stop, pass-done}
-use Rattle.climb.specs.Leaves.{held, leafKey, stepsTo}
-use Rattle.climb.proofs.Answers.{depth-most}
+use Rattle.tree.specs.Leaves.{held, leafKey, stepsTo}
 use Rattle.lookup.specs.Lookup.{leafOr, climbTo}
 use Rattle.lookup.specs.Batch.{heldBefore, leafKeys, stepsSum, endedOr, climbsOf}
 
 -- ---- one climb
-pub depth-le : (d : ℕ) (keys : List ℕ) → keysAscend d keys ≡ true → depthOf keys ≤ 16
-depth-le d keys a = depth-most d keys (ascend-facts d keys a)
-
 module _ (d : ℕ) (keys : List ℕ) (code : ℕ) where
-  pub climb-leaf : (k s : ℕ) → climbTo d keys (depthOf keys) code ≡ Leaf k s → (held d keys code ≡ true) × (k ≡ leafKey d keys code) × (s ≡ stepsTo d keys code)
+  pub climb-leaf : (k s : ℕ) → climbTo d keys code ≡ Leaf k s → (held d keys code ≡ true) × (k ≡ leafKey d keys code) × (s ≡ stepsTo d keys code)
   climb-leaf k s h = go (held d keys code) refl h
     where
       go : (t : Bool) → held d keys code ≡ t → leafOr t (leafKey d keys code) (stepsTo d keys code) ≡ Leaf k s
@@ -35,7 +29,7 @@ module _ (d : ℕ) (keys : List ℕ) (code : ℕ) where
       go true e g = (e, (cc), (cc))
       go false e g = let z : _≡_ {A = ℕ} 0 1 = cc in absurd (omega arith)
 
-  pub climb-not : climbTo d keys (depthOf keys) code ≡ Unstored → held d keys code ≡ false
+  pub climb-not : climbTo d keys code ≡ Unstored → held d keys code ≡ false
   climb-not h = go (held d keys code) refl h
     where
       go : (t : Bool) → held d keys code ≡ t → leafOr t (leafKey d keys code) (stepsTo d keys code) ≡ Unstored → held d keys code ≡ false
@@ -63,9 +57,6 @@ module _ (d : ℕ) (keys : List ℕ) (n : ℕ) (old : List ℕ) (fits : n ≤ le
         ap (λ (t : List ℕ). getD t row 0) (s .is)
         ∙ up-next (leafKey d keys) row (take n old) old (omega (arith, size)) (omega (arith, size))
         ∙ sym (getD-take n old row 0 l)
-
-    pub look-old : getD new row 0 ≡ getD old row 0
-    look-old = ap (λ (t : List ℕ). getD t row 0) (s .is) ∙ up-next (leafKey d keys) row (take n old) old (omega (arith, size)) (omega (arith, size))
 
     pub look-room : row < length new
     look-room = omega (arith, s .kept)

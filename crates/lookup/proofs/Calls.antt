@@ -1,45 +1,40 @@
 -- The calls on a batch of points, check by check.
-use mathlib.Core.Path.{_≡_, refl, sym, ap, ap₂, subst, _∙_}
-use mathlib.Core.Bool.{Bool, true, false, _&&_}
-use mathlib.Core.List.{List, [], _∷_, _++_, map}
-use Prim.Native.Nat.{ℕ, zero, suc, _+_, _*_, _-_, _/_, _%_, _≤_, _<_}
+use mathlib.Core.Path.{_≡_, refl, sym, ap, ap₂, _∙_}
+use mathlib.Core.Bool.{Bool, true, false}
+use mathlib.Core.List.{List, _++_}
+use Prim.Native.Nat.{ℕ, _+_, _-_, _%_, _≤_, _<_}
 use native.Mathlib.Omega.{arith}
 use lib.Dec.{leb, ltb, eqb}
 use lib.Ieee.{Float}
-use lib.ListN.{length, getD, take, drop, replicate, length-append, length-drop, length-map}
-use lib.Seq.{take-at, drop-at, getD-take}
+use lib.ListN.{length, take, drop, replicate, length-append, length-drop, length-map}
+use lib.Seq.{take-at, drop-at}
 use borrow.Author.Tests.{eq-eqb, ne-eqb, eqb-true, eqb-false, le-leb, lt-leb, leb-true, ltb-false}
 use Rattle.refusal.specs.declared.Refusal.{Refusal}
 use Rattle.refusal.specs.declared.Refusal.the-variants.{Shape, Count, Room, Tree, Point, Unstored}
 use Rattle.refusal.specs.declared.Outcome.{Outcome}
 use Rattle.refusal.specs.declared.Outcome.the-variants.{Done, Refused}
-use Rattle.refusal.specs.Chain.{ask, _then_}
+use Rattle.refusal.specs.Chain.{ask}
 use Rattle.refusal.specs.Left.{left}
-use Rattle.refusal.proofs.Chain.{asked, both-done, after-done, after-refused, never}
-use Rattle.slices.specs.Lists.{filled}
-use Rattle.slices.proofs.Lists.{cleared-filled}
+use Rattle.refusal.proofs.Chain.{asked, both-done, after-done, after-refused}
 use Rattle.space.specs.declared.Box.{Box}
 use Rattle.space.specs.declared.Frame.{Frame}
 use Rattle.space.specs.declared.Rows.{Rows}
-use Rattle.space.specs.declared.Rows.the-variants.{Inside, Outside}
+use Rattle.space.specs.declared.Rows.the-variants.{Outside}
 use Rattle.space.specs.Domain.{boxOutcome}
-use Rattle.space.specs.Cells.{frameOf, code16}
-use Rattle.space.specs.Rows.{insideRows, codes16, orInside, firstOutside, coded, rowsOf, rowsInside, mostPoints}
-use Rattle.space.proofs.Batches.{codes-length, rows-le, code-at-row}
-use Rattle.space.proofs.Points.{code-small}
+use Rattle.space.specs.Cells.{frameOf}
+use Rattle.space.specs.Rows.{insideRows, orInside, firstOutside, coded, rowsOf, rowsInside, mostPoints}
+use Rattle.space.proofs.Batches.{codes-length, rows-le}
 use Rattle.space.proofs.Refusals.{Fine, fine}
-use Rattle.morton.specs.Keys.{axesKnown}
 use Rattle.morton.proofs.Checks.{axes-known}
 use Rattle.tree.specs.Columns.{columns}
 use Rattle.tree.specs.WellFormed.{wellFormed}
-use Rattle.tree.proofs.Verdict.{formed-of}
-use Rattle.lookup.specs.Owned.{Owned}
-use Rattle.lookup.proofs.Owners.{owned-tree}
+use Rattle.tree.specs.Finding.{TreeKeys}
+use Rattle.lookup.proofs.TreeRule.{tree-keys}
 use Rattle.lookup.specs.declared.Climbs.{Climbs}
 use Rattle.lookup.specs.declared.Climbs.the-variants.{Ended, Failed}
 use Rattle.lookup.specs.declared.LookedUp.{LookedUp}
 use Rattle.lookup.specs.declared.LookedUp.the-variants.{Found, Refused as NotFound}
-use Rattle.climb.specs.Leaves.{leafKey}
+use Rattle.tree.specs.Leaves.{leafKey}
 use Rattle.lookup.specs.Batch.{heldBefore, leafKeys, stepsSum, endedOr, climbsOf, insideOf, codesInside, callOutcome, pointsOutcome, lookupOutcome, foundOr}
 
 -- ---- the end of the climbs
@@ -87,12 +82,6 @@ module _ (b : Box) (keys : List ℕ) (xs : List Float) (old out : List ℕ) (row
 
   pub codes-room : rowsOf b xs ≤ length old → length out ≡ length old
   codes-room h = ap length w ∙ length-append (codesInside b xs) (drop (rowsInside b xs) old) ∙ omega (arith, size, first-is, first-le, length-drop (rowsInside b xs) old)
-
-  pub codes-few : b .axes ≤ 3 → (i : ℕ) → i < first → getD out i 0 < 281474976710656
-  codes-few h i l =
-      let lt : i < rowsInside b xs = omega (arith, first-is) in
-      let same = sym (getD-take first out i 0 l) ∙ ap (λ (t : List ℕ). getD t i 0) codes-are ∙ code-at-row (rowsInside b xs) i (frameOf b) xs lt in
-      omega (arith, same, code-small (frameOf b) (drop (i * b .axes) xs) h)
 
   -- the answers
   module _ (climbs : Climbs) (c : climbs ≡ climbsOf (b .axes) keys (take first out)) where
@@ -166,7 +155,7 @@ module _ (b : Box) (keys own begin total : List ℕ) (xs : List Float) (room : �
   pub record Called : Type 0 where
     pub box : Fine b
     pub few : rowsOf b xs ≤ mostPoints
-    pub owned : Owned (b .axes) keys own
+    pub tree : TreeKeys (b .axes) keys
     pub fits : rowsOf b xs ≤ room
 
   pub checked : callOutcome b (columns keys own begin total) xs room ≡ Done → Called
@@ -181,7 +170,7 @@ module _ (b : Box) (keys own begin total : List ℕ) (xs : List Float) (room : �
       record {
         box = box;
         few = leb-true (rowsOf b xs) mostPoints (asked _ Count (third .1));
-        owned = owned-tree (b .axes) keys own begin (axes-known (b .axes) (box .least) (box .most)) (formed-of (b .axes) keys own begin total t);
+        tree = tree-keys (b .axes) keys own begin total (axes-known (b .axes) (box .least) (box .most)) t;
         fits = leb-true (rowsOf b xs) room (asked _ (Room 8) (fifth .1));
       }
 

@@ -1,5 +1,6 @@
-pub mod Owners
-pub mod Climbing
+pub mod TreeRule
+pub mod Leaves
+pub mod Searching
 pub mod Batch
 pub mod Calls
 pub mod Single

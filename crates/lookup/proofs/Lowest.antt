@@ -16,7 +16,7 @@ use Rattle.refusal.specs.Chain.{ask, _then_}
 use Rattle.space.specs.declared.Box.{Box}
 use Rattle.space.specs.Cells.{frameOf, inside, code16}
 use Rattle.space.proofs.Batches.{codes-length, rows-le, code-at-row, row-inside, row-outside}
-use Rattle.climb.specs.Leaves.{held}
+use Rattle.tree.specs.Leaves.{held}
 use Rattle.grouping.proofs.Passing.{passing-le, passing-before, passing-stop}
 use Rattle.space.specs.Rows.{rowsOf, rowsInside}
 use Rattle.lookup.specs.Batch.{heldBefore, codesInside, pointsOutcome}

@@ -15,9 +15,8 @@ use Rattle.space.specs.Domain.{boxOutcome, levelOutcome}
 use Rattle.space.specs.Cells.{frameOf, inside, code16}
 use Rattle.morton.proofs.Cells.{above-zero}
 use Rattle.tree.specs.Columns.{columns}
-use Rattle.tree.specs.Nodes.{depthOf}
 use Rattle.tree.specs.WellFormed.{wellFormed}
-use Rattle.climb.specs.Leaves.{held, leafKey, stepsTo}
+use Rattle.tree.specs.Leaves.{held, leafKey, stepsTo}
 use Rattle.points.specs.declared.PointKey.{PointKey}
 use Rattle.points.specs.declared.PointKey.the-variants.{Cell, Refused as NoCell}
 use Rattle.points.specs.Calls.{pointToKey}
@@ -32,17 +31,14 @@ use Rattle.lookup.specs.Single.{treeOutcome, leafOrRefusal, codeLeaf, po
 use Rattle.lookup.proofs.Batch.{climb-leaf, climb-not}
 
 -- ---- the leaf of a code
-module _ (d : ℕ) (keys : List ℕ) (code depth : ℕ) (e : depth ≡ depthOf keys) (r : Climb) (q : r ≡ climbTo d keys depth code) where
-  from-depth : r ≡ climbTo d keys (depthOf keys) code
-  from-depth = q ∙ ap (λ (n : ℕ). climbTo d keys n code) e
-
+module _ (d : ℕ) (keys : List ℕ) (code : ℕ) (r : Climb) (q : r ≡ climbTo d keys code) where
   pub code-found : (k s : ℕ) → r ≡ Leaf k s → Found k s ≡ codeLeaf d keys code
   code-found k s f =
-      let c = climb-leaf d keys code k s (sym from-depth ∙ f) in
+      let c = climb-leaf d keys code k s (sym q ∙ f) in
       ap₂ Found (c .1) (c .2) ∙ sym (ap (λ t. leafOrRefusal (ask t (Unstored 0)) (leafKey d keys code) (stepsTo d keys code)) (c .0))
 
   pub code-none : r ≡ NoClimb → NoLeaf (Unstored 0) ≡ codeLeaf d keys code
-  code-none f = sym (ap (λ t. leafOrRefusal (ask t (Unstored 0)) (leafKey d keys code) (stepsTo d keys code)) (climb-not d keys code (sym from-depth ∙ f)))
+  code-none f = sym (ap (λ t. leafOrRefusal (ask t (Unstored 0)) (leafKey d keys code) (stepsTo d keys code)) (climb-not d keys code (sym q ∙ f)))
 
 -- ---- the box and the tree
 module _ (b : Box) (keys own begin total : List ℕ) where

@@ -1,6 +1,5 @@
 -- The steps of a lookup that is not refused: with the leaf's level they make up the depth, and they are at most 15.
 use mathlib.Core.Path.{_≡_, refl, sym, _∙_}
-use mathlib.Core.Bool.{true}
 use mathlib.Core.List.{List, [], _∷_, map}
 use Prim.Native.Nat.{ℕ, suc, _*_, _-_, _≤_, _<_}
 use native.Mathlib.Omega.{arith}
@@ -17,16 +16,12 @@ use Rattle.slices.specs.Lists.{sum}
 use Rattle.space.specs.declared.Box.{Box}
 use Rattle.space.specs.Cells.{frameOf, inside, code16}
 use Rattle.space.proofs.Batches.{codes-length}
-use Rattle.morton.specs.Keys.{above, parent}
-use Rattle.morton.proofs.Cells.{key-level}
 use Rattle.space.specs.Rows.{rowsOf, rowsInside}
 use Rattle.tree.specs.Columns.{columns}
-use Rattle.tree.specs.Nodes.{stored, depthOf}
-use Rattle.tree.proofs.Verdict.{formed-of}
-use Rattle.tree.proofs.Rules.{Ascending, facts, ascend-facts, parents-facts}
 use Rattle.grouping.proofs.Passing.{passing-before}
-use Rattle.climb.specs.Leaves.{leafLevel, held, leafKey, stepsTo}
-use Rattle.climb.proofs.Answers.{climb-le, depth-most, few-steps}
+use Rattle.space.proofs.Refusals.{fine}
+use Rattle.morton.proofs.Checks.{axes-known}
+use Rattle.tree.specs.Leaves.{held, leafKey, stepsTo}
 use Rattle.lookup.specs.declared.LookedUp.{LookedUp}
 use Rattle.lookup.specs.declared.LookedUp.the-variants as looked
 use Rattle.lookup.specs.declared.PointLeaf.{PointLeaf}
@@ -34,16 +29,10 @@ use Rattle.lookup.specs.declared.PointLeaf.the-variants.{Leaf}
 use Rattle.lookup.specs.Lookup.{Steps, BatchSteps}
 use Rattle.lookup.specs.Batch.{heldBefore, stepsSum, codesInside, callOutcome, pointsOutcome, lookupOutcome, foundOr}
 use Rattle.lookup.specs.Single.{treeOutcome, leafOrRefusal, pointToLeaf}
+use Rattle.lookup.proofs.TreeRule.{tree-keys}
+use Rattle.lookup.proofs.Leaves.{steps-to}
 use Rattle.lookup.proofs.Single.{tree-fine}
 use Rattle.lookup.proofs.Calls.{checked, found-is}
-
-steps-to : (d : ℕ) (keys : List ℕ) (asc : Ascending d keys) (parents : (i : ℕ) → 0 < i → i < length keys → stored keys (parent d (getD keys i 0)) ≡ true) (code : ℕ)
-    → held d keys code ≡ true → Steps keys (leafKey d keys code) (stepsTo d keys code)
-steps-to d keys asc parents code h =
-    let l = leafLevel d keys code in
-    let within = climb-le d code keys (depthOf keys) in
-    let is = key-level l (above d (16 - l) code) (omega (arith, depth-most d keys asc)) in
-    record { levels = omega (arith, is); few = few-steps d keys asc parents code h }
 
 -- ---- one point
 leaf-is : (o : Outcome) (k s l n : ℕ) → leafOrRefusal o k s ≡ Leaf l n → (o ≡ Done) × (k ≡ l) × (s ≡ n)
@@ -59,8 +48,10 @@ module _ (b : Box) (keys own begin total : List ℕ) (xs : List Float) where
       let whole = leaf-is _ (leafKey (b .axes) keys code) (stepsTo (b .axes) keys code) k n (sym q ∙ e) in
       let third = both-done (treeOutcome b (columns keys own begin total) then ask (inside (frameOf b) xs) (Point 0)) (ask (held (b .axes) keys code) (Unstored 0)) (whole .0) in
       let second = both-done (treeOutcome b (columns keys own begin total)) (ask (inside (frameOf b) xs) (Point 0)) (third .0) in
-      let tree = facts (b .axes) keys own begin (formed-of (b .axes) keys own begin total (tree-fine b keys own begin total xs (second .0) .1)) in
-      let s = steps-to (b .axes) keys (tree .ascending) (tree .parents) code (asked (held (b .axes) keys code) (Unstored 0) (third .1)) in
+      let (box, rule) = tree-fine b keys own begin total xs (second .0) in
+      let f = fine b box in
+      let tree = tree-keys (b .axes) keys own begin total (axes-known (b .axes) (f .least) (f .most)) rule in
+      let s = steps-to (b .axes) keys tree code (asked (held (b .axes) keys code) (Unstored 0) (third .1)) in
       rw (← whole .1, ← whole .2) s
 
   pub with-steps : (r : PointLeaf) → r ≡ pointToLeaf b (columns keys own begin total) xs → (r ≡ pointToLeaf b (columns keys own begin total) xs) × ((k n : ℕ) → r ≡ Leaf k n → Steps keys k n)
@@ -88,7 +79,7 @@ module _ (b : Box) (keys own begin total : List ℕ) (xs : List Float) (room : �
       let rows : rowsInside b xs ≡ rowsOf b xs = eqb-true (rowsInside b xs) (rowsOf b xs) (asked _ _ (p .1)) in
       let long : length codes ≡ rowsInside b xs = codes-length (rowsInside b xs) (frameOf b) xs in
       let each : (i : ℕ) → i < rowsOf b xs → Steps keys (leafKey (b .axes) keys (getD codes i 0)) (stepsTo (b .axes) keys (getD codes i 0)) =
-      λ i l. steps-to (b .axes) keys (ascend-facts (b .axes) keys (call .owned .tree .ascends)) (parents-facts (b .axes) keys (call .owned .tree .parents)) (getD codes i 0) (passing-before (held (b .axes) keys) codes i (omega (arith, all, rows))) in
+      λ i l. steps-to (b .axes) keys (call .tree) (getD codes i 0) (passing-before (held (b .axes) keys) codes i (omega (arith, all, rows))) in
       record { each = each; few = omega (arith, whole .1, long, rows, sum-few (stepsTo (b .axes) keys) codes (λ i l. each i (omega (arith, long, rows)) .few)) }
 
   pub both-steps : {A : Type 0} (r : LookedUp) → r ≡ foundOr (lookupOutcome b (columns keys own begin total) xs room) (stepsSum (b .axes) keys (codesInside b xs)) → A

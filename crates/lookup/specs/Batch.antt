@@ -5,7 +5,6 @@ use Prim.Native.Nat.{ℕ, _%_}
 use lib.Dec.{leb, eqb}
 use lib.Ieee.{Float}
 use lib.ListN.{length}
-use Rattle.refusal.specs.declared.Refusal.{Refusal}
 use Rattle.refusal.specs.declared.Refusal.the-variants.{Shape, Count, Room, Tree, Point, Unstored}
 use Rattle.refusal.specs.declared.Outcome.{Outcome}
 use Rattle.refusal.specs.declared.Outcome.the-variants.{Done, Refused}
@@ -21,7 +20,7 @@ use Rattle.space.specs.Rows.{mostPoints, rowsOf, rowsInside, codes16}
 use Rattle.tree.specs.Columns.{Columns}
 use Rattle.tree.specs.WellFormed.{wellFormed}
 use Rattle.grouping.specs.Batches.{passing}
-use Rattle.climb.specs.Leaves.{held, leafKey, stepsTo}
+use Rattle.tree.specs.Leaves.{held, leafKey, stepsTo}
 use Rattle.lookup.specs.declared.Climbs.{Climbs}
 use Rattle.lookup.specs.declared.Climbs.the-variants.{Ended, Failed}
 use Rattle.lookup.specs.declared.LookedUp.{LookedUp}

@@ -1,4 +1,4 @@
-pub mod Owned
+pub mod Search
 pub mod Lookup
 pub mod Batch
 pub mod Single

@@ -3,13 +3,12 @@ use mathlib.Core.Path.{_≡_}
 use mathlib.Core.Bool.{Bool, true, false}
 use mathlib.Core.List.{List}
 use Prim.Native.Nat.{ℕ, _+_, _*_, _-_, _≤_, _<_}
-use lib.Dec.{ltb}
 use lib.ListN.{length, getD}
 use Rattle.morton.specs.Keys.{levelOf}
-use Rattle.tree.specs.Nodes.{depthOf}
+use Rattle.tree.specs.Order.{depthOf}
 use Rattle.tree.specs.declared.Found.{Found}
 use Rattle.tree.specs.declared.Found.the-variants.{At, Nothing}
-use Rattle.climb.specs.Leaves.{cellOf, climbed, leafKey, stepsTo}
+use Rattle.tree.specs.Leaves.{held, leafKey, stepsTo}
 use Rattle.lookup.specs.declared.Climb.{Climb}
 use Rattle.lookup.specs.declared.Climb.the-variants.{Leaf, Unstored}
 
@@ -17,9 +16,9 @@ abbrev pub leafOr : Bool → ℕ → ℕ → Climb
 leafOr true k steps = Leaf k steps
 leafOr false k steps = Unstored
 
--- the end of a climb from level `top`: the leaf's key, and the levels climbed
-abbrev pub climbTo : ℕ → List ℕ → ℕ → ℕ → Climb
-climbTo d keys top code = leafOr (ltb 0 (climbed d keys code top)) (cellOf d (climbed d keys code top) code) (top - climbed d keys code top)
+-- the end of a climb from the tree's depth: the leaf's key, and the levels climbed
+abbrev pub climbTo : ℕ → List ℕ → ℕ → Climb
+climbTo d keys code = leafOr (held d keys code) (leafKey d keys code) (stepsTo d keys code)
 
 -- a climb from level `top` that found this: a node at that level or above, or none
 pub record Reached (keys : List ℕ) (top : ℕ) (leaf : Found) : Type 0 where

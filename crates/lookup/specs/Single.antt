@@ -11,7 +11,7 @@ use Rattle.space.specs.Domain.{boxOutcome}
 use Rattle.space.specs.Cells.{frameOf, inside, code16}
 use Rattle.tree.specs.Columns.{Columns}
 use Rattle.tree.specs.WellFormed.{wellFormed}
-use Rattle.climb.specs.Leaves.{held, leafKey, stepsTo}
+use Rattle.tree.specs.Leaves.{held, leafKey, stepsTo}
 use Rattle.lookup.specs.declared.PointLeaf.{PointLeaf}
 use Rattle.lookup.specs.declared.PointLeaf.the-variants.{Leaf, Refused as NoLeaf}
 

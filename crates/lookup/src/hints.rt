@@ -1,342 +1,655 @@
-// Hints: node numbers in a table by their keys, and levels by how many sources they own. Each is tested before it is used, so
-// any table and any trial give the same answer; a wrong one costs time alone.
-use tree::Found;
+// Hints: node numbers in a table of words by the first bits of a code. Each is tested before it is used, so any table gives the
+// same answer; a wrong one costs time alone.
+//
+// A word is for a run of codes, the nodes of which begin there. It holds a number in its lowest 23 bits, that of the last node
+// that begins by the run's first code, and then 8 counts of 5 bits, one for each eighth of the run: how many nodes more begin by
+// the eighth's first code. Where nodes crowd, the word is BLOCK and a number that leads to a block of words, which part the run
+// further: with a code's number among the runs of that block's words it gives the place, modulo BLOCK_ROOM, past the first words.
 ghost use mathlib.Core.Path.{_≡_};
-ghost use Prim.Native.Nat.{ℕ, _<_};
+ghost use mathlib.Core.Bool.{true};
+ghost use Prim.Native.Nat.{_+_, _*_, _≤_, _<_};
 ghost use lib.ListN.{length};
-ghost use Rattle.tree.specs.Nodes.{depthOf};
-ghost use Rattle.climb.specs.Leaves.{climbFrom};
-ghost use Rattle.lookup.specs.Owned.{Parented, Owned, NodeAt};
 
-pub const SLOTS: usize = 65536;
+pub const WORDS: usize = 12288;
 
-// What stands in a slot where no number was put.
-pub const FREE: u32 = 4294967295;
+// The words for blocks, past the 4096 first ones. On one axis all words are first ones.
+const BLOCK_ROOM: u64 = 8192;
+
+const BLOCK: u64 = 9223372036854775808;
+
+// A word that is to become a block, with the number of the first node that begins in its run.
+const CROWDED: u64 = 13835058055282163712;
+
+// Numbers from here on have no hint.
+const MOST_NODES: usize = 8388608;
+
+// One for each count; and counts of which the last is full, which no other exceeds.
+const ONES: u64 = 35468117025;
+
+const FULL: u64 = 1065151889408;
 
 // A look-up of fewer points than one for so many nodes is not worth a table.
 const NODES_A_POINT: usize = 32;
 
-// A table of so many hints is full enough. Where more nodes own sources, codes share a hint, by at most so many bits.
-const MOST_GROUPS: usize = 32768;
+// How the table is read: blocks lie so deep in each other, and an eighth of the run of a block's word has 2^low codes. Those
+// numbers stand in the plan, 6 bits each, the first blocks' lowest.
+pub struct Blocks {
+    pub plan: u64,
+    pub deep: u64,
+}
 
-const MOST_BITS: u64 = 12;
+// ---- a word
 
-// How the table is tried: the levels, each less 1, the first in the lowest 4 bits, and how many they are. Codes of a level that
-// differ in the last `bits` only share a hint, for the first of them; the others are within twice `reach` of it.
-pub struct Trial {
-    pub order: u64,
-    pub count: u64,
-    pub bits: u64,
-    pub reach: usize,
+// A node's first level-16 code. Where its level is at most 16, `up` is 16 less that; for any other key some number.
+fn first_of(axes: usize, k: u64) -> u64
+    requires { ⌜ axes ≤ 3 ⌝ }
+{
+    let up = (48 - k % 32) % 32;
+    (k / 32768) << (axes as u64 * up % 64)
+}
+
+// A word in the making: its number and its counts, and how many nodes in a row, up to the last, began inside an eighth.
+struct Part {
+    begin: u64,
+    counts: u64,
+    run: usize,
+}
+
+// With a node more that begins by this eighth.
+fn counted(part: Part, eighth: u64, run: usize) -> Part
+    requires { ⌜ eighth ≤ 8 ⌝ }
+{
+    let mut counts = part.counts;
+    if counts < FULL {
+        counts = (counts + (ONES << (5 * eighth)) % 1099511627776) % 1099511627776;
+    }
+    Part {
+        begin: part.begin,
+        counts: counts,
+        run: run,
+    }
+}
+
+// With a node more that begins so far past the run's first code.
+fn with_node(part: Part, node: usize, far: u64, low: u64) -> Part
+    requires { ⌜ low < 61 ⌝ }
+{
+    let eighth = (far >> low) % 8;
+    if far != eighth << low {
+        return counted(part, eighth + 1, std::num::wrapping_add_usize(part.run, 1));
+    }
+    if eighth != 0 {
+        return counted(part, eighth, 0);
+    }
+    Part {
+        begin: node as u64,
+        counts: part.counts,
+        run: 0,
+    }
+}
+
+// A word, and the number of the first node past its run.
+struct Word {
+    word: u64,
+    end: usize,
+}
+
+fn word_of(part: Part, end: usize) -> Word {
+    Word {
+        word: part.counts % 1099511627776 * 8388608 + part.begin % 8388608,
+        end: end,
+    }
+}
+
+// The number before, or 0.
+fn number_before(node: usize) -> u64 {
+    if node < 1 {
+        return 0;
+    }
+    node as u64 - 1
+}
+
+// How far past a code a node begins.
+fn far_past(axes: usize, k: u64, start: u64) -> u64
+    requires { ⌜ axes ≤ 3 ⌝ }
+{
+    std::num::wrapping_sub_u64(first_of(axes, k), start)
+}
+
+// Whether there is such a node and it begins in the run from this code on, whose eighths have 2^low codes.
+fn in_run(axes: usize, key: &[u64], node: usize, start: u64, low: u64) -> bool
+    requires { ⌜ (axes ≤ 3) × (low < 61) ⌝ }
+    ensures { λ r. ⌜ (r ≡ true → node < length (now (key .entry))) ⌝ }
+{
+    if key.len() <= node {
+        return false;
+    }
+    far_past(axes, key[node], start) >> low < 8
+}
+
+// The number of the first node past a run, where node `from` begins in it and the one `most` on does not: by halving.
+fn end_within(axes: usize, key: &[u64], from: usize, most: usize, start: u64, low: u64) -> usize
+    requires { ⌜ (axes ≤ 3) × (low < 61) × (from < length (now key)) × (most ≤ 2 * length (now key)) ⌝ }
+{
+    let mut last = from;
+    let mut step = most;
+    while 1 < step {
+        let half = step / 2;
+        if in_run(axes, key, last + half, start, low) {
+            last += half;
+            step = step - half;
+        } else {
+            step = half;
+        }
+    }
+    last + 1
+}
+
+// The number of the first node past a run that node `from` begins in: by steps of double length, and then within the last step.
+fn run_end(axes: usize, key: &[u64], from: usize, start: u64, low: u64) -> usize
+    requires { ⌜ (axes ≤ 3) × (low < 61) × (from < length (now key)) ⌝ }
+{
+    let mut last = from;
+    let mut step = 1;
+    while in_run(axes, key, last + step, start, low) {
+        last += step;
+        step += step;
+    }
+    end_within(axes, key, last, step, start, low)
+}
+
+// The word of the run from this code on whose eighths have 2^low codes; the nodes before `from` begin before it. Where more than a
+// few nodes in a row begin inside an eighth, it is crowded.
+fn word_from(axes: usize, key: &[u64], from: usize, start: u64, low: u64, few: usize) -> Word
+    requires { ⌜ (axes ≤ 3) × (low < 61) ⌝ }
+{
+    let mut part = Part {
+        begin: number_before(from),
+        counts: 0,
+        run: 0,
+    };
+    let mut node = from;
+    while node < key.len() {
+        let far = far_past(axes, key[node], start);
+        if 8 <= far >> low {
+            return word_of(part, node);
+        }
+        part = with_node(part, node, far, low);
+        if few < part.run {
+            return Word {
+                word: CROWDED + (from % MOST_NODES) as u64,
+                end: run_end(axes, key, node, start, low),
+            };
+        }
+        node += 1;
+    }
+    word_of(part, node)
 }
 
 // ---- the table
 
-// What the cells that share a hint have in common, as a key.
-fn group_of(k: u64, bits: u64) -> u64
-    requires { ⌜ bits < 64 ⌝ }
+// Fills the words from `base` on, `size` of them, for the runs from this code on.
+fn fill(
+    axes: usize,
+    key: &[u64],
+    words: &mut [u64; WORDS],
+    base: usize,
+    size: usize,
+    from: usize,
+    start: u64,
+    low: u64,
+    few: usize,
+)
+    requires { ⌜ (axes ≤ 3) × (low < 61) × (base + size ≤ 12288) ⌝ }
 {
-    ((k / 32768) >> bits) * 32768 + k % 32768
-}
-
-// The slot of a group. Groups of one level next to each other have slots next to each other.
-fn slot_of(k: u64) -> usize
-    ensures { λ r. ⌜ r < 65536 ⌝ }
-{
-    let code = k / 32768;
-    let level = k % 32768;
-    ((code + code / 65536 * 40503 + level * 25717) % 65536) as usize
-}
-
-// The slot of a group whose first slot another has taken.
-fn second_slot_of(k: u64) -> usize
-    ensures { λ r. ⌜ r < 65536 ⌝ }
-{
-    let mixed = (k / 32768 + k % 32768 * 134217728) % 4294967296;
-    (mixed * 2654435769 / 65536 % 65536) as usize
-}
-
-// Puts a node's number into a slot of its group, if one is free.
-fn put(hints: &mut [u32; SLOTS], group: u64, node: usize) {
-    let hint = (node % 4294967296) as u32;
-    let slot = slot_of(group);
-    if hints[slot] == FREE {
-        hints[slot] = hint;
-        return;
-    }
-    let second = second_slot_of(group);
-    if hints[second] == FREE {
-        hints[second] = hint;
+    let mut node = from;
+    let mut code = start;
+    let mut at = 0;
+    while at < size {
+        let word = word_from(axes, key, node, code, low, few);
+        words[base + at] = word.word;
+        node = word.end;
+        code = std::num::wrapping_add_u64(code, 8 << low);
+        at += 1;
     }
 }
 
-// How many groups there are of the nodes that own sources.
-fn count_groups(key: &[u64], own: &[usize], bits: u64) -> usize
-    requires { ⌜ (length (now own) ≡ length (now key)) × (bits < 64) ⌝ }
+// The word that leads to a block, whose first run has this number among the runs of its length.
+fn block_at(base: usize, first: u64) -> u64 {
+    let past = std::num::wrapping_sub_u64(base as u64, 4096);
+    std::num::wrapping_sub_u64(past, first) % BLOCK_ROOM + BLOCK
+}
+
+// Fills the block of a crowded word, `size` words from `base` on, which take so many bits of a code; answers the word that leads
+// to it.
+fn fill_block(
+    axes: usize,
+    key: &[u64],
+    words: &mut [u64; WORDS],
+    word: u64,
+    base: usize,
+    size: usize,
+    low: u64,
+    bits: u64,
+    few: usize,
+) -> u64
+    requires { ⌜ (axes ≤ 3) × (low + bits < 61) × (base + size ≤ 12288) ⌝ }
 {
-    let mut groups = 0;
-    let mut last = 0;
-    let mut node = 1;
-    while node < key.len() {
-        if own[node] != 0 {
-            let group = group_of(key[node], bits);
-            if group != last {
-                groups = std::num::wrapping_add_usize(groups, 1);
-                last = group;
+    let from = (word % 8388608) as usize;
+    if key.len() <= from {
+        return 0;
+    }
+    let high = low + bits + 3;
+    let start = (first_of(axes, key[from]) >> high) << high;
+    fill(axes, key, words, base, size, from, start, low, few);
+    block_at(base, start >> (low + 3))
+}
+
+// Makes blocks of the crowded words from `begin` up to `end`, past them; answers where those end, or a number past the last word
+// where they have no room.
+fn part_words(
+    axes: usize,
+    key: &[u64],
+    words: &mut [u64; WORDS],
+    begin: usize,
+    end: usize,
+    size: usize,
+    low: u64,
+    bits: u64,
+    few: usize,
+) -> usize
+    requires { ⌜ (axes ≤ 3) × (low + bits < 61) × (end ≤ 12288) × (size ≤ 8192) ⌝ }
+{
+    let mut used = end;
+    let mut at = begin;
+    while at < end {
+        let word = words[at];
+        if word < CROWDED {
+            at += 1;
+        } else {
+            if WORDS - size < used {
+                return WORDS + 1;
             }
+            words[at] = fill_block(axes, key, words, word, used, size, low, bits, few);
+            used += size;
+            at += 1;
         }
-        node += 1;
     }
-    groups
+    used
 }
 
-// The least bits to share, in steps of 3, with which those groups fit.
-fn bits_for(key: &[u64], own: &[usize]) -> u64
-    requires { ⌜ length (now own) ≡ length (now key) ⌝ }
-    ensures { λ r. ⌜ r < 64 ⌝ }
+// How many nodes may crowd in a word: any number where an eighth of its run is one code.
+fn few_at(low: u64, few: usize) -> usize {
+    if low < 1 {
+        return MOST_NODES;
+    }
+    few
+}
+
+// The first bits of a code choose one of so many first words: on one axis 13 bits, else 12.
+fn tops(axes: usize) -> usize
+    ensures { λ r. ⌜ r ≤ 8192 ⌝ }
 {
-    let mut bits = 0;
-    while bits < MOST_BITS {
-        if count_groups(key, own, bits) <= MOST_GROUPS {
+    if axes < 2 {
+        return 8192;
+    }
+    4096
+}
+
+// An eighth of a first word's run has 2^low codes.
+fn top_low(axes: usize) -> u64
+    requires { ⌜ axes ≤ 3 ⌝ }
+    ensures { λ r. ⌜ r ≤ 33 ⌝ }
+{
+    if axes < 2 {
+        return 0;
+    }
+    16 * axes as u64 - 15
+}
+
+// The same in a block of such a word.
+fn lower(low: u64, bits: u64) -> u64
+    ensures { λ r. ⌜ (r ≤ low) × (1 ≤ bits → 1 ≤ low → r < low) ⌝ }
+{
+    if low < bits {
+        return 0;
+    }
+    low - bits
+}
+
+// Fills the first words.
+fn fill_tops(axes: usize, key: &[u64], words: &mut [u64; WORDS], few: usize)
+    requires { ⌜ axes ≤ 3 ⌝ }
+{
+    let low = top_low(axes);
+    fill(axes, key, words, 0, tops(axes), 0, 0, low, few_at(low, few));
+}
+
+// The words of a block that takes so many bits, 13 at most.
+fn size_of(bits: u64) -> usize
+    ensures { λ r. ⌜ (1 ≤ r) × (r ≤ 8192) ⌝ }
+{
+    match bits {
+        0 => 1,
+        1 => 2,
+        2 => 4,
+        3 => 8,
+        4 => 16,
+        5 => 32,
+        6 => 64,
+        7 => 128,
+        8 => 256,
+        9 => 512,
+        10 => 1024,
+        11 => 2048,
+        12 => 4096,
+        _ => 8192,
+    }
+}
+
+// Whether a table could be filled.
+fn is_filled(blocks: Blocks) -> bool {
+    blocks.deep < 64
+}
+
+// Fills the table with blocks for words that more than a few nodes crowd in. How many bits they take at each depth stands in
+// `steps`, 4 bits each, the first blocks' lowest. Where they have no room, the answer's depth is 64.
+fn fill_table(axes: usize, key: &[u64], words: &mut [u64; WORDS], steps: u64, few: usize) -> Blocks
+    requires { ⌜ axes ≤ 3 ⌝ }
+{
+    fill_tops(axes, key, words, few);
+    let mut low = top_low(axes);
+    let mut begin = 0;
+    let mut end = tops(axes);
+    let mut rest = steps;
+    let mut plan = 0;
+    let mut deep = 0;
+    while deep < 10 {
+        let bits = rest % 16;
+        low = lower(low, bits);
+        let most = few_at(low, few);
+        let used = part_words(axes, key, words, begin, end, size_of(bits), low, bits, most);
+        if WORDS < used {
+            return Blocks { plan: 0, deep: 64 };
+        }
+        if used <= end {
+            return Blocks { plan, deep };
+        }
+        plan = plan | low << (6 * deep);
+        deep += 1;
+        rest = rest / 16;
+        begin = end;
+        end = used;
+    }
+    Blocks { plan, deep }
+}
+
+// How many of the first words are crowded.
+fn count_crowded(words: &[u64; WORDS], end: usize) -> usize
+    requires { ⌜ end ≤ 12288 ⌝ }
+{
+    let mut count = 0;
+    let mut at = 0;
+    while at < end {
+        if CROWDED <= words[at] {
+            count += 1;
+            at += 1;
+        } else {
+            at += 1;
+        }
+    }
+    count
+}
+
+// Whether a table is worth while for a look-up of so many points, and numbers are small enough for it.
+fn is_worth(nodes: usize, points: usize) -> bool {
+    if MOST_NODES < nodes {
+        return false;
+    }
+    nodes / NODES_A_POINT <= points
+}
+
+// The most bits that a block takes in a table of so many nodes.
+fn most_bits(nodes: usize) -> u64
+    ensures { λ r. ⌜ (3 ≤ r) × (r ≤ 8) ⌝ }
+{
+    if 8192 < nodes {
+        return 6;
+    }
+    8
+}
+
+// The bits that a block takes at first, where so many of the first words become blocks.
+fn first_bits(nodes: usize, blocks: usize) -> u64
+    ensures { λ r. ⌜ (3 ≤ r) × (r ≤ 8) ⌝ }
+{
+    let mut bits = most_bits(nodes);
+    while 3 < bits {
+        if blocks <= 8192 / size_of(bits) {
             return bits;
         }
-        bits += 3;
+        bits -= 1;
     }
     bits
 }
 
-// Puts in the first node of each group that owns sources, or the first that owns none.
-fn put_nodes(key: &[u64], own: &[usize], owning: bool, bits: u64, hints: &mut [u32; SLOTS])
-    requires { ⌜ (length (now own) ≡ length (now key)) × (bits < 64) ⌝ }
+// A table that is read without blocks.
+fn no_blocks() -> Blocks {
+    Blocks { plan: 0, deep: 0 }
+}
+
+// ---- steps for a table that fits
+
+// Two nodes that begin at a and b, one after the other, crowd in a word if it is for both and neither begins an eighth of it:
+// from this number on, if the eighths have 2 to its power of codes.
+fn crowds_from(a: u64, b: u64) -> u64 {
+    let apart = wide(u64::leading_zeros(a ^ b));
+    let inner = larger(wide(u64::trailing_zeros(a)), wide(u64::trailing_zeros(b)));
+    larger(std::num::wrapping_add_u64(inner, 1), rest_of(61, apart))
+}
+
+fn wide(x: u32) -> u64 {
+    x as u64
+}
+
+fn larger(a: u64, b: u64) -> u64 {
+    if a < b { b } else { a }
+}
+
+// a less b, or 0.
+fn rest_of(a: u64, b: u64) -> u64 {
+    if a < b {
+        return 0;
+    }
+    a - b
+}
+
+// The room that is left after so many words.
+fn rest_of_room(room: usize, words: usize) -> usize {
+    if room < words {
+        return 0;
+    }
+    room - words
+}
+
+// Counts the words that a node crowds in with the one before, one for each `low` up to the top's; those that were counted for an
+// earlier node were so for every higher `low` too.
+fn count_words(code: u64, from: u64, top: u64, crowded: &mut [usize; 64], last: &mut [u64; 64])
+    requires { ⌜ top < 61 ⌝ }
 {
-    let mut last = 0;
-    let mut node = 1;
-    while node < key.len() {
-        if (own[node] != 0) == owning {
-            let group = group_of(key[node], bits);
-            if group != last {
-                put(hints, group, node);
-                last = group;
-            }
+    let mut low = from;
+    while low <= top {
+        let at = low as usize;
+        let word = std::num::wrapping_add_u64((code >> low) / 8, 1);
+        if last[at] == word {
+            return;
         }
-        node += 1;
+        last[at] = word;
+        crowded[at] = std::num::wrapping_add_usize(crowded[at], 1);
+        low += 1;
     }
 }
 
-// ---- the levels
-
-// The weight of each level, at the level less 1: its nodes below the root, and the sources that they own.
-fn weigh(key: &[u64], own: &[usize], weights: &mut [u64; 16])
-    requires { ⌜ length (now own) ≡ length (now key) ⌝ }
+// For each `low` up to the top's, how many words would be crowded if the eighths of all had 2^low codes.
+fn count_all(axes: usize, key: &[u64], top: u64, crowded: &mut [usize; 64])
+    requires { ⌜ (axes ≤ 3) × (top < 61) ⌝ }
 {
+    let mut last = [0u64; 64];
+    let mut code = 0;
     let mut node = 1;
     while node < key.len() {
-        let at = ((key[node] % 16 + 15) % 16) as usize;
-        let owned = std::num::wrapping_add_u64(own[node] as u64, 1);
-        weights[at] = std::num::wrapping_add_u64(weights[at], owned);
+        let next = first_of(axes, key[node]);
+        count_words(next, crowds_from(code, next), top, crowded, &mut last);
+        code = next;
         node += 1;
     }
 }
 
-// The place of the greatest weight.
-fn heaviest(weights: &[u64; 16]) -> usize
-    ensures { λ r. ⌜ r < 16 ⌝ }
+// The highest `low` at which, and below which, hardly a word would be crowded.
+fn finest(crowded: &[usize; 64], top: u64) -> u64
+    requires { ⌜ top < 61 ⌝ }
+    ensures { λ r. ⌜ r ≤ top ⌝ }
+{
+    let mut low = 0;
+    while low < top {
+        if 16 < crowded[low as usize + 1] {
+            return low;
+        }
+        low += 1;
+    }
+    low
+}
+
+// Whether blocks may take so many words: five eighths of the room, or all of it if they are the first blocks.
+fn may_take(words: usize, room: usize, first: bool) -> bool {
+    if first {
+        return words <= room;
+    }
+    words <= room / 8 * 5
+}
+
+// The most bits, 13 at most, that the blocks whose words have eighths of 2^to codes may take; 0 if none.
+fn bits_down_to(crowded: &[usize; 64], to: u64, top: u64, room: usize) -> u64
+    requires { ⌜ (to < top) × (top < 61) ⌝ }
+    ensures { λ r. ⌜ (r ≤ 13) × (to + r ≤ top) ⌝ }
 {
     let mut most = 0;
-    let mut at = 1;
-    while at < 16 {
-        if weights[most] < weights[at] {
-            most = at;
+    let mut bits = 1;
+    while bits < 14 {
+        let from = to + bits;
+        if top < from {
+            return most;
         }
-        at += 1;
+        if may_take(crowded[from as usize] << bits, room, from == top) {
+            most = bits;
+            bits += 1;
+        } else {
+            bits += 1;
+        }
     }
     most
 }
 
-// The trial of the levels that have nodes, by falling weight.
-fn trial_of(key: &[u64], own: &[usize], bits: u64, reach: usize) -> Trial
-    requires { ⌜ length (now own) ≡ length (now key) ⌝ }
+// Steps for `fill_table`, found from the finest blocks up to the first ones; after them, for the few words that are crowded still,
+// steps of 3 bits, for which 512 words are left. 0 if none fit.
+fn steps_for(axes: usize, key: &[u64]) -> u64
+    requires { ⌜ axes ≤ 3 ⌝ }
 {
-    let mut weights = [0u64; 16];
-    weigh(key, own, &mut weights);
-    let mut order: u64 = 0;
-    let mut count: u64 = 0;
-    while count < 16 {
-        let at = heaviest(&weights);
-        if weights[at] == 0 {
-            return Trial {
-                order: order,
-                count: count,
-                bits: bits,
-                reach: reach,
-            };
+    let top = top_low(axes);
+    let mut crowded = [0usize; 64];
+    count_all(axes, key, top, &mut crowded);
+    let mut to = finest(&crowded, top);
+    let mut room = 7680;
+    let mut steps = 0x3333_3333;
+    while to < top {
+        let bits = bits_down_to(&crowded, to, top, room);
+        if bits < 1 {
+            return 0;
         }
-        weights[at] = 0;
-        order = order | (at as u64) << (4 * count);
-        count += 1;
+        to += bits;
+        room = rest_of_room(room, crowded[to as usize] << bits);
+        steps = steps << 4 | bits;
     }
-    Trial {
-        order: order,
-        count: count,
-        bits: bits,
-        reach: reach,
-    }
+    steps
 }
 
-// Fills the table for a look-up of so many points, and says how to try it; where that is not worth it, not at all.
-pub fn prepare(key: &[u64], own: &[usize], points: usize, hints: &mut [u32; SLOTS]) -> Trial
-    requires { ⌜ length (now own) ≡ length (now key) ⌝ }
+// Fills the table with blocks of 3 bits, for words that so many nodes crowd in that they have room.
+fn fill_coarsely(axes: usize, key: &[u64], words: &mut [u64; WORDS]) -> Blocks
+    requires { ⌜ axes ≤ 3 ⌝ }
 {
-    if points < key.len() / NODES_A_POINT {
-        return Trial {
-            order: 0,
-            count: 0,
-            bits: 0,
-            reach: 0,
-        };
+    let mut few = 1;
+    while few < MOST_NODES {
+        let blocks = fill_table(axes, key, words, each_step(3), few);
+        if is_filled(blocks) {
+            return blocks;
+        }
+        few = few + few + 1;
     }
-    let bits = bits_for(key, own);
-    put_nodes(key, own, true, bits, hints);
-    put_nodes(key, own, false, bits, hints);
-    let sharing: usize = 1 << bits;
-    trial_of(key, own, bits, sharing / 2)
+    no_blocks()
 }
 
-// ---- the look-up
-
-// So many nodes on, if that node has no key above k.
-fn step(key: &[u64], node: usize, half: usize, k: u64) -> usize
-    requires { ⌜ (node < length (now key)) × (half < 4096) ⌝ }
-    ensures { λ r. ⌜ r < length (now (key .entry)) ⌝ }
-{
-    let next = node + half;
-    if key.len() <= next {
-        return node;
-    }
-    if k < key[next] {
-        return node;
-    }
-    next
+// So many bits at each step.
+fn each_step(bits: u64) -> u64 {
+    bits % 16 * 0x1111_1111_1111_1111
 }
 
-// The last of the nodes from `first` on, in twice the reach, whose key is not above k, by halving.
-fn nearest(key: &[u64], first: usize, reach: usize, k: u64) -> usize
-    requires { ⌜ first < length (now key) ⌝ }
-    ensures { λ r. ⌜ r < length (now (key .entry)) ⌝ }
+// Fills the table for a look-up of so many points, and says how to read it; where that is not worth while, not at all. First with
+// blocks of one size, the larger the less deep they lie; where they have no room, with blocks of a size for each depth; and then
+// with fewer ones.
+pub fn prepare(axes: usize, key: &[u64], points: usize, words: &mut [u64; WORDS]) -> Blocks
+    requires { ⌜ axes ≤ 3 ⌝ }
 {
-    let mut node = first;
-    let mut half = reach % 4096;
-    while 0 < half {
-        node = step(key, node, half, k);
-        half = half / 2;
+    if !is_worth(key.len(), points) {
+        return no_blocks();
     }
-    node
+    fill_tops(axes, key, words, 1);
+    let crowded = count_crowded(words, tops(axes));
+    if crowded < 1 {
+        return no_blocks();
+    }
+    let blocks = fill_table(
+        axes,
+        key,
+        words,
+        each_step(first_bits(key.len(), crowded)),
+        1,
+    );
+    if is_filled(blocks) {
+        return blocks;
+    }
+    let steps = steps_for(axes, key);
+    if steps != 0 {
+        let fitted = fill_table(axes, key, words, steps, 1);
+        if is_filled(fitted) {
+            return fitted;
+        }
+    }
+    fill_coarsely(axes, key, words)
 }
 
-// The number of the node with key k, if this hint leads to it.
-fn led_to(key: &[u64], hint: u32, reach: usize, k: u64) -> Found
-    ensures { λ r. ⌜ ((node : ℕ) → r ≡ Found.At node → NodeAt (now (key .entry)) k node) ⌝ }
-{
-    let first = hint as usize;
-    if key.len() <= first {
-        return Found::Nothing;
-    }
-    let node = nearest(key, first, reach, k);
-    if key[node] != k {
-        return Found::Nothing;
-    }
-    Found::At(node)
-}
+// ---- the hint
 
-// The number of the node with key k, if a hint leads to it. Behind a first slot that is free nothing was put.
-fn hinted(key: &[u64], hints: &[u32; SLOTS], bits: u64, reach: usize, k: u64) -> Found
-    requires { ⌜ bits < 64 ⌝ }
-    ensures { λ r. ⌜ ((node : ℕ) → r ≡ Found.At node → NodeAt (now (key .entry)) k node) ⌝ }
+// The table's number for a code. Each code takes as many turns, so that the turns can be foreseen.
+pub fn hint_of(axes: usize, words: &[u64; WORDS], blocks: Blocks, code: u64) -> usize
+    requires { ⌜ axes ≤ 3 ⌝ }
 {
-    let group = group_of(k, bits);
-    let hint = hints[slot_of(group)];
-    if hint == FREE {
-        return Found::Nothing;
-    }
-    let first = led_to(key, hint, reach, k);
-    if let Found::At(node) = first {
-        return Found::At(node);
-    }
-    led_to(key, hints[second_slot_of(group)], reach, k)
-}
-
-// The number of the leaf that holds a level-16 code, if it owns sources and a hint leads to it.
-fn owner_of(
-    axes: usize,
-    key: &[u64],
-    own: &[usize],
-    hints: &[u32; SLOTS],
-    trial: Trial,
-    code: u64,
-) -> Found
-    requires { ⌜ Owned axes (now key) (now own) × (code < 281474976710656) ⌝ }
-    ensures { λ r. ⌜ ((node : ℕ) → r ≡ Found.At node → r ≡ climbFrom axes (now (key .entry)) (depthOf (now (key .entry))) code) ⌝ }
-{
-    let bits = trial.bits % 64;
-    let reach = trial.reach;
-    let mut order = trial.order;
-    let mut left = trial.count;
+    let mut low = top_low(axes);
+    let mut word = words[((code >> low) / 8 % 8192) as usize];
+    let mut plan = blocks.plan;
+    let mut left = blocks.deep;
     while 0 < left {
-        let level = order % 16 + 1;
-        let above = (axes as u64) * (16 - level);
-        let hint = hinted(key, hints, bits, reach, (code >> above) * 32768 + level);
-        if let Found::At(node) = hint {
-            if own[node] != 0 {
-                return Found::At(node);
-            }
+        let inner = plan % 64;
+        let at = std::num::wrapping_add_u64(word, (code >> inner) / 8) % BLOCK_ROOM + 4096;
+        let next = words[at as usize];
+        plan = plan / 64;
+        if BLOCK <= word {
+            word = next;
+            low = inner;
+            left -= 1;
+        } else {
+            left -= 1;
         }
-        order = order / 16;
-        left -= 1;
     }
-    Found::Nothing
-}
-
-// The same, if it owns nothing: from the depth up, the first node that a hint leads to is that leaf as a rule.
-fn empty_of(axes: usize, key: &[u64], hints: &[u32; SLOTS], trial: Trial, code: u64) -> Found
-    requires { ⌜ Parented axes (now key) × (code < 281474976710656) ⌝ }
-    ensures { λ r. ⌜ ((node : ℕ) → r ≡ Found.At node → r ≡ climbFrom axes (now (key .entry)) (depthOf (now (key .entry))) code) ⌝ }
-{
-    let bits = trial.bits % 64;
-    let reach = trial.reach;
-    let mut level = tree::depth_of(key);
-    while 0 < level {
-        let above = (axes as u64) * (16 - level);
-        let hint = hinted(key, hints, bits, reach, (code >> above) * 32768 + level);
-        if let Found::At(node) = hint {
-            if tree::is_leaf(axes, key, node) {
-                return Found::At(node);
-            }
-            return Found::Nothing;
-        }
-        level -= 1;
-    }
-    Found::Nothing
-}
-
-// The number of the leaf that holds a level-16 code: by a hint, else by a climb.
-pub fn leaf_of(
-    axes: usize,
-    key: &[u64],
-    own: &[usize],
-    hints: &[u32; SLOTS],
-    trial: Trial,
-    code: u64,
-) -> Found
-    requires { ⌜ Owned axes (now key) (now own) × (code < 281474976710656) ⌝ }
-    ensures { λ r. ⌜ r ≡ climbFrom axes (now (key .entry)) (depthOf (now (key .entry))) code ⌝ }
-{
-    let owner = owner_of(axes, key, own, hints, trial, code);
-    if let Found::At(node) = owner {
-        return Found::At(node);
-    }
-    let empty = empty_of(axes, key, hints, trial, code);
-    if let Found::At(node) = empty {
-        return Found::At(node);
-    }
-    climb::leaf_of(axes, key, tree::depth_of(key), code)
+    let eighth = (code >> low) % 8;
+    (word % 8388608 + (word >> (23 + 5 * eighth)) % 32) as usize
 }

@@ -12,23 +12,20 @@ use borrow.Author.Tests.{eqb-false, ne-eqb}
 use Rattle.slices.specs.Lists.{filter, any, sum}
 use Rattle.slices.specs.Order.{insert, ascending}
 use Rattle.slices.proofs.Tests.{clash}
+use Rattle.slices.proofs.Lists.{getD-map}
 use Rattle.tree.specs.Nodes.{leaf, ownOf, stored}
 use Rattle.tree.specs.WellFormed.{mostSources}
 use Rattle.tree.specs.Finding.{FoundNode}
 use Rattle.tree.specs.declared.Found.{Found}
 use Rattle.tree.specs.declared.Found.the-variants.{At, Nothing}
-use Rattle.tree.proofs.Kids.{order-of}
+use Rattle.axes.proofs.Known.{axes-known}
 use Rattle.tree.proofs.Runs.{sum-take, sum-whole, sum-all}
 use Rattle.rows.specs.Lists.{uRow, inU, nearWork}
-use Rattle.sourced.specs.Trees.{SoundTree}
-use Rattle.sourced.proofs.Below.{tree-facts, tree-ascends, own-of, own-length}
+use Rattle.tree.specs.WellFormed.{SoundTree}
+use Rattle.sourced.proofs.Sound.{tree-facts, tree-ascends, own-of, own-length}
 use Rattle.near_work.specs.Work.{Beside, rowSources, workOf, mostWork}
 
 -- ---- sums of a list, one by one
-getD-map : (f : ℕ → ℕ) (xs : List ℕ) (i : ℕ) → i < length xs → getD (map f xs) i 0 ≡ f (getD xs i 0)
-getD-map f [] i l = absurd (not-suc-le-zero l)
-getD-map f (x ∷ xs) zero l = refl
-getD-map f (x ∷ xs) (suc i) l = getD-map f xs i (le-of-suc-le-suc l)
 
 -- the first i of a list are summed
 pub record Summing (f : ℕ → ℕ) (xs : List ℕ) (i total : ℕ) : Type 0 where
@@ -115,18 +112,18 @@ own-none (x ∷ xs) (n ∷ own) k h =
     neither false b e = (refl, e)
 
 -- what a search for a key finds
-module _ (keys own : List ℕ) (w : Beside keys own) (k : ℕ) (r : Found) (f : FoundNode keys k r) where
+module _ (d : ℕ) (keys own : List ℕ) (w : Beside d keys own) (k : ℕ) (r : Found) (f : FoundNode d keys k r) where
   pub found-in : (node : ℕ) → r ≡ At node → node < length own
   found-in node e = omega (arith, w .owns, at .0)
     where
       at : (node < length keys) × (getD keys node 0 ≡ k)
-      at = subst (FoundNode keys k) e f
+      at = subst (FoundNode d keys k) e f
 
   pub found-own : (node : ℕ) → r ≡ At node → getD own node 0 ≡ ownOf keys own k
-  found-own node e = let at : (node < length keys) × (getD keys node 0 ≡ k) = subst (FoundNode keys k) e f in sym (w .own-of node (at .0)) ∙ ap (ownOf keys own) (at .1)
+  found-own node e = let at : (node < length keys) × (getD keys node 0 ≡ k) = subst (FoundNode d keys k) e f in sym (w .own-of node (at .0)) ∙ ap (ownOf keys own) (at .1)
 
   pub found-nothing : r ≡ Nothing → 0 ≡ ownOf keys own k
-  found-nothing e = own-none keys own k (subst (FoundNode keys k) e f (w .ordered))
+  found-nothing e = own-none keys own k (subst (FoundNode d keys k) e f (w .ordered))
 
 -- a column by what stands beside each key
 column-of : (f : ℕ → ℕ) (ks os : List ℕ) → length os ≡ length ks → ((i : ℕ) → i < length ks → f (getD ks i 0) ≡ getD os i 0) → map f ks ≡ os
@@ -137,8 +134,8 @@ column-of f (k ∷ ks) (o ∷ os) e h = ap₂ (λ (x : ℕ) (xs : List ℕ). x �
 
 -- ---- near work
 module _ (d : ℕ) (keys own : List ℕ) (t : SoundTree d keys own) where
-  pub beside : Beside keys own
-  beside = record { ordered = order-of d keys (tree-ascends d keys own t); owns = own-length d keys own t; own-of = own-of d keys own t }
+  pub beside : Beside d keys own
+  beside = record { axes = axes-known d (t .some) (t .most); ordered = tree-ascends d keys own t; owns = own-length d keys own t; own-of = own-of d keys own t }
 
   own-sum : sum (map (ownOf keys own) keys) ≡ sum own
   own-sum = ap sum (column-of (ownOf keys own) keys own (own-length d keys own t) (own-of d keys own t))

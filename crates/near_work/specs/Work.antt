@@ -6,7 +6,8 @@ use Prim.Native.Nat.{ℕ, _*_, _<_}
 use lib.ListN.{length, getD}
 use Rattle.slices.specs.Lists.{sum}
 use Rattle.tree.specs.Nodes.{leaf, ownOf}
-use Rattle.tree.specs.WellFormed.{inOrder}
+use Rattle.morton.specs.Keys.{axesKnown}
+use Rattle.tree.specs.WellFormed.{keysAscend}
 use Rattle.rows.specs.Lists.{uRow}
 
 -- the sources in a row: what its leaves own together
@@ -22,7 +23,8 @@ abbrev pub mostWork : ℕ
 mostWork = 1099511627776
 
 -- the keys are in order, and what a node owns stands beside its key
-pub record Beside (keys own : List ℕ) : Type 0 where
-  pub ordered : inOrder keys ≡ true
+pub record Beside (d : ℕ) (keys own : List ℕ) : Type 0 where
+  pub axes : axesKnown d ≡ true
+  pub ordered : keysAscend d keys ≡ true
   pub owns : length own ≡ length keys
   pub own-of : (i : ℕ) → i < length keys → ownOf keys own (getD keys i 0) ≡ getD own i 0

@@ -12,7 +12,7 @@ ghost use Rattle.tree.specs.Nodes.{ownOf};
 ghost use Rattle.tree.specs.WellFormed.{mostSources};
 ghost use Rattle.rows.specs.Lists.{uRow, nearWork};
 ghost use Rattle.rows.specs.Written.{rowStarts, rowKeys, Written};
-ghost use Rattle.sourced.specs.Trees.{SoundTree};
+ghost use Rattle.tree.specs.WellFormed.{SoundTree};
 ghost use Rattle.near_work.specs.Work.{Beside, rowSources, workOf, mostWork};
 ghost use Rattle.near_work.specs.Answers.{workAnswer, isWork, workStartsLeft, workKeysLeft};
 
@@ -23,11 +23,11 @@ pub enum WorkAnswer {
 }
 
 // What the node with key k owns, 0 if there is none.
-fn own_of(key: &[u64], own: &[usize], k: u64) -> usize
-    requires { ⌜ Beside (now key) (now own) ⌝ }
+fn own_of(axes: usize, key: &[u64], own: &[usize], k: u64) -> usize
+    requires { ⌜ Beside axes (now key) (now own) ⌝ }
     ensures { λ r. ⌜ r ≡ ownOf (now (key .entry)) (now (own .entry)) k ⌝ }
 {
-    let found = tree::find_node(key, k);
+    let found = tree::find_node(axes, key, k);
     match found {
         Found::At(node) => own[node],
         Found::Nothing => 0,
@@ -35,14 +35,14 @@ fn own_of(key: &[u64], own: &[usize], k: u64) -> usize
 }
 
 // The sources in a row.
-fn row_sources(key: &[u64], own: &[usize], row: &[u64]) -> u64
-    requires { ⌜ Beside (now key) (now own) × (rowSources (now key) (now own) (now row) ≤ mostSources) ⌝ }
+fn row_sources(axes: usize, key: &[u64], own: &[usize], row: &[u64]) -> u64
+    requires { ⌜ Beside axes (now key) (now own) × (rowSources (now key) (now own) (now row) ≤ mostSources) ⌝ }
     ensures { λ r. ⌜ r ≡ rowSources (now (key .entry)) (now (own .entry)) (now (row .entry)) ⌝ }
 {
     let mut sources: u64 = 0;
     let mut i: usize = 0;
     while i < row.len() {
-        sources += own_of(key, own, row[i]) as u64;
+        sources += own_of(axes, key, own, row[i]) as u64;
         i += 1;
     }
     sources
@@ -65,7 +65,7 @@ fn work_of(
     }
     let from = starts[node];
     let to = starts[node + 1];
-    let sources = row_sources(key, own, &flat[from..to]);
+    let sources = row_sources(axes, key, own, &flat[from..to]);
     own[node] as u64 * sources
 }
 
@@ -105,7 +105,7 @@ fn write_and_sum(
     if starts.len() <= key.len() {
         return WorkAnswer::Refused(Refusal::Room(4));
     }
-    if !lists::write_list(axes, key, own, starts, flat) {
+    if !lists::write_near(axes, key, own, total, starts, flat) {
         return WorkAnswer::Refused(Refusal::Room(6));
     }
     WorkAnswer::Work(near_work(axes, key, own, starts, flat))

@@ -1,2 +1,7 @@
-pub mod Above
+pub mod Frames
+pub mod Stacks
+pub mod Near
+pub mod Roots
+pub mod Nodes
+pub mod Putting
 pub mod Ordered

@@ -13,7 +13,7 @@ use Rattle.refusal.specs.declared.Outcome.the-variants.{Done, Refused}
 use Rattle.refusal.specs.Chain.{ask, _then_}
 use Rattle.refusal.proofs.Chain.{asked, both-done}
 use Rattle.tree.specs.Columns.{columns}
-use Rattle.tree.specs.Nodes.{depthOf}
+use Rattle.tree.specs.Order.{depthOf}
 use Rattle.rows.specs.Lists.{uRow, vRow, nearWork}
 use Rattle.sourced.specs.Answers.{treeCheck}
 use Rattle.interaction.specs.Answers.{keysOf, startsCheck, listsCheck}

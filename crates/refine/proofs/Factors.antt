@@ -13,7 +13,7 @@ use Rattle.slices.specs.Lists.{sum}
 use Rattle.morton.specs.Keys.{levelOf}
 use Rattle.refine.specs.declared.Around.{Around}
 use Rattle.refine.specs.Refinement.{peers, squares, alike, aroundBy, countsAround, factor, Refinable}
-use Rattle.refine.proofs.Sums.{square-small}
+use Rattle.refine.proofs.Summing.{square-small}
 use Rattle.refine.proofs.Peers.{neighbours-few, seen, few-seen}
 
 -- a sum of at most 27 small numbers

@@ -2,8 +2,14 @@ pub mod Depths
 pub mod Limits
 pub mod Spans
 pub mod Lifting
-pub mod Sums
+pub mod Summing
 pub mod Peers
 pub mod Factors
 pub mod Splits
 pub mod Examples
+pub mod SumsExamples
+pub mod Tallies
+pub mod Upto
+pub mod CellSpans
+pub mod Made
+pub mod BySums

@@ -22,7 +22,7 @@ use Rattle.neighbours.proofs.Laws.{neighbours-are}
 use Rattle.refine.specs.declared.Around.{Around}
 use Rattle.refine.specs.Counts.{countAt, sourcesIn}
 use Rattle.refine.specs.Refinement.{lifted, peers, countsAround, squares, aroundBy, Refinable}
-use Rattle.refine.proofs.Sums.{map-at, square-small, Summed, summed-first, summed-more, summed-fits, summed-all}
+use Rattle.refine.proofs.Summing.{map-at, square-small, Summed, summed-first, summed-more, summed-fits, summed-all}
 
 -- a cell has no more codes than there are
 pub count-at-few : (d : ℕ) (codes : List ℕ) (level code : ℕ) → countAt d codes level code ≤ length codes

@@ -1,2 +1,4 @@
 pub mod Counts
 pub mod Refinement
+pub mod Cells
+pub mod Sums

@@ -5,7 +5,6 @@ use Prim.Native.Nat.{ℕ, _*_, _-_, _^_, _≤_, max}
 use lib.Dec.{leb, ltb, eqb}
 use lib.ListN.{length}
 use Rattle.slices.specs.Lists.{sum}
-use Rattle.slices.specs.Order.{Sorted}
 use Rattle.morton.specs.Keys.{levelOf, codeOf, key, above, ValidKey}
 use Rattle.neighbours.specs.Directions.{neighbours}
 use Rattle.morton.specs.Depth.{referenceDepth}
@@ -58,5 +57,4 @@ splitsForTargets d limit order sources targets k = splitsAt d (referenceDepth d 
 pub record Refinable (d k depth : ℕ) (sources : List ℕ) : Type 0 where
   pub good : ValidKey d k
   pub deep : 1 ≤ depth
-  pub sorted : Sorted sources
   pub few : length sources ≤ 1048576

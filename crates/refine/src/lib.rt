@@ -1,5 +1,8 @@
 // When targets split a cell: document 01, "How the tree grows", from `target_refinement.rs`.
+mod sums; // sums.rt: how many sources a cell has, asked of sums along the cells one level above the reference depth
+
 use morton::keys;
+pub use sums::add_sums;
 ghost use mathlib.Core.Path.{_≡_};
 ghost use Prim.Native.Nat.{_≤_};
 ghost use lib.ListN.{length};
@@ -7,7 +10,8 @@ ghost use Rattle.slices.specs.Order.{Sorted};
 ghost use Rattle.morton.specs.Keys.{levelOf, codeOf, ValidKey};
 ghost use Rattle.morton.specs.Depth.{referenceDepth};
 ghost use Rattle.refine.specs.Counts.{countAt, targetsIn};
-ghost use Rattle.refine.specs.Refinement.{nearLimit, lifted as liftedAbove, countsAround, aroundBy, factor as factorOf, splitsAt, Refinable};
+ghost use Rattle.refine.specs.Sums.{Summed, OfSources};
+ghost use Rattle.refine.specs.Refinement.{nearLimit, lifted as liftedAbove, countsAround, aroundBy, factor as factorOf, splitsAt};
 
 // The counts around a cell: how many peers, the sum of their counts, and the sum of the counts' squares.
 pub struct Around {
@@ -78,19 +82,19 @@ pub fn lifted(axes: usize, key: u64, depth: u64) -> u64
 }
 
 // The counts of the cell and of its neighbours, each taken above the reference depth, repeats kept.
-fn count_around(axes: usize, key: u64, depth: u64, sources: &[u64]) -> Around
-    requires { ⌜ Refinable axes key depth (now sources) ⌝ }
-    ensures { λ r. ⌜ r ≡ aroundBy (countsAround axes depth (now (sources .entry)) key) ⌝ }
+fn count_around(axes: usize, key: u64, depth: u64, sums: &[usize]) -> Around
+    requires { ⌜ ValidKey axes key × Summed axes depth (now sums) ⌝ }
+    ensures { λ r. ⌜ OfSources axes depth (now (sums .entry)) (λ sources. r ≡ aroundBy (countsAround axes depth sources key)) ⌝ }
 {
     let list = neighbours::get_neighbours(axes, key);
     let others = list.keys;
     let len = list.len;
-    let own = count_at(axes, sources, lifted(axes, key, depth));
+    let own = sums::sources_in(axes, depth, sums, lifted(axes, key, depth));
     let mut sum = own;
     let mut squares = own * own;
     let mut i: usize = 0;
     while i < len {
-        let found = count_at(axes, sources, lifted(axes, others[i], depth));
+        let found = sums::sources_in(axes, depth, sums, lifted(axes, others[i], depth));
         sum += found;
         squares += found * found;
         i += 1;
@@ -103,11 +107,11 @@ fn count_around(axes: usize, key: u64, depth: u64, sources: &[u64]) -> Around
 }
 
 // How many times the near limit a cell may have in targets, by the sources around it.
-pub fn factor(axes: usize, key: u64, depth: u64, sources: &[u64]) -> usize
-    requires { ⌜ Refinable axes key depth (now sources) ⌝ }
-    ensures { λ r. ⌜ r ≡ factorOf axes depth (now (sources .entry)) key ⌝ }
+pub fn factor(axes: usize, key: u64, depth: u64, sums: &[usize]) -> usize
+    requires { ⌜ ValidKey axes key × Summed axes depth (now sums) ⌝ }
+    ensures { λ r. ⌜ OfSources axes depth (now (sums .entry)) (λ sources. r ≡ factorOf axes depth sources key) ⌝ }
 {
-    let around = count_around(axes, key, depth, sources);
+    let around = count_around(axes, key, depth, sums);
     if around.sum == 0 {
         return 32;
     }
@@ -128,16 +132,16 @@ pub fn splits_for_targets(
     limit: usize,
     order: usize,
     depth: u64,
-    sources: &[u64],
+    sums: &[usize],
     targets: &[u64],
 ) -> bool
-    requires { ⌜ Refinable axes key depth (now sources) × (order ≤ 64) × Sorted (now targets) × (length (now targets) ≤ 1048576) ⌝ }
-    ensures { λ r. ⌜ r ≡ splitsAt axes depth limit order (now (sources .entry)) (now (targets .entry)) key ⌝ }
+    requires { ⌜ ValidKey axes key × Summed axes depth (now sums) × (order ≤ 64) × Sorted (now targets) × (length (now targets) ≤ 1048576) ⌝ }
+    ensures { λ r. ⌜ OfSources axes depth (now (sums .entry)) (λ sources. r ≡ splitsAt axes depth limit order sources (now (targets .entry)) key) ⌝ }
 {
     let near = near_limit(axes, limit, order);
     let held = target_count(axes, targets, key);
     if held <= near {
         return false;
     }
-    near * factor(axes, key, depth, sources) < held
+    near * factor(axes, key, depth, sums) < held
 }

@@ -9,10 +9,10 @@ use Rattle.refusal.specs.Left.{left}
 use Rattle.refusal.proofs.Left.{done-left}
 use Rattle.slices.specs.Lists.{filled}
 use Rattle.tree.specs.Columns.{columns}
-use Rattle.tree.specs.Nodes.{depthOf}
+use Rattle.tree.specs.Order.{depthOf}
 use Rattle.rows.specs.Lists.{uRow, vRow, nearWork}
 use Rattle.rows.specs.Written.{rowStarts, rowKeys, rowAt, Written}
-use Rattle.sourced.specs.Trees.{SoundTree}
+use Rattle.tree.specs.WellFormed.{SoundTree}
 use Rattle.sourced.proofs.Checks.{passed}
 use Rattle.interaction.specs.declared.ListsAnswer.the-variants as lists
 use Rattle.interaction.specs.Answers.{listsCheck, listsAnswer}

@@ -5,7 +5,7 @@ use lib.ListN.{getD}
 use Rattle.refusal.specs.declared.Outcome.{Outcome}
 use Rattle.refusal.specs.declared.Outcome.the-variants.{Done, Refused}
 use Rattle.tree.specs.Columns.{Columns}
-use Rattle.tree.specs.Nodes.{depthOf}
+use Rattle.tree.specs.Order.{depthOf}
 use Rattle.rows.specs.Lists.{uRows, vRows, nearWork}
 use Rattle.interaction.specs.Answers.{listsCheck}
 use Rattle.text.specs.Listing.{listing, refusalLine}

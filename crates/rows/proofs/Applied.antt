@@ -11,17 +11,18 @@ use Rattle.morton.specs.Keys.{upwards}
 use Rattle.morton.specs.Anchors.{near}
 use Rattle.tree.specs.Nodes.{leaf, ownOf, sourced}
 use Rattle.tree.specs.WellFormed.{Run}
-use Rattle.tree.proofs.Examples.{keys₁, own₁, begin₁, keys₂, own₂, begin₂, keys₃, own₃, begin₃, three-formed}
+use Rattle.tree.proofs.Examples.{keys₁, own₁, begin₁, keys₂, own₂, begin₂, keys₃, own₃, begin₃, total₁, well-formed}
+use Rattle.tree.proofs.Verdict.{formed-of}
 use Rattle.rows.specs.Lists.{inU, inV, uRow, vRow}
 use Rattle.rows.specs.Demand3.{meetings}
 use Rattle.rows.proofs.Demand3.{demand-3}
 
--- the theorem at leaf 5 and source 3 of document 01's example, which lies in the run of leaf 8, and the same computed
+-- the theorem at leaf 3 and source 3 of document 01's example, which lies in the run of leaf 8, and the same computed
 pub by-theorem : meetings 1 (uRow 1 keys₁ own₁) (vRow 1 keys₁ own₁) 3 229379 ≡ 1
-by-theorem = demand-3 1 keys₁ own₁ begin₁ (three-formed .0) refl .1 .once 5 8 3 (lit< tt) leaf-5 in-8
+by-theorem = demand-3 1 keys₁ own₁ begin₁ (formed-of 1 keys₁ own₁ begin₁ total₁ (well-formed .0)) refl .1 .once 3 8 3 (lit< tt) leaf-3 in-8
   where
-    leaf-5 : leaf 1 keys₁ 3 ≡ true
-    leaf-5 = unfold leaf any in refl
+    leaf-3 : leaf 1 keys₁ 3 ≡ true
+    leaf-3 = unfold leaf any in refl
 
     in-8 : Run own₁ begin₁ 8 3
     in-8 = record { node = lit< tt; from = lit≤ tt; to = lit< tt }

@@ -12,11 +12,11 @@ use Rattle.tree.specs.Nodes.{leaf, ownOf, sourced}
 use Rattle.tree.proofs.Examples.{keys₁, own₁, keys₂, own₂, keys₃, own₃}
 use Rattle.rows.specs.Lists.{inU, inV, uRow, vRow, sourcedCells, nearWork}
 
-pub u-rows₁ : map (uRow 1 keys₁ own₁) keys₁ ≡ [] ∷ [] ∷ [] ∷ [] ∷ [] ∷ (3 ∷ 32771 ∷ []) ∷ (3 ∷ 32771 ∷ []) ∷ (196611 ∷ 229379 ∷ []) ∷ (196611 ∷ 229379 ∷ []) ∷ []
+pub u-rows₁ : map (uRow 1 keys₁ own₁) keys₁ ≡ [] ∷ [] ∷ [] ∷ (3 ∷ 32771 ∷ []) ∷ (3 ∷ 32771 ∷ []) ∷ [] ∷ [] ∷ (196611 ∷ 229379 ∷ []) ∷ (196611 ∷ 229379 ∷ []) ∷ []
 unfolding uRow inU leaf sourced ownOf any ascending filter near every upwards
 u-rows₁ = refl
 
-pub v-rows₁ : map (vRow 1 keys₁ own₁) keys₁ ≡ [] ∷ [] ∷ [] ∷ (98306 ∷ []) ∷ (2 ∷ []) ∷ [] ∷ [] ∷ [] ∷ [] ∷ []
+pub v-rows₁ : map (vRow 1 keys₁ own₁) keys₁ ≡ [] ∷ [] ∷ (98306 ∷ []) ∷ [] ∷ [] ∷ [] ∷ (2 ∷ []) ∷ [] ∷ [] ∷ []
 unfolding vRow inV sourced ownOf any ascending filter near every
 v-rows₁ = refl
 
@@ -28,11 +28,11 @@ pub near-work₁ : nearWork 1 keys₁ own₁ ≡ 8
 unfolding nearWork sum uRow inU leaf sourced ownOf any ascending filter near every upwards
 near-work₁ = refl
 
-pub u-rows₂ : map (uRow 2 keys₂ own₂) keys₂ ≡ [] ∷ [] ∷ (3 ∷ 32769 ∷ 98307 ∷ 1966083 ∷ 2064387 ∷ []) ∷ (3 ∷ 32769 ∷ 98307 ∷ 1966083 ∷ 2064387 ∷ []) ∷ [] ∷ [] ∷ (3 ∷ 32769 ∷ 98307 ∷ []) ∷ (3 ∷ 32769 ∷ 98307 ∷ []) ∷ (3 ∷ 32769 ∷ 98307 ∷ []) ∷ (32769 ∷ 1966083 ∷ 2064387 ∷ []) ∷ (32769 ∷ 1966083 ∷ 2064387 ∷ []) ∷ (32769 ∷ 1966083 ∷ 2064387 ∷ []) ∷ [] ∷ (3 ∷ 32769 ∷ 98307 ∷ []) ∷ (3 ∷ 32769 ∷ 98307 ∷ []) ∷ (3 ∷ 32769 ∷ 98307 ∷ []) ∷ (3 ∷ 32769 ∷ 98307 ∷ []) ∷ (32769 ∷ 1966083 ∷ 2064387 ∷ []) ∷ (32769 ∷ 1966083 ∷ 2064387 ∷ []) ∷ (32769 ∷ 1966083 ∷ 2064387 ∷ []) ∷ (32769 ∷ 1966083 ∷ 2064387 ∷ []) ∷ []
+pub u-rows₂ : map (uRow 2 keys₂ own₂) keys₂ ≡ [] ∷ [] ∷ [] ∷ (3 ∷ 32769 ∷ 98307 ∷ []) ∷ (3 ∷ 32769 ∷ 98307 ∷ []) ∷ (3 ∷ 32769 ∷ 98307 ∷ []) ∷ (3 ∷ 32769 ∷ 98307 ∷ []) ∷ (3 ∷ 32769 ∷ 98307 ∷ []) ∷ (3 ∷ 32769 ∷ 98307 ∷ []) ∷ (3 ∷ 32769 ∷ 98307 ∷ []) ∷ (3 ∷ 32769 ∷ 98307 ∷ 1966083 ∷ 2064387 ∷ []) ∷ (3 ∷ 32769 ∷ 98307 ∷ 1966083 ∷ 2064387 ∷ []) ∷ [] ∷ (32769 ∷ 1966083 ∷ 2064387 ∷ []) ∷ (32769 ∷ 1966083 ∷ 2064387 ∷ []) ∷ (32769 ∷ 1966083 ∷ 2064387 ∷ []) ∷ [] ∷ (32769 ∷ 1966083 ∷ 2064387 ∷ []) ∷ (32769 ∷ 1966083 ∷ 2064387 ∷ []) ∷ (32769 ∷ 1966083 ∷ 2064387 ∷ []) ∷ (32769 ∷ 1966083 ∷ 2064387 ∷ []) ∷ []
 unfolding uRow inU leaf sourced ownOf any ascending filter near every upwards
 u-rows₂ = refl
 
-pub v-rows₂ : map (vRow 2 keys₂ own₂) keys₂ ≡ [] ∷ [] ∷ [] ∷ [] ∷ [] ∷ (491522 ∷ []) ∷ (491522 ∷ []) ∷ (491522 ∷ []) ∷ (491522 ∷ []) ∷ (2 ∷ []) ∷ (2 ∷ []) ∷ (2 ∷ []) ∷ (2 ∷ []) ∷ [] ∷ [] ∷ [] ∷ [] ∷ [] ∷ [] ∷ [] ∷ [] ∷ []
+pub v-rows₂ : map (vRow 2 keys₂ own₂) keys₂ ≡ [] ∷ [] ∷ (491522 ∷ []) ∷ [] ∷ [] ∷ [] ∷ [] ∷ (491522 ∷ []) ∷ (491522 ∷ []) ∷ (491522 ∷ []) ∷ [] ∷ [] ∷ [] ∷ (2 ∷ []) ∷ (2 ∷ []) ∷ (2 ∷ []) ∷ (2 ∷ []) ∷ [] ∷ [] ∷ [] ∷ [] ∷ []
 unfolding vRow inV sourced ownOf any ascending filter near every
 v-rows₂ = refl
 
@@ -44,11 +44,11 @@ pub near-work₂ : nearWork 2 keys₂ own₂ ≡ 17
 unfolding nearWork sum uRow inU leaf sourced ownOf any ascending filter near every upwards
 near-work₂ = refl
 
-pub u-rows₃ : map (uRow 3 keys₃ own₃) keys₃ ≡ [] ∷ [] ∷ (3 ∷ 65537 ∷ 229378 ∷ 229379 ∷ 1835010 ∷ 1933314 ∷ 2064386 ∷ []) ∷ [] ∷ [] ∷ (3 ∷ 65537 ∷ 229378 ∷ 229379 ∷ 1835010 ∷ []) ∷ (65537 ∷ 229378 ∷ 1835010 ∷ 1933314 ∷ 2064386 ∷ []) ∷ (65537 ∷ 1835010 ∷ 1933314 ∷ 2064386 ∷ []) ∷ (65537 ∷ 1835010 ∷ 1933314 ∷ 2064386 ∷ []) ∷ (3 ∷ 65537 ∷ 229378 ∷ 229379 ∷ []) ∷ (3 ∷ 65537 ∷ 229378 ∷ 229379 ∷ []) ∷ []
+pub u-rows₃ : map (uRow 3 keys₃ own₃) keys₃ ≡ [] ∷ [] ∷ [] ∷ (3 ∷ 65537 ∷ 229378 ∷ 229379 ∷ []) ∷ (3 ∷ 65537 ∷ 229378 ∷ 229379 ∷ []) ∷ (3 ∷ 65537 ∷ 229378 ∷ 229379 ∷ 1835010 ∷ []) ∷ (3 ∷ 65537 ∷ 229378 ∷ 229379 ∷ 1835010 ∷ 1933314 ∷ 2064386 ∷ []) ∷ [] ∷ (65537 ∷ 229378 ∷ 1835010 ∷ 1933314 ∷ 2064386 ∷ []) ∷ (65537 ∷ 1835010 ∷ 1933314 ∷ 2064386 ∷ []) ∷ (65537 ∷ 1835010 ∷ 1933314 ∷ 2064386 ∷ []) ∷ []
 unfolding uRow inU leaf sourced ownOf any ascending filter near every upwards
 u-rows₃ = refl
 
-pub v-rows₃ : map (vRow 3 keys₃ own₃) keys₃ ≡ [] ∷ [] ∷ [] ∷ [] ∷ (1835010 ∷ 1933314 ∷ 2064386 ∷ []) ∷ (1933314 ∷ 2064386 ∷ []) ∷ (2 ∷ []) ∷ (2 ∷ 229378 ∷ []) ∷ (2 ∷ 229378 ∷ []) ∷ [] ∷ [] ∷ []
+pub v-rows₃ : map (vRow 3 keys₃ own₃) keys₃ ≡ [] ∷ [] ∷ (1835010 ∷ 1933314 ∷ 2064386 ∷ []) ∷ [] ∷ [] ∷ (1933314 ∷ 2064386 ∷ []) ∷ [] ∷ [] ∷ (2 ∷ []) ∷ (2 ∷ 229378 ∷ []) ∷ (2 ∷ 229378 ∷ []) ∷ []
 unfolding vRow inV sourced ownOf any ascending filter near every
 v-rows₃ = refl
 

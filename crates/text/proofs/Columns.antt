@@ -3,14 +3,14 @@ use mathlib.Core.Path.{_≡_, refl, sym, ap, ap₂, _∙_}
 use mathlib.Core.List.{List, [], _∷_, _++_, append-assoc}
 use Prim.Native.Nat.{ℕ, zero, suc, _+_, _-_, _≤_, _<_}
 use native.Mathlib.Nat.{le-of-suc-le-suc, not-suc-le-zero}
-use native.Mathlib.Numerals.{add-one}
 use native.Mathlib.Omega.{arith}
 use lib.ListN.{length, getD, length-append}
 use lib.Seq.{drop-append-seam, take-append-seam}
-use Rattle.slices.specs.Lists.{concatMap, range}
+use Rattle.slices.specs.Lists.{concatMap, Mem}
+use Rattle.slices.proofs.Counts.{here, there}
 use Rattle.rows.specs.Written.{startsFrom, rowAt, Written}
-use Rattle.text.specs.Listing.{firstLine, nodeLine, nodeLines, listing}
-use Rattle.text.proofs.Putting.{numbered-none, numbered-more}
+use Rattle.text.specs.Listing.{byLevel, firstLine, nodeLine, linesFrom, listing}
+use Rattle.text.proofs.Levels.{printed-node}
 
 first-start : (a : ℕ) (row : ℕ → List ℕ) (keys more : List ℕ) → getD (startsFrom a row keys ++ more) 0 0 ≡ a
 unfolding startsFrom
@@ -34,26 +34,21 @@ row-at row (k ∷ ks) pre rest more (suc i) l =
 pub written-at : (row : ℕ → List ℕ) (keys starts flat : List ℕ) → Written keys row starts flat → (i : ℕ) → i < length keys → rowAt starts flat i ≡ row (getD keys i 0)
 written-at row keys starts flat w i l = rw (w .starts-are, w .keys-are) (row-at row keys [] (w .rest) (w .more) i l)
 
--- rows that agree below n give the same lines
+-- rows that agree on the nodes printed give the same lines
 module _ (key own : List ℕ) (u v u' v' : ℕ → List ℕ) where
-  line-same : (i : ℕ) → u i ≡ u' i → v i ≡ v' i → nodeLine key own u v i ≡ nodeLine key own u' v' i
+  line-same : (n i : ℕ) → u i ≡ u' i → v i ≡ v' i → nodeLine key own u v n i ≡ nodeLine key own u' v' n i
   unfolding nodeLine
-  line-same i e f = rw (e, f)
+  line-same n i e f = rw (e, f)
 
-  lines-same : (n : ℕ) → ((i : ℕ) → i < n → u i ≡ u' i) → ((i : ℕ) → i < n → v i ≡ v' i)
-      → concatMap (nodeLine key own u v) (range 0 n) ≡ concatMap (nodeLine key own u' v') (range 0 n)
-  lines-same zero e f = numbered-none (nodeLine key own u v) ∙ sym (numbered-none (nodeLine key own u' v'))
-  lines-same (suc n) e f =
-      let h : n < suc n = omega arith in
-      ap (λ (k : ℕ). concatMap (nodeLine key own u v) (range 0 k)) (sym (add-one n))
-      ∙ numbered-more (nodeLine key own u v) n
-      ∙ ap₂ _++_ (lines-same n (λ i l. e i (omega arith)) (λ i l. f i (omega arith))) (line-same n (e n h) (f n h))
-      ∙ sym (numbered-more (nodeLine key own u' v') n)
-      ∙ ap (λ (k : ℕ). concatMap (nodeLine key own u' v') (range 0 k)) (add-one n)
+  lines-same : (n : ℕ) (nodes : List ℕ) → ((i : ℕ) → Mem i nodes → u i ≡ u' i) → ((i : ℕ) → Mem i nodes → v i ≡ v' i) → linesFrom key own u v n nodes ≡ linesFrom key own u' v' n nodes
+  unfolding linesFrom
+  lines-same n [] e f = refl
+  lines-same n (i ∷ rest) e f = ap₂ _++_ (line-same n i (e i (here i rest)) (f i (here i rest))) (lines-same (suc n) rest (λ j m. e j (there i j rest m)) (λ j m. f j (there i j rest m)))
 
 -- the listing of columns that hold the rows of the nodes
 pub listing-read : (key own us uk vs vk : List ℕ) (u v : ℕ → List ℕ) → Written key u us uk → Written key v vs vk → (axes depth sources work : ℕ)
     → listing key own (rowAt us uk) (rowAt vs vk) axes depth sources work ≡ listing key own (λ i. u (getD key i 0)) (λ i. v (getD key i 0)) axes depth sources work
 listing-read key own us uk vs vk u v wu wv axes depth sources work =
     ap (λ (l : List ℕ). firstLine axes (length key) depth sources work ++ l)
-    (lines-same key own (rowAt us uk) (rowAt vs vk) (λ i. u (getD key i 0)) (λ i. v (getD key i 0)) (length key) (written-at u key us uk wu) (written-at v key vs vk wv))
+    (lines-same key own (rowAt us uk) (rowAt vs vk) (λ i. u (getD key i 0)) (λ i. v (getD key i 0)) 0 (byLevel key)
+    (λ i m. written-at u key us uk wu i (printed-node key i m)) (λ i m. written-at v key vs vk wv i (printed-node key i m)))

@@ -1,4 +1,4 @@
--- Document 01's example, computed from the definitions: from the columns of its tree to the listing printed there.
+-- Document 01's example, computed from the definitions: from the columns of its tree in Z order to the listing printed there.
 use mathlib.Core.Path.{_≡_, refl}
 use mathlib.Core.List.{List, [], _∷_, _++_}
 use lib.ListN.{getD}
@@ -8,12 +8,13 @@ use Rattle.slices.specs.Lists.{concatMap, range, any, filter, sum}
 use Rattle.slices.specs.Order.{ascending}
 use Rattle.morton.specs.Keys.{upwards}
 use Rattle.morton.specs.Anchors.{near}
-use Rattle.tree.specs.Nodes.{depthOf, leaf, ownOf, sourced}
+use Rattle.tree.specs.Nodes.{leaf, ownOf, sourced}
+use Rattle.tree.specs.Order.{greatestLevel, depthOf}
 use Rattle.tree.proofs.Examples.{keys₁, own₁}
 use Rattle.rows.specs.Lists.{inU, inV, uRow, vRow, nearWork}
 use Rattle.text.specs.Characters.{ascii}
 use Rattle.text.specs.Digits.{digits, decimal}
-use Rattle.text.specs.Listing.{nodeLine, listing, refusalLine}
+use Rattle.text.specs.Listing.{nodeLine, linesFrom, listing, refusalLine}
 
 pub example : listing keys₁ own₁ (λ i. uRow 1 keys₁ own₁ (getD keys₁ i 0)) (λ i. vRow 1 keys₁ own₁ (getD keys₁ i 0)) 1 (depthOf keys₁) 4 (nearWork 1 keys₁ own₁)
     ≡ ascii "tree 1 9 3 4 8\n"
@@ -26,7 +27,7 @@ pub example : listing keys₁ own₁ (λ i. uRow 1 keys₁ own₁ (getD keys₁ 
     ++ ascii "6 32771 1 U 3 32771 V\n"
     ++ ascii "7 196611 1 U 196611 229379 V\n"
     ++ ascii "8 229379 1 U 196611 229379 V\n"
-unfolding nodeLine concatMap range digits nearWork sum uRow inU vRow inV leaf sourced ownOf any ascending filter near every upwards
+unfolding nodeLine linesFrom concatMap range digits greatestLevel nearWork sum uRow inU vRow inV leaf sourced ownOf any ascending filter near every upwards
 example = refl
 
 pub short : refusalLine (Room 3) ≡ ascii "refused 8 3\n"

@@ -1,4 +1,7 @@
+pub mod Examples
 pub mod Putting
+pub mod Lined
+pub mod Levels
 pub mod Columns
 pub mod Bound
-pub mod Examples
+pub mod SameText

@@ -1,3 +1,4 @@
 pub mod Characters
 pub mod Digits
 pub mod Listing
+pub mod ByLevel

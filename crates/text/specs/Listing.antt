@@ -1,13 +1,14 @@
--- Document 01, "The survey file and the listing": the lines of the listing, in ASCII.
+-- Document 01, "The survey file and the listing", with order 10: the lines of the listing, in ASCII. Nodes stand in Z order and are printed by level.
 use mathlib.Core.Bool.{Bool, true, false}
 use mathlib.Core.List.{List, [], _∷_, _++_}
 use Prim.Native.Char.{code}
-use Prim.Native.Nat.{ℕ}
-use lib.Dec.{leb}
+use Prim.Native.Nat.{ℕ, suc}
+use lib.Dec.{leb, eqb}
 use lib.ListN.{length, getD}
 use Rattle.refusal.specs.declared.Refusal.{Refusal}
 use Rattle.refusal.specs.Numbers.{numberOf, valueOf}
-use Rattle.slices.specs.Lists.{range, concatMap, filled}
+use Rattle.slices.specs.Lists.{range, filter, concatMap, filled}
+use Rattle.morton.specs.Keys.{deepest, levelOf}
 use Rattle.text.specs.declared.Text.{Text}
 use Rattle.text.specs.declared.Text.the-variants.{Length, Short}
 use Rattle.text.specs.Characters.{ascii}
@@ -36,15 +37,29 @@ refusalLine r = line (ascii "refused") (numberOf r ∷ valueOf r ∷ [])
 abbrev pub lettered : ℕ → List ℕ → List ℕ
 lettered letter keys = code " " ∷ letter ∷ fields keys
 
+-- the nodes of level l, in their order: within a level that of Z order is by code
+abbrev pub ofLevel : List ℕ → ℕ → List ℕ
+ofLevel key l = filter (λ i. eqb (levelOf (getD key i 0)) l) (range 0 (length key))
+
+-- the nodes by level, then ascending code, each by its number in Z order
+abbrev pub byLevel : List ℕ → List ℕ
+byLevel key = concatMap (ofLevel key) (range 0 (suc deepest))
+
 -- a tree's columns, and the U and V row of each node
 module _ (key own : List ℕ) (u v : ℕ → List ℕ) where
-  -- number, key, own sources, U keys, V keys
-  unfoldable pub nodeLine : ℕ → List ℕ
-  nodeLine i = decimal i ++ field (getD key i 0) ++ field (getD own i 0) ++ lettered (code "U") (u i) ++ lettered (code "V") (v i) ++ code "\n" ∷ []
+  -- node i, printed with number n: number, key, own sources, U keys, V keys
+  unfoldable pub nodeLine : ℕ → ℕ → List ℕ
+  nodeLine n i = decimal n ++ field (getD key i 0) ++ field (getD own i 0) ++ lettered (code "U") (u i) ++ lettered (code "V") (v i) ++ code "\n" ∷ []
 
-  -- one a node
+  -- one a node, with numbers that count from n on
+  unfoldable pub linesFrom : ℕ → List ℕ → List ℕ
+  unfolding nodeLine
+  linesFrom n [] = []
+  linesFrom n (i ∷ nodes) = nodeLine n i ++ linesFrom (suc n) nodes
+
+  -- the lines of all nodes by level
   abbrev pub nodeLines : List ℕ
-  nodeLines = concatMap nodeLine (range 0 (length key))
+  nodeLines = linesFrom 0 (byLevel key)
 
   abbrev pub listing : ℕ → ℕ → ℕ → ℕ → List ℕ
   listing axes depth sources work = firstLine axes (length key) depth sources work ++ nodeLines

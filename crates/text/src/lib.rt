@@ -1,4 +1,4 @@
-// The text of a listing, written into a lent slice: document 01, "The survey file and the listing".
+// The text of a listing, written into a lent slice: document 01, "The survey file and the listing". Nodes in Z order are printed by level.
 use refusal::Refusal;
 ghost use mathlib.Core.Path.{_≡_};
 ghost use mathlib.Core.List.{List, [], _∷_, _++_};
@@ -7,12 +7,18 @@ ghost use lib.ListN.{length, getD, take, replicate};
 ghost use Rattle.sourced.specs.Room.{Holds, Puts};
 ghost use Rattle.rows.specs.Written.{rowAt};
 ghost use Rattle.text.specs.Digits.{decimal};
-ghost use Rattle.text.specs.Listing.{field, fields, line, refusalLine, lettered, nodeLine, nodeLines, listing, textAnswer, textLeft};
+ghost use Rattle.text.specs.Listing.{field, fields, line, refusalLine, lettered, ofLevel, nodeLine, linesFrom, nodeLines, listing, textAnswer, textLeft};
 
 // How a text was written: its length, or that the slice lent for it is short.
 pub enum Text {
     Length(usize),
     Short,
+}
+
+// Where the lines of nodes end, and the number that is printed next.
+struct Lines {
+    end: usize,
+    number: usize,
 }
 
 // Puts one more byte where there is room, and counts it; the count stays at one more than the room once it is past it.
@@ -109,10 +115,11 @@ fn put_row(
     put_fields(out, m, &keys[from..to])
 }
 
-// Puts the line of a node.
+// Puts the line of a node under the number it is printed with.
 fn put_node(
     out: &mut [u8],
     n: usize,
+    number: usize,
     key: &[u64],
     own: &[usize],
     u_starts: &[usize],
@@ -123,17 +130,61 @@ fn put_node(
 ) -> usize
     requires { ⌜ node < length (now key) ⌝ }
     ensures { λ r. ⌜ Puts (now (out .entry)) n (nodeLine (now (key .entry)) (now (own .entry))
-        (rowAt (now («u_starts» .entry)) (now («u_keys» .entry))) (rowAt (now («v_starts» .entry)) (now («v_keys» .entry))) node) (now (out .exit)) r ⌝ }
+        (rowAt (now («u_starts» .entry)) (now («u_keys» .entry))) (rowAt (now («v_starts» .entry)) (now («v_keys» .entry))) number node) (now (out .exit)) r ⌝ }
 {
-    let number = put_decimal(out, n, node as u64);
-    let named = put_field(out, number, key[node]);
+    let numbered = put_decimal(out, n, number as u64);
+    let named = put_field(out, numbered, key[node]);
     let owned = put_field(out, named, start_at(own, node) as u64);
     let near = put_row(out, owned, b'U', u_starts, u_keys, node);
     let far = put_row(out, near, b'V', v_starts, v_keys, node);
     put(out, far, b'\n')
 }
 
-// Puts the lines of all nodes.
+// Puts the lines of the nodes of one level, with numbers from `number` on.
+fn put_level(
+    out: &mut [u8],
+    n: usize,
+    number: usize,
+    level: u64,
+    key: &[u64],
+    own: &[usize],
+    u_starts: &[usize],
+    u_keys: &[u64],
+    v_starts: &[usize],
+    v_keys: &[u64],
+) -> Lines
+    requires { ⌜ number + length (ofLevel (now key) level) ≤ length (now key) ⌝ }
+    ensures lines { λ r. ⌜ Puts (now (out .entry)) n (linesFrom (now (key .entry)) (now (own .entry)) (rowAt (now («u_starts» .entry)) (now («u_keys» .entry)))
+        (rowAt (now («v_starts» .entry)) (now («v_keys» .entry))) number (ofLevel (now (key .entry)) level)) (now (out .exit)) (r .end) ⌝ }
+    ensures number { λ r. ⌜ r .number ≡ number + length (ofLevel (now (key .entry)) level) ⌝ }
+{
+    let mut end = n;
+    let mut next = number;
+    let mut node = 0;
+    while node < key.len() {
+        if key[node] % 32768 == level {
+            end = put_node(
+                out,
+                end,
+                next,
+                key,
+                own,
+                u_starts,
+                u_keys,
+                v_starts,
+                v_keys,
+                node,
+            );
+            next += 1;
+            node += 1;
+        } else {
+            node += 1;
+        }
+    }
+    Lines { end, number: next }
+}
+
+// Puts the lines of all nodes, level by level.
 fn put_nodes(
     out: &mut [u8],
     n: usize,
@@ -147,13 +198,27 @@ fn put_nodes(
     ensures { λ r. ⌜ Puts (now (out .entry)) n (nodeLines (now (key .entry)) (now (own .entry))
         (rowAt (now («u_starts» .entry)) (now («u_keys» .entry))) (rowAt (now («v_starts» .entry)) (now («v_keys» .entry)))) (now (out .exit)) r ⌝ }
 {
-    let mut m = n;
-    let mut node = 0;
-    while node < key.len() {
-        m = put_node(out, m, key, own, u_starts, u_keys, v_starts, v_keys, node);
-        node += 1;
+    let mut end = n;
+    let mut number = 0;
+    let mut level = 0;
+    while level < 17 {
+        let lines = put_level(
+            out,
+            end,
+            number,
+            level,
+            key,
+            own,
+            u_starts,
+            u_keys,
+            v_starts,
+            v_keys,
+        );
+        end = lines.end;
+        number = lines.number;
+        level += 1;
     }
-    m
+    end
 }
 
 // Puts a line of a word and numbers.

@@ -10,14 +10,18 @@ use Rattle.slices.proofs.Sums.{sum-same}
 use Rattle.tree.specs.Nodes.{childOf, ownOf, sourced}
 use Rattle.tree.specs.Totals.{totalIn}
 use Rattle.tree.specs.WellFormed.{wellFormed}
-use Rattle.tree.proofs.Rules.{WellFormed, facts}
+use Rattle.tree.proofs.Rules.{Tree, WellFormed, facts}
 use Rattle.tree.proofs.Stored.{distinct, own-at}
 use Rattle.tree.proofs.Verdict.{formed-of, totals-of, total-at, total-length}
-use Rattle.tree.proofs.Totals.{sourced-total, root-total, total-children}
+use Rattle.tree.proofs.Sourced.{sourced-total}
+use Rattle.tree.proofs.Totals.{root-total, total-children}
 
 module _ (d : ℕ) (keys own begin total : List ℕ) (tree : wellFormed d keys own begin total ≡ true) where
   w : WellFormed d keys own begin
   w = facts d keys own begin (formed-of d keys own begin total tree)
+
+  nodes : Tree d keys
+  nodes = record { ascending = w .ascending; parents = w .parents }
 
   at : (i : ℕ) → i < length keys → getD total i 0 ≡ totalIn d keys own (getD keys i 0)
   at = total-at d keys own begin total (totals-of d keys own begin total tree)
@@ -28,7 +32,7 @@ module _ (d : ℕ) (keys own begin total : List ℕ) (tree : wellFormed d keys o
 
   -- the root's total is the sum of own
   pub column-root : getD total 0 0 ≡ sum own
-  column-root = at 0 (w .some) ∙ ap (totalIn d keys own) (w .ascending .root) ∙ root-total d keys own begin w
+  column-root = at 0 (w .some) ∙ root-total d keys own nodes (w .owns) (w .some)
 
   -- what stands in the column beside a key is its total
   beside : (c : ℕ) → Mem c keys → totalIn d keys own c ≡ ownOf keys total c
@@ -43,6 +47,6 @@ module _ (d : ℕ) (keys own begin total : List ℕ) (tree : wellFormed d keys o
       → getD total i 0 ≡ getD own i 0 + sum (map (λ c. cond (childOf d (getD keys i 0) c) (ownOf keys total c) 0) keys)
   column-children i l =
       at i l
-      ∙ total-children d keys own begin w (getD keys i 0) (i, l, refl)
+      ∙ total-children d keys own nodes (getD keys i 0) (i, l, refl)
       ∙ ap (λ n. n + sum (map (λ c. cond (childOf d (getD keys i 0) c) (totalIn d keys own c) 0) keys)) (own-at keys own (distinct d keys (w .ascending)) (w .owns) i l)
       ∙ ap (λ n. getD own i 0 + n) (sum-same (λ c. cond (childOf d (getD keys i 0) c) (totalIn d keys own c) 0) (λ c. cond (childOf d (getD keys i 0) c) (ownOf keys total c) 0) keys (λ c m. ap (λ n. cond (childOf d (getD keys i 0) c) n 0) (beside c m)))

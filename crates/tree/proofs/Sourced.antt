@@ -1,74 +1,26 @@
--- Which cells are sourced, from the leaves upwards.
+-- Which cells are sourced, from the leaves upwards; and by the total (order 3).
 use mathlib.Core.Path.{_≡_, refl, sym, ap, ap₂, _∙_, subst}
-use mathlib.Core.Bool.{Bool, true, false, _&&_, _||_, not}
-use mathlib.Core.List.{List}
+use mathlib.Core.Bool.{Bool, true, false, _&&_, _||_, not, cond}
+use mathlib.Core.List.{List, [], _∷_, map}
 use mathlib.Core.Logic.{_⊎_, inl, inr}
 use Prim.Native.Nat.{ℕ, zero, suc, _+_, _*_, _-_, _/_, _%_, _^_, _≤_, _<_}
 use native.Mathlib.Omega.{arith}
-use native.Mathlib.Nat.{eq-or-lt-of-le, mul-add}
+use native.Mathlib.Nat.{eq-or-lt-of-le}
 use native.Mathlib.Decide.{decLt}
 use lib.Dec.{leb, ltb, eqb}
 use lib.ListN.{length, getD}
-use lib.Pow.{shr-shr}
 use borrow.Author.Tests.{ltb-true, leb-true, eqb-true, lt-ltb, le-ltb, le-leb, eq-eqb}
-use Rattle.slices.specs.Lists.{any, Mem}
-use Rattle.slices.proofs.Tests.{and-l, and-r, both, clash, refute}
+use Rattle.slices.specs.Lists.{any, sum, Mem}
+use Rattle.slices.proofs.Tests.{and-l, and-r, both, clash, refute, same-test}
 use Rattle.slices.proofs.Counts.{any-intro, any-elim}
 use Rattle.morton.specs.Keys.{key, levelOf, codeOf, above, parent, under}
-use Rattle.morton.proofs.Cells.{above-zero, above-one, key-parts, level-at, code-at, at-self, level-parent, code-parent, parent-at}
+use Rattle.morton.proofs.Cells.{key-parts, level-at, code-at, parent-at}
 use Rattle.tree.specs.Nodes.{cellAt, stored, childOf, leaf, ownOf, sourced}
-use Rattle.slices.proofs.Tests.{same-test}
+pub use Rattle.tree.proofs.Under.{Under, under-facts, facts-under, under-self, under-trans, child-under, sourced-facts, sourced-up}
+use Rattle.tree.specs.Totals.{totalIn}
 use Rattle.tree.proofs.Rules.{WellFormed}
+use Rattle.tree.proofs.Ranges.{same-level}
 use Rattle.tree.proofs.Stored.{own-at, distinct, above-mem, leaf-under, sourced-by}
-
--- cells within cells
-pub record Under (d k j : ℕ) : Type 0 where
-  pub level : levelOf k ≤ levelOf j
-  pub code : above d (levelOf j - levelOf k) (codeOf j) ≡ codeOf k
-
-pub under-facts : (d k j : ℕ) → under d k j ≡ true → Under d k j
-under-facts d k j h = record {
-  level = leb-true (levelOf k) (levelOf j) (and-l _ _ h);
-  code = eqb-true (above d (levelOf j - levelOf k) (codeOf j)) (codeOf k) (and-r (leb (levelOf k) (levelOf j)) _ h);
-}
-
-pub facts-under : (d k j : ℕ) → Under d k j → under d k j ≡ true
-facts-under d k j u = both (le-leb (levelOf k) (levelOf j) (u .level)) (eq-eqb (above d (levelOf j - levelOf k) (codeOf j)) (codeOf k) (u .code))
-
-above-above : (d m n c : ℕ) → above d n (above d m c) ≡ above d (m + n) c
-above-above d m n c = shr-shr c (d * m) (d * n) ∙ ap (λ x. c / 2 ^ x) (sym (mul-add d m n))
-
-pub under-self : (d k : ℕ) → under d k k ≡ true
-under-self d k = facts-under d k k (record { level = omega arith; code = let e : levelOf k - levelOf k ≡ 0 = omega arith in rw e (above-zero d (codeOf k)) })
-
-pub under-trans : (d a b c : ℕ) → under d a b ≡ true → under d b c ≡ true → under d a c ≡ true
-under-trans d a b c p q =
-    let u = under-facts d a b p in
-    let v = under-facts d b c q in
-    facts-under d a c (record {
-      level = omega (arith, u .level, v .level);
-      code =
-          let e : levelOf c - levelOf a ≡ (levelOf c - levelOf b) + (levelOf b - levelOf a) = omega (arith, u .level, v .level) in
-          rw e (sym (above-above d (levelOf c - levelOf b) (levelOf b - levelOf a) (codeOf c)) ∙ ap (above d (levelOf b - levelOf a)) (v .code) ∙ u .code);
-    })
-
--- a cell lies under its parent
-pub child-under : (d k c : ℕ) → childOf d k c ≡ true → under d k c ≡ true
-child-under d k c h =
-    let p = ltb-true 0 (levelOf c) (and-l _ _ h) in
-    let e = eqb-true (parent d c) k (and-r (ltb 0 (levelOf c)) _ h) in
-    let l : levelOf k ≡ levelOf c - 1 = sym (ap levelOf e) ∙ level-parent d c in
-    facts-under d k c (record {
-      level = omega arith;
-      code = let o : levelOf c - levelOf k ≡ 1 = omega arith in rw o (above-one d (codeOf c) ∙ sym (code-parent d c) ∙ ap codeOf e);
-    })
-
--- below a cell, one is the cell itself or lies under a child of it
-pub at-level : (d k j : ℕ) → under d k j ≡ true → levelOf k ≡ levelOf j → j ≡ k
-at-level d k j h e =
-    let u = under-facts d k j h in
-    let z : levelOf j - levelOf k ≡ 0 = omega arith in
-    sym (key-parts j) ∙ ap₂ key (sym e) (sym (above-zero d (codeOf j)) ∙ rw z at (u .code)) ∙ key-parts k
 
 pub child-at : (d k j : ℕ) → under d k j ≡ true → levelOf k < levelOf j → (childOf d k (cellAt d (suc (levelOf k)) j) ≡ true) × (under d (cellAt d (suc (levelOf k)) j) j ≡ true)
 child-at d k j h l =
@@ -80,17 +32,6 @@ child-at d k j h l =
         code = rw (level-at d (suc (levelOf k)) j l) (sym (code-at d (suc (levelOf k)) j l));
       }),
     )
-
-module _ (d : ℕ) (keys own : List ℕ) where
-  pub sourced-facts : (k : ℕ) → sourced d keys own k ≡ true → (j : ℕ) × Mem j keys × (under d k j ≡ true) × (0 < ownOf keys own j)
-  unfolding sourced
-  sourced-facts k h =
-      let (j, m, e) = any-elim (λ j. under d k j && ltb 0 (ownOf keys own j)) keys h in
-      (j, m, and-l _ _ e, ltb-true 0 (ownOf keys own j) (and-r (under d k j) _ e))
-
-  -- what holds a sourced cell is sourced
-  pub sourced-up : (k c : ℕ) → under d k c ≡ true → sourced d keys own c ≡ true → sourced d keys own k ≡ true
-  sourced-up k c u h = let (j, m, v, o) = sourced-facts c h in sourced-by d keys own k j m o (under-trans d k c j u v)
 
 module _ (d : ℕ) (keys own begin : List ℕ) (w : WellFormed d keys own begin) where
   -- a leaf is sourced if it owns sources
@@ -114,7 +55,7 @@ module _ (d : ℕ) (keys own begin : List ℕ) (w : WellFormed d keys own begin)
       down h = let (j, mj, u, o) = sourced-facts d keys own k h in go j mj u o (eq-or-lt-of-le (under-facts d k j u .level))
         where
           go : (j : ℕ) → Mem j keys → under d k j ≡ true → 0 < ownOf keys own j → (levelOf k ≡ levelOf j) ⊎ (levelOf k < levelOf j) → any (λ c. childOf d k c && sourced d keys own c) keys ≡ true
-          go j mj u o (inl e) = absurd (omega (arith, none, ap (ownOf keys own) (at-level d k j u e)))
+          go j mj u o (inl e) = absurd (omega (arith, none, ap (ownOf keys own) (same-level d k j u (omega arith))))
           go j mj u o (inr p) =
               let (c, v) = child-at d k j u p in
               any-intro (λ c. childOf d k c && sourced d keys own c) keys (cellAt d (suc (levelOf k)) j) (above-mem d keys (w .ascending) (w .parents) j (suc (levelOf k)) mj p)
@@ -124,3 +65,38 @@ module _ (d : ℕ) (keys own begin : List ℕ) (w : WellFormed d keys own begin)
       up h =
           let (c, mc, e) = any-elim (λ c. childOf d k c && sourced d keys own c) keys h in
           sourced-up d keys own k c (child-under d k c (and-l _ _ e)) (and-r (childOf d k c) _ e)
+
+-- a sum is 0 where each of its terms is
+sum-pos : (f : ℕ → ℕ) (xs : List ℕ) → 0 < sum (map f xs) → (x : ℕ) × Mem x xs × (0 < f x)
+unfolding sum
+sum-pos f [] h = absurd (omega arith)
+sum-pos f (x ∷ xs) h = go (decLt 0 (f x)) (sum-pos f xs)
+  where
+    go : Dec (0 < f x) → (0 < sum (map f xs) → (y : ℕ) × Mem y xs × (0 < f y)) → (y : ℕ) × Mem y (x ∷ xs) × (0 < f y)
+    go (yes l) ih = (x, Rattle.slices.proofs.Counts.here x xs, l)
+    go (no n) ih = let (y, m, p) = ih (omega arith) in (y, Rattle.slices.proofs.Counts.there x y xs m, p)
+
+pos-sum : (f : ℕ → ℕ) (xs : List ℕ) (x : ℕ) → Mem x xs → f x ≤ sum (map f xs)
+unfolding sum
+pos-sum f [] x (i, l, e) = absurd (omega arith)
+pos-sum f (y ∷ ys) x (zero, l, e) = omega (arith, ap f e)
+pos-sum f (y ∷ ys) x (suc i, l, e) = omega (arith, pos-sum f ys x (i, native.Mathlib.Nat.le-of-suc-le-suc l, e))
+
+-- order 3: a cell is sourced if its total is not 0
+pub sourced-total : (d : ℕ) (keys own : List ℕ) (k : ℕ) → sourced d keys own k ≡ ltb 0 (totalIn d keys own k)
+unfolding totalIn
+sourced-total d keys own k = same-test (sourced d keys own k) (ltb 0 (totalIn d keys own k)) to from
+  where
+    to : sourced d keys own k ≡ true → ltb 0 (totalIn d keys own k) ≡ true
+    to h =
+        let (j, m, u, o) = sourced-facts d keys own k h in
+        lt-ltb 0 (totalIn d keys own k) (omega (arith, pos-sum (λ j. cond (under d k j) (ownOf keys own j) 0) keys j m, ap (λ b. cond b (ownOf keys own j) 0) u))
+
+    from : ltb 0 (totalIn d keys own k) ≡ true → sourced d keys own k ≡ true
+    from h =
+        let (j, m, p) = sum-pos (λ j. cond (under d k j) (ownOf keys own j) 0) keys (ltb-true 0 (totalIn d keys own k) h) in
+        go j m p (under d k j) refl
+      where
+        go : (j : ℕ) → Mem j keys → 0 < cond (under d k j) (ownOf keys own j) 0 → (b : Bool) → under d k j ≡ b → sourced d keys own k ≡ true
+        go j m p true e = sourced-by d keys own k j m (rw e at p) e
+        go j m p false e = absurd (let z = rw e at p in omega arith)

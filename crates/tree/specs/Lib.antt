@@ -1,6 +1,11 @@
 pub mod Columns
 pub mod Nodes
+pub mod Order
 pub mod Totals
 pub mod WellFormed
+pub mod Pass
+pub mod Leaves
 pub mod Sources
 pub mod Finding
+pub mod ByLevel
+pub mod Arrangement

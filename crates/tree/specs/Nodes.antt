@@ -1,16 +1,11 @@
 -- Document 01, "How the tree grows" and "Lists, lookup, sourced cells": the nodes of a tree.
 -- d is the number of axes; keys and own are the tree's columns, with one entry for each node.
-use mathlib.Core.Bool.{Bool, true, false, _&&_, _||_, not, cond}
+use mathlib.Core.Bool.{Bool, true, false, _&&_, not, cond}
 use mathlib.Core.List.{List, [], _∷_}
-use Prim.Native.Nat.{ℕ, zero, suc, _+_, _-_, max}
-use lib.Dec.{leb, ltb, eqb}
-use lib.ListN.{length, getD}
+use Prim.Native.Nat.{ℕ, zero, suc, _-_}
+use lib.Dec.{ltb, eqb}
 use Rattle.slices.specs.Lists.{any}
 use Rattle.morton.specs.Keys.{key, levelOf, codeOf, above, parent, under}
-
--- nodes are numbered by level, then ascending code: k's number is lower than j's
-abbrev pub before : ℕ → ℕ → Bool
-before k j = ltb (levelOf k) (levelOf j) || (eqb (levelOf k) (levelOf j) && ltb (codeOf k) (codeOf j))
 
 -- the cell at level l that holds cell k
 abbrev pub cellAt : ℕ → ℕ → ℕ → ℕ
@@ -32,10 +27,6 @@ childOf d k j = ltb 0 (levelOf j) && eqb (parent d j) k
 -- a leaf is a node other than the root with no child
 unfoldable pub leaf : ℕ → List ℕ → ℕ → Bool
 leaf d keys k = stored keys k && (not (eqb k 0) && not (any (childOf d k) keys))
-
--- depth: the last node's level, at least 1
-abbrev pub depthOf : List ℕ → ℕ
-depthOf keys = max 1 (levelOf (getD keys (length keys - 1) 0))
 
 -- what the node with key k owns, 0 if there is none
 unfoldable pub ownOf : List ℕ → List ℕ → ℕ → ℕ

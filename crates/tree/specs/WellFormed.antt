@@ -1,14 +1,16 @@
--- Document 01, "Lists, lookup, sourced cells": when a tree handed in is well formed, for any four columns.
+-- Document 01, "Lists, lookup, sourced cells", with orders 3 and 10: when a tree handed in is well formed, for any four columns.
+-- Every clause but that of the order and that of the totals is document 01's, in its words.
 use mathlib.Core.Path.{_≡_}
-use mathlib.Core.Bool.{Bool, true, false, _&&_, _||_, not}
+use mathlib.Core.Bool.{Bool, true, false, _&&_, _||_}
 use mathlib.Core.List.{List, [], _∷_}
 use Prim.Native.Nat.{ℕ, zero, suc, _+_, _-_, _≤_, _<_}
 use lib.Dec.{leb, ltb, eqb}
 use lib.ListN.{length, getD, take}
-use Rattle.slices.specs.Lists.{any, sum}
+use Rattle.slices.specs.Lists.{sum}
 use Rattle.slices.specs.Every.{every}
-use Rattle.morton.specs.Keys.{axesKnown, valid, parent}
-use Rattle.tree.specs.Nodes.{before, stored, leaf}
+use Rattle.morton.specs.Keys.{valid, parent}
+use Rattle.tree.specs.Nodes.{stored, leaf}
+use Rattle.tree.specs.Order.{inOrder}
 use Rattle.tree.specs.Totals.{totalIn}
 
 -- the most sources of a tree
@@ -19,14 +21,10 @@ mostSources = 1048576
 abbrev pub oneLength : List ℕ → List ℕ → List ℕ → Bool
 oneLength keys own begin = eqb (length own) (length keys) && (eqb (length begin) (length keys) && ltb 0 (length keys))
 
--- strictly ascending by level then code
-abbrev pub inOrder : List ℕ → Bool
-inOrder keys = every (length keys - 1) (λ i. before (getD keys i 0) (getD keys (suc i) 0))
-
--- keys are valid, strictly ascending by level then code, the first 0
+-- keys are valid, strictly ascending in Z order, the first 0
 unfoldable pub keysAscend : ℕ → List ℕ → Bool
 unfolding every
-keysAscend d keys = eqb (getD keys 0 0) 0 && (every (length keys) (λ i. valid d (getD keys i 0)) && inOrder keys)
+keysAscend d keys = eqb (getD keys 0 0) 0 && (every (length keys) (λ i. valid d (getD keys i 0)) && inOrder d keys)
 
 -- every other's parent is present
 unfoldable pub parentsStored : ℕ → List ℕ → Bool
@@ -64,16 +62,6 @@ pub record SoundTree (d : ℕ) (keys own : List ℕ) : Type 0 where
   pub most : d ≤ 3
   pub begin : List ℕ
   pub sound : formed d keys own begin ≡ true
-
--- the number of axes, the lengths and the first row are right
-pub record Rooted (d : ℕ) (keys own begin : List ℕ) : Type 0 where
-  pub axes : axesKnown d ≡ true
-  pub owns : length own ≡ length keys
-  pub begins : length begin ≡ length keys
-  pub some : 0 < length keys
-  pub root : getD keys 0 0 ≡ 0
-  pub rootless : getD own 0 0 ≡ 0
-  pub first : getD begin 0 0 ≡ 0
 
 -- A source of a tree is one place in its runs: place p lies in the run of node j
 pub record Run (own begin : List ℕ) (j p : ℕ) : Type 0 where

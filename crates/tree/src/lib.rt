@@ -1,17 +1,17 @@
-// What a tree is: its columns, when they are well formed, finding a node, and a leaf's sources.
-use morton::keys;
-use refusal::Outcome;
+// What a tree is: its columns in Z order, when they are well formed, the depth, finding a node, and the sources of a leaf and of any cell.
 ghost use mathlib.Core.Path.{_≡_};
 ghost use mathlib.Core.Bool.{true, _&&_};
-ghost use mathlib.Core.List.{_++_};
 ghost use Prim.Native.Nat.{ℕ, _+_, _≤_, _<_};
-ghost use lib.ListN.{length, getD, drop};
-ghost use Rattle.morton.specs.Keys.{axesKnown, valid};
-ghost use Rattle.tree.specs.Nodes.{before, leaf, depthOf};
-ghost use Rattle.tree.specs.Totals.{totalIn, totalColumn};
-ghost use Rattle.tree.specs.WellFormed.{keysAscend, formed, totalsRight, wellFormed, Rooted, SoundTree};
-ghost use Rattle.tree.specs.Finding.{FoundNode, FirstFrom, Sought, Parts, TotalsFrom, Children};
-ghost use Rattle.tree.specs.Sources.{leafSources};
+ghost use lib.ListN.{length, getD};
+ghost use lib.Dec.{leb};
+ghost use Rattle.morton.specs.Keys.{axesKnown, levelOf, above, under};
+ghost use Rattle.tree.specs.Nodes.{leaf};
+ghost use Rattle.tree.specs.Order.{before, depthOf, endOf, first};
+ghost use Rattle.tree.specs.WellFormed.{wellFormed};
+ghost use Rattle.tree.specs.Pass.{follows, mayOwn, rowsRight, Rooted, Rowed};
+ghost use Rattle.tree.specs.Leaves.{leafOf};
+ghost use Rattle.tree.specs.Finding.{TreeKeys, LastNode, FirstFrom, FoundNode};
+ghost use Rattle.tree.specs.Sources.{leafSources, cellSources};
 
 pub const MOST_SOURCES: usize = 1048576;
 
@@ -21,82 +21,82 @@ pub enum Found {
     Nothing,
 }
 
-// The nodes from one number up to another.
-pub struct Span {
-    pub from: usize,
-    pub to: usize,
+// The code n levels up; far above a cell there is only code 0.
+fn up(axes: usize, code: u64, n: u64) -> u64
+    requires { ⌜ (axes ≤ 3) × (n < 32768) ⌝ }
+    ensures { λ r. ⌜ r ≡ above axes n code ⌝ }
+{
+    let shift = axes as u64 * n;
+    if 63 < shift {
+        return 0;
+    }
+    code >> shift
 }
 
-// Where a node's children begin, and its total.
-struct Summed {
-    from: usize,
-    total: usize,
-}
-
-// Whether node a has a lower number than node b: by level, then ascending code.
-pub fn comes_before(a: u64, b: u64) -> bool
-    ensures { λ r. ⌜ r ≡ before a b ⌝ }
+// Whether node a has a lower number than node b: compared at the coarser level, then by level.
+pub fn comes_before(axes: usize, a: u64, b: u64) -> bool
+    requires { ⌜ axesKnown axes ≡ true ⌝ }
+    ensures { λ r. ⌜ r ≡ before axes a b ⌝ }
 {
     let level_a = a % 32768;
     let level_b = b % 32768;
+    let code_a = a / 32768;
+    let code_b = b / 32768;
     if level_a < level_b {
-        return true;
+        return code_a <= up(axes, code_b, level_b - level_a);
     }
-    if level_b < level_a {
+    up(axes, code_a, level_a - level_b) < code_b
+}
+
+// Whether key k may stand in the row after key p.
+fn may_follow(axes: usize, p: u64, k: u64) -> bool
+    requires { ⌜ axesKnown axes ≡ true ⌝ }
+    ensures { λ r. ⌜ r ≡ follows axes p k ⌝ }
+{
+    let level = k % 32768;
+    if level < 1 {
         return false;
     }
-    a / 32768 < b / 32768
-}
-
-// Whether a key is valid.
-fn is_valid(axes: usize, key: u64) -> bool
-    requires { ⌜ axesKnown axes ≡ true ⌝ }
-    ensures { λ r. ⌜ r ≡ valid axes key ⌝ }
-{
-    let checked = keys::check_key(axes, key);
-    match checked {
-        Outcome::Done => true,
-        Outcome::Refused(_) => false,
+    if 16 < level {
+        return false;
     }
-}
-
-// The number of the first node from p up to end with key k, or end.
-fn seek(key: &[u64], p: usize, end: usize, k: u64) -> usize
-    requires { ⌜ (p ≤ end) × (end ≤ length (now key)) ⌝ }
-    ensures { λ r. ⌜ Sought (now (key .entry)) p end k r ⌝ }
-{
-    let mut i = p;
-    while i < end {
-        if key[i] == k {
-            return i;
-        }
-        i += 1;
+    let level_p = p % 32768;
+    if level_p + 1 < level {
+        return false;
     }
-    i
+    let above = level_p + 1 - level;
+    let holder = up(axes, p / 32768, above);
+    let parent = up(axes, k / 32768, 1);
+    if holder != parent {
+        return false;
+    }
+    comes_before(axes, p, k)
 }
 
-// Whether the rows after the root's are right: one pass, beside which a second index runs along the parents.
-// Parents ascend as their children do, and stand before them.
+// Whether the node with key p may own n sources, with key k in the next row.
+fn may_own(p: u64, k: u64, n: usize) -> bool
+    ensures { λ r. ⌜ r ≡ mayOwn p k n ⌝ }
+{
+    if p % 32768 < k % 32768 {
+        return n == 0;
+    }
+    true
+}
+
+// Whether the rows after the root's are right but for the totals: one pass, each row against the one before it.
 fn rows_right(axes: usize, key: &[u64], own: &[usize], begin: &[usize]) -> bool
     requires { ⌜ Rooted axes (now key) (now own) (now begin) ⌝ }
-    ensures { λ r. ⌜ r ≡ formed axes (now (key .entry)) (now (own .entry)) (now (begin .entry)) ⌝ }
+    ensures { λ r. ⌜ r ≡ rowsRight axes (now (key .entry)) (now (own .entry)) (now (begin .entry)) ⌝ }
 {
-    let mut parent = 0;
     let mut run = 0;
     let mut i = 1;
     while i < key.len() {
+        let p = key[i - 1];
         let k = key[i];
-        if !is_valid(axes, k) {
+        if !may_follow(axes, p, k) {
             return false;
         }
-        if !comes_before(key[i - 1], k) {
-            return false;
-        }
-        parent = seek(key, parent, i, keys::parent_of(axes, k));
-        if i <= parent {
-            return false;
-        }
-        if own[parent] != 0 {
+        if !may_own(p, k, own[i - 1]) {
             return false;
         }
         if begin[i] != run {
@@ -112,9 +112,35 @@ fn rows_right(axes: usize, key: &[u64], own: &[usize], begin: &[usize]) -> bool
     true
 }
 
-// Whether three columns are a well-formed tree over 1 to 3 axes but for its totals: their lengths, the root's row, and then the others.
-fn is_formed(axes: usize, key: &[u64], own: &[usize], begin: &[usize]) -> bool
-    ensures { λ r. ⌜ r ≡ (axesKnown axes && formed axes (now (key .entry)) (now (own .entry)) (now (begin .entry))) ⌝ }
+// Whether the totals are right where all else is: one pass from the last row back, with the sums that wait for a parent, one for each level.
+fn totals_right(axes: usize, key: &[u64], own: &[usize], begin: &[usize], total: &[usize]) -> bool
+    requires { ⌜ Rowed axes (now key) (now own) (now begin) (now total) ⌝ }
+    ensures { λ r. ⌜ r ≡ wellFormed axes (now (key .entry)) (now (own .entry)) (now (begin .entry)) (now (total .entry)) ⌝ }
+{
+    let mut waiting = [0usize; 18];
+    let mut i = key.len();
+    while 0 < i {
+        i -= 1;
+        let level = (key[i] % 32768) as usize;
+        let sum = own[i] + waiting[level + 1];
+        if total[i] != sum {
+            return false;
+        }
+        waiting[level + 1] = 0;
+        waiting[level] += sum;
+    }
+    true
+}
+
+// Whether any four columns are a well-formed tree over 1 to 3 axes: their lengths, the root's row, the others, and the totals.
+pub fn is_well_formed(
+    axes: usize,
+    key: &[u64],
+    own: &[usize],
+    begin: &[usize],
+    total: &[usize],
+) -> bool
+    ensures { λ r. ⌜ r ≡ (axesKnown axes && wellFormed axes (now (key .entry)) (now (own .entry)) (now (begin .entry)) (now (total .entry))) ⌝ }
 {
     if !axes::axes_known(axes) {
         return false;
@@ -123,6 +149,9 @@ fn is_formed(axes: usize, key: &[u64], own: &[usize], begin: &[usize]) -> bool
         return false;
     }
     if begin.len() != key.len() {
+        return false;
+    }
+    if total.len() != key.len() {
         return false;
     }
     if key.len() < 1 {
@@ -137,118 +166,140 @@ fn is_formed(axes: usize, key: &[u64], own: &[usize], begin: &[usize]) -> bool
     if begin[0] != 0 {
         return false;
     }
-    rows_right(axes, key, own, begin)
-}
-
-// A node's total, by what it owns and by its children's totals; and the number at which its children begin, given where those of
-// the next node begin.
-fn total_at(
-    axes: usize,
-    key: &[u64],
-    own: &[usize],
-    total: &[usize],
-    node: usize,
-    end: usize,
-) -> Summed
-    requires { ⌜ SoundTree axes (now key) (now own) × (length (now key) ≤ length (now total)) × (node < length (now key)) × Parts axes (now key) (node + 1) end × TotalsFrom axes (now key) (now own) (now total) (node + 1) ⌝ }
-    ensures parts { λ r. ⌜ Parts axes (now (key .entry)) node (r .from) ⌝ }
-    ensures total { λ r. ⌜ r .total ≡ totalIn axes (now (key .entry)) (now (own .entry)) (getD (now (key .entry)) node 0) ⌝ }
-{
-    let k = key[node];
-    let mut sum = own[node];
-    let mut from = end;
-    while 1 < from {
-        if keys::parent_of(axes, key[from - 1]) != k {
-            return Summed {
-                from: from,
-                total: sum,
-            };
-        }
-        from -= 1;
-        sum += total[from];
-    }
-    Summed {
-        from: from,
-        total: sum,
-    }
-}
-
-// Whether the totals are right: from the last node to the first, as children have higher numbers than their parent. What has been
-// passed is right, so no sum is too large.
-fn totals_right(axes: usize, key: &[u64], own: &[usize], total: &[usize]) -> bool
-    requires { ⌜ SoundTree axes (now key) (now own) × (length (now total) ≡ length (now key)) ⌝ }
-    ensures { λ r. ⌜ r ≡ totalsRight axes (now (key .entry)) (now (own .entry)) (now (total .entry)) ⌝ }
-{
-    let mut end = key.len();
-    let mut node = key.len();
-    while 0 < node {
-        node -= 1;
-        let summed = total_at(axes, key, own, total, node, end);
-        if total[node] != summed.total {
-            return false;
-        }
-        end = summed.from;
-    }
-    true
-}
-
-// Writes the totals of a tree into the first entries of a column.
-pub fn write_totals(axes: usize, key: &[u64], own: &[usize], total: &mut [usize])
-    requires { ⌜ SoundTree axes (now key) (now own) × (length (now key) ≤ length (now total)) ⌝ }
-    ensures { λ _. ⌜ now (total .exit) ≡ totalColumn axes (now (key .entry)) (now (own .entry)) ++ drop (length (now (key .entry))) (now (total .entry)) ⌝ }
-{
-    let mut end = key.len();
-    let mut node = key.len();
-    while 0 < node {
-        node -= 1;
-        let summed = total_at(axes, key, own, total, node, end);
-        total[node] = summed.total;
-        end = summed.from;
-    }
-}
-
-// Whether any four columns are a well-formed tree over 1 to 3 axes.
-pub fn is_well_formed(
-    axes: usize,
-    key: &[u64],
-    own: &[usize],
-    begin: &[usize],
-    total: &[usize],
-) -> bool
-    ensures { λ r. ⌜ r ≡ (axesKnown axes && wellFormed axes (now (key .entry)) (now (own .entry)) (now (begin .entry)) (now (total .entry))) ⌝ }
-{
-    if !is_formed(axes, key, own, begin) {
+    if !rows_right(axes, key, own, begin) {
         return false;
     }
-    if total.len() != key.len() {
-        return false;
-    }
-    totals_right(axes, key, own, total)
+    totals_right(axes, key, own, begin, total)
 }
 
-// The depth: the last node's level, at least 1.
+// The depth: the greatest level, at least 1.
 pub fn depth_of(key: &[u64]) -> u64
     ensures { λ r. ⌜ r ≡ depthOf (now (key .entry)) ⌝ }
 {
-    if key.len() < 1 {
-        return 1;
+    let mut depth = 1;
+    let mut i = key.len();
+    while 0 < i {
+        i -= 1;
+        let level = key[i] % 32768;
+        if depth < level {
+            depth = level;
+        }
     }
-    let level = keys::level_of(key[key.len() - 1]);
-    if level < 1 {
-        return 1;
+    depth
+}
+
+// Whether a node's first level-16 code is at most one.
+fn begins_by(axes: usize, k: u64, code: u64) -> bool
+    requires { ⌜ (axesKnown axes ≡ true) × (levelOf k ≤ 16) ⌝ }
+    ensures { λ r. ⌜ r ≡ leb (first axes k) code ⌝ }
+{
+    k / 32768 <= up(axes, code, 16 - k % 32768)
+}
+
+// The last node whose first code is at most a level-16 code, by halving.
+pub fn last_node(axes: usize, key: &[u64], code: u64) -> usize
+    requires { ⌜ TreeKeys axes (now key) ⌝ }
+    ensures { λ r. ⌜ LastNode axes (now (key .entry)) code r ⌝ }
+{
+    let mut low = 0;
+    let mut high = key.len();
+    while low + 1 < high {
+        let middle = low + (high - low) / 2;
+        if begins_by(axes, key[middle], code) {
+            low = middle;
+        } else {
+            high = middle;
+        }
     }
-    level
+    low
+}
+
+// Whether a node is a leaf: by the next row.
+pub fn is_leaf(axes: usize, key: &[u64], node: usize) -> bool
+    requires { ⌜ TreeKeys axes (now key) × (node < length (now key)) ⌝ }
+    ensures { λ r. ⌜ r ≡ leaf axes (now (key .entry)) (getD (now (key .entry)) node 0) ⌝ }
+{
+    if node < 1 {
+        return false;
+    }
+    let next = node + 1;
+    if key.len() <= next {
+        return true;
+    }
+    key[next] % 32768 <= key[node] % 32768
+}
+
+// Whether cell b is cell a or lies in it.
+fn holds(axes: usize, a: u64, b: u64) -> bool
+    requires { ⌜ axesKnown axes ≡ true ⌝ }
+    ensures { λ r. ⌜ r ≡ under axes a b ⌝ }
+{
+    let level_a = a % 32768;
+    let level_b = b % 32768;
+    if level_b < level_a {
+        return false;
+    }
+    up(axes, b / 32768, level_b - level_a) == a / 32768
+}
+
+// A number between two: half way, but no farther past the lower one than that is past a node, and one more.
+fn between(node: usize, low: usize, high: usize) -> usize
+    requires { ⌜ (node ≤ low) × (low + 1 < high) ⌝ }
+    ensures { λ r. ⌜ (low < r) × (r < high) ⌝ }
+{
+    let half = (high - low) / 2;
+    let step = low - node + 1;
+    if step < half {
+        return low + step;
+    }
+    low + half
+}
+
+// The number after those of the nodes under a node, by steps that double until one is past it, and then by halving.
+pub fn end_of(axes: usize, key: &[u64], node: usize) -> usize
+    requires { ⌜ TreeKeys axes (now key) × (node < length (now key)) ⌝ }
+    ensures { λ r. ⌜ r ≡ endOf (now (key .entry)) node ⌝ }
+{
+    let cell = key[node];
+    let mut low = node;
+    let mut high = key.len();
+    while low + 1 < high {
+        let middle = between(node, low, high);
+        if holds(axes, cell, key[middle]) {
+            low = middle;
+        } else {
+            high = middle;
+        }
+    }
+    low + 1
+}
+
+// The leaf that holds a level-16 code: the last node that begins by it, if that is a leaf and holds it.
+pub fn leaf_of(axes: usize, key: &[u64], code: u64) -> Found
+    requires { ⌜ TreeKeys axes (now key) ⌝ }
+    ensures { λ r. ⌜ r ≡ leafOf axes (now (key .entry)) code ⌝ }
+{
+    let node = last_node(axes, key, code);
+    if !is_leaf(axes, key, node) {
+        return Found::Nothing;
+    }
+    let k = key[node];
+    if up(axes, code, 16 - k % 32768) != k / 32768 {
+        return Found::Nothing;
+    }
+    Found::At(node)
 }
 
 // The number of the first node that does not come before k, by halving.
-pub fn first_from(key: &[u64], k: u64) -> usize
-    ensures { λ r. ⌜ FirstFrom (now (key .entry)) k r ⌝ }
+pub fn first_from(axes: usize, key: &[u64], k: u64) -> usize
+    requires { ⌜ axesKnown axes ≡ true ⌝ }
+    ensures { λ r. ⌜ FirstFrom axes (now (key .entry)) k r ⌝ }
 {
     let mut low = 0;
     let mut high = key.len();
     while low < high {
         let middle = low + (high - low) / 2;
-        if comes_before(key[middle], k) {
+        if comes_before(axes, key[middle], k) {
             low = middle + 1;
         } else {
             high = middle;
@@ -258,10 +309,11 @@ pub fn first_from(key: &[u64], k: u64) -> usize
 }
 
 // The node with key k.
-pub fn find_node(key: &[u64], k: u64) -> Found
-    ensures { λ r. ⌜ FoundNode (now (key .entry)) k r ⌝ }
+pub fn find_node(axes: usize, key: &[u64], k: u64) -> Found
+    requires { ⌜ axesKnown axes ≡ true ⌝ }
+    ensures { λ r. ⌜ FoundNode axes (now (key .entry)) k r ⌝ }
 {
-    let node = first_from(key, k);
+    let node = first_from(axes, key, k);
     if key.len() <= node {
         return Found::Nothing;
     }
@@ -271,36 +323,7 @@ pub fn find_node(key: &[u64], k: u64) -> Found
     Found::At(node)
 }
 
-// The children of cell k, which stand next to each other.
-pub fn children_of(axes: usize, key: &[u64], k: u64) -> Span
-    requires { ⌜ (axesKnown axes ≡ true) × (keysAscend axes (now key) ≡ true) × (valid axes k ≡ true) ⌝ }
-    ensures { λ r. ⌜ Children axes (now (key .entry)) k (r .from) (r .to) ⌝ }
-{
-    let level = k % 32768;
-    if 16 <= level {
-        return Span { from: 0, to: 0 };
-    }
-    let fan = axes::children_of(axes) as u64;
-    let first = (k / 32768) * fan;
-    let from = first_from(key, first * 32768 + (level + 1));
-    let to = first_from(key, (first + fan) * 32768 + (level + 1));
-    Span { from: from, to: to }
-}
-
-// Whether a node is a leaf.
-pub fn is_leaf(axes: usize, key: &[u64], node: usize) -> bool
-    requires { ⌜ (axesKnown axes ≡ true) × (keysAscend axes (now key) ≡ true) × (node < length (now key)) ⌝ }
-    ensures { λ r. ⌜ r ≡ leaf axes (now (key .entry)) (getD (now (key .entry)) node 0) ⌝ }
-{
-    let k = key[node];
-    if k == 0 {
-        return false;
-    }
-    let children = children_of(axes, key, k);
-    children.to <= children.from
-}
-
-// A node's part of the order column. `begin + own` may be past the largest number, so the room is compared instead.
+// A leaf's part of the order column: what it owns, from its begin on. `begin + own` may be past the largest number, so the room is compared instead.
 pub fn leaf_sources<'a>(
     own: &[usize],
     begin: &[usize],
@@ -325,4 +348,16 @@ pub fn leaf_sources<'a>(
     }
     let end = start + count;
     &order[start..end]
+}
+
+// Any cell's part of the order column: its total from its begin on.
+pub fn cell_sources<'a>(
+    total: &[usize],
+    begin: &[usize],
+    order: &'a [usize],
+    node: usize,
+) -> &'a [usize]
+    ensures { λ r. ⌜ now r ≡ cellSources (now (total .entry)) (now (begin .entry)) (now (order .entry)) node ⌝ }
+{
+    leaf_sources(total, begin, order, node)
 }

@@ -52,18 +52,8 @@ pub fn rows_by_rust(tree: &Tree) -> RustRows {
 
 /// A tree of these keys, with sources in those that are told.
 pub fn tree_of(bounds: Bounds, mut nodes: Vec<(u64, usize)>) -> Tree {
-    nodes.sort_unstable_by_key(|(key, _)| rank(*key));
-    let sums = oracle::totals(bounds.axes, nodes.iter().copied());
-    let mut tree = Tree::from_columns(bounds, vec![], vec![], vec![], vec![], vec![]);
-    let mut sum = 0;
-    for (key, own) in nodes {
-        tree.key.push(key);
-        tree.own.push(own);
-        tree.begin.push(sum);
-        tree.total.push(sums[&key]);
-        sum += own;
-    }
-    tree
+    nodes.sort_unstable_by_key(|(key, _)| rank(bounds.axes, *key));
+    oracle::tree_in_order(bounds, &nodes)
 }
 
 pub fn run(rows: &mut Rows) {
@@ -125,7 +115,7 @@ fn orphans(rows: &mut Rows) {
 fn wrong_totals(rows: &mut Rows) {
     let changes: [fn(&mut Vec<usize>); 4] = [
         |total| total[0] += 1,
-        |total| total[3] -= 1,
+        |total| total[2] -= 1,
         |total| total[8] += 1,
         |total| total.truncate(8),
     ];
@@ -207,14 +197,14 @@ fn forms(rows: &mut Rows) {
     let tree = example();
     let theirs = rows_by_rust(&tree);
     let v = KeyRows {
-        starts: vec![0, 0, 0, 0, 1, 2, 2, 2, 2, 2],
+        starts: vec![0, 0, 0, 1, 1, 1, 1, 2, 2, 2],
         keys: vec![98306, 2],
     };
     let ours = tree.get_interaction_lists().map(|lists| lists.v);
     let said = HashMap::from([(2, vec![98306]), (98306, vec![2])]);
     rows.answered("T34", "V", (ours, Ok(v)), (theirs.v, said));
     let ours = tree.get_points_to_leaves_map(&[32771, 3, 3]);
-    let starts = vec![0, 0, 0, 0, 0, 0, 2, 3, 3, 3];
+    let starts = vec![0, 0, 0, 0, 2, 3, 3, 3, 3, 3];
     let groups = ours.map(|g| (g.starts, g.indices));
     let map = linear_tree::get_points_to_leaves_map(&vec![32771, 3, 3]);
     let said = HashMap::from([(3, vec![1, 2]), (32771, vec![0])]);

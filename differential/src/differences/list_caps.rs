@@ -3,7 +3,7 @@
 use super::Rows;
 use super::handed_in::{rows_by_rust, tree_of};
 use crate::oracle::{any_box, dimensions};
-use crate::trees::compare_lists;
+use crate::trees::{compare_lists, compare_near_work};
 use ferreus_bbfmm::morton;
 use lohandema::Refusal;
 use lohandema::lent;
@@ -113,7 +113,7 @@ fn by_rust(tree: &Tree) -> (usize, usize) {
     (keys(theirs.u), keys(theirs.v))
 }
 
-/// At the cap: all rows are the Rust's, where that is run.
+/// At the cap: all rows are the Rust's, where that is run, and near work is their sum.
 fn full(rows: &mut Rows, row: &str, tree: &Tree, keys: (usize, usize)) {
     let ours = counted(tree);
     rows.answered(row, "at the cap", (ours, (Ok(keys), false)), ((), ()));
@@ -121,6 +121,7 @@ fn full(rows: &mut Rows, row: &str, tree: &Tree, keys: (usize, usize)) {
         let theirs = rows_by_rust(tree);
         let input = || format!("{row} at the cap");
         compare_lists(rows.t, tree, &theirs.u, &theirs.v, input);
+        compare_near_work(rows.t, tree, &theirs.u, input);
     }
 }
 
@@ -143,12 +144,9 @@ pub fn run(rows: &mut Rows) {
     let more = Shape { near: 5, ..U_FULL };
     let tree = more.tree();
     over(rows, "T32", &tree, 6, (MOST + 1, v_of_u));
-    // near work takes minutes at the cap, so a short run leaves it out
-    if !rows.t.short() {
-        let (ours, all) = near_work(&tree);
-        rows.refused_here("T32", "near work", ours, (8, 6));
-        rows.answered("T32", "near work's slices 0", (all, true), ((), ()));
-    }
+    let (ours, all) = near_work(&tree);
+    rows.refused_here("T32", "near work", ours, (8, 6));
+    rows.answered("T32", "near work's slices 0", (all, true), ((), ()));
     full(rows, "T33", &V_FULL.tree(), (u_of_v, MOST));
     let more = Shape { far: 29, ..V_FULL };
     over(rows, "T33", &more.tree(), 7, (u_of_v, MOST + 1));

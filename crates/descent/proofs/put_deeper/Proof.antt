@@ -5,11 +5,6 @@ use Rattle.descent.proofs.Below.{those-dealt}
 use borrow.Author.Needs.{needs}
 use Rattle.descent.proofs.put_deeper.Statement.{statement}
 use Rattle.descent.proofs.put_deeper.Tie as tie
-use Rattle.descent.proofs.put_deeper.Reads as reads
-use Rattle.descent.proofs.put_deeper.Lts as lts
-use Rattle.dealing.proofs.deal_by_level.Reads as deal-by-level-reads
-use Rattle.descent.proofs.put_under.Reads as put-under-reads
-use Rattle.slices.proofs.is_ascending.Reads as is-ascending-reads
 
 put-under-requires : tie.Need-put-under-requires
 put-under-requires c κs = search needs
@@ -21,7 +16,7 @@ sub-if3-2 : tie.Need-sub-if3-2
 sub-if3-2 c = search needs
 
 mul-is-ascending : tie.Need-mul-is-ascending
-mul-is-ascending c = omega (arith, leb-true, c .before .before .if1 .taken, c .before .before .before .before .before .put-under .kept .1 .1 .1 .1 .1 .1 .1 .0)
+mul-is-ascending c = omega (arith, leb-true, c .before .before .if1 .taken, c .before .before .before .before .before .put-under .kept .1 .1 .1 .1 .1 .1 .1 .1 .0)
 
 sub-is-ascending : tie.Need-sub-is-ascending
 sub-is-ascending c = search needs
@@ -39,13 +34,13 @@ sub-deal-by-level : tie.Need-sub-deal-by-level
 sub-deal-by-level c = search needs
 
 deal-by-level-requires : tie.Need-deal-by-level-requires
-deal-by-level-requires c κs = omega (arith, leb-true, c .before .before .before .before .before .before .before .if1 .taken, c .before .before .before .before .before .before .before .before .before .before .put-under .kept .1 .1 .1 .1 .1 .1 .1 .0)
+deal-by-level-requires c κs = omega (arith, leb-true, c .before .before .before .before .before .before .before .if1 .taken, c .before .before .before .before .before .before .before .before .before .before .put-under .kept .1 .1 .1 .1 .1 .1 .1 .1 .0)
 
 same-length : tie.Need-same-length
 same-length c = search needs
 
 returns : tie.Need-returns
-returns c = those-dealt _ _ _ _ _ _ _ (c .before .before .before .before .before .before .before .before .before .before .before .before .before .put-under .kept .1 .1 .1 .1 .1 .1 .1 .0) (c .before .before .deal-by-level .kept .0) (omega (arith, c .before .before .before .before .before .before .before .before .before .before .if1 .taken)) (omega (arith, leb-true, c .before .before .before .before .before .before .before .before .before .before .before .before .before .put-under .kept .1 .1 .1 .1 .1 .1 .1 .0)) (c .before .before .before .before .before .before .before .before .before .before .before .before .before .put-under .ensures) (c .before .before .deal-by-level .ensures)
+returns c = those-dealt _ _ _ _ _ _ _ (c .before .before .before .before .before .before .before .before .before .before .before .before .before .put-under .kept .1 .1 .1 .1 .1 .1 .1 .1 .0) (c .before .before .deal-by-level .kept .0) (omega (arith, c .before .before .before .before .before .before .before .before .before .before .if1 .taken)) (omega (arith, leb-true, c .before .before .before .before .before .before .before .before .before .before .before .before .before .put-under .kept .1 .1 .1 .1 .1 .1 .1 .1 .0)) (c .before .before .before .before .before .before .before .before .before .before .before .before .before .put-under .ensures) (c .before .before .deal-by-level .ensures)
 
 same-length-2 : tie.Need-same-length-2
 same-length-2 c = search needs

@@ -3,14 +3,11 @@ use native.Mathlib.Omega.{arith}
 use Prim.Native.Nat.{_-_}
 use lib.ListN.{length}
 use denote.Ref.{now}
-use Rattle.ztree.proofs.Ends.{ends}
+use Rattle.tree.proofs.Ends.{ends}
 use Rattle.links.proofs.Search.{Over, over-start, over-here, over-end, over-more}
 use borrow.Author.Needs.{needs}
 use Rattle.links.proofs.find_by_search.Statement.{statement}
 use Rattle.links.proofs.find_by_search.Tie as tie
-use Rattle.links.proofs.find_by_search.Reads as reads
-use Rattle.links.proofs.find_by_search.Lts as lts
-use Rattle.ztree.proofs.end_of.Reads as end-of-reads
 
 abbrev Inv-loop : tie.InvT-loop
 Inv-loop axes key total i j₀ j = Over key total i j

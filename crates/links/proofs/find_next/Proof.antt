@@ -1,17 +1,13 @@
 -- `links::find_next` meets its contract.
 use native.Mathlib.Omega.{arith}
-use mathlib.Core.Path.{_≡_, sym, _∙_}
+use mathlib.Core.Path.{sym, _∙_}
 use denote.Ref.{now}
-use Prim.Native.Nat.{_-_, _≤_}
+use Prim.Native.Nat.{_-_}
 use lib.ListN.{length}
-use Rattle.links.specs.Links.{nextOf}
-use Rattle.links.proofs.Links.{Hop, hop-start, hop-most, hop-end, stop-here, stop-not, hop-far}
+use Rattle.links.proofs.Links.{Hop, hop-start, hop-end, stop-here, stop-not, hop-far}
 use borrow.Author.Needs.{needs}
 use Rattle.links.proofs.find_next.Statement.{statement}
 use Rattle.links.proofs.find_next.Tie as tie
-use Rattle.links.proofs.find_next.Reads as reads
-use Rattle.links.proofs.find_next.Lts as lts
-use Rattle.links.proofs.stops.Reads as stops-reads
 
 abbrev Inv-loop : tie.InvT-loop
 Inv-loop key total links i level j₀ j = Hop key total i j
@@ -56,7 +52,7 @@ shared-slice-read-j : tie.Need-shared-slice-read-j Inv-loop μ-loop
 shared-slice-read-j c = omega (arith, c .before .before .before .before .before .loop-test .taken, c .before .before .before .before .before .before .before .before .before .before .before .pre .0 .room, c .before .before .before .before .before .before .before .before .before .before .before .pre .0 .linked .totals)
 
 loop-less : tie.Need-loop-less Inv-loop μ-loop
-loop-less c = omega (arith, c .before .before .before .before .before .loop-test .taken, hop-far (now (c .before .before .before .before .before .before .before .before .before .before .before .args .key)) (now (c .before .before .before .before .before .before .before .before .before .before .before .args .total)) (c .before .before .before .before .before .before .before .before .before .before .before .pre .0 .linked) (c .before .before .before .before .before .before .loop .j) _ (c .before .before .before .before .before .loop-test .taken) (c .before .before .before .before .before .before .before .before .before .before .before .pre .0 .right (c .before .before .before .before .before .before .loop .j) (omega (arith, c .before .before .before .before .before .before .loop .inv .after)) (c .before .before .before .before .before .loop-test .taken)))
+loop-less c = omega (arith, c .before .before .before .before .before .loop-test .taken, hop-far (now (c .before .before .before .before .before .before .before .before .before .before .before .args .key)) (now (c .before .before .before .before .before .before .before .before .before .before .before .args .total)) (c .before .before .before .before .before .before .before .before .before .before .before .pre .0 .linked) (c .before .before .before .before .before .before .loop .j) (c .before .before .before .before .before .loop-test .taken), c .before .before .before .before .before .before .before .before .before .before .before .pre .0 .right (c .before .before .before .before .before .before .loop .j) (omega (arith, c .before .before .before .before .before .before .loop .inv .after)) (c .before .before .before .before .before .loop-test .taken))
 
 loop-again : tie.Need-loop-again Inv-loop μ-loop
 loop-again c = stop-not (now (c .before .before .before .before .before .before .before .before .before .before .before .args .key)) (now (c .before .before .before .before .before .before .before .before .before .before .before .args .total)) (c .before .before .before .before .before .before .before .before .before .before .before .pre .0 .linked) (c .before .before .before .before .before .before .before .before .before .before .before .args .i) (c .before .before .before .before .before .before .before .before .before .before .before .pre .1) (c .before .before .before .before .before .before .loop .j) (c .before .before .before .before .before .before .loop .inv) (c .before .before .before .before .before .loop-test .taken) (sym (c .before .before .stops .ensures) ∙ c .before .if1 .left) _ (c .before .before .before .before .before .before .before .before .before .before .before .pre .0 .right (c .before .before .before .before .before .before .loop .j) (omega (arith, c .before .before .before .before .before .before .loop .inv .after)) (c .before .before .before .before .before .loop-test .taken))

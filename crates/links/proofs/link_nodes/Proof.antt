@@ -1,16 +1,11 @@
 -- `links::link_nodes` meets its contract.
 use native.Mathlib.Omega.{arith}
-use mathlib.Core.Path.{_≡_, sym, _∙_}
+use mathlib.Core.Path.{_≡_}
 use Prim.Native.Nat.{ℕ, suc, _-_, _<_}
-use denote.Ref.{now}
-use Rattle.links.proofs.Links.{Linking, linking-start, linking-from, linking-more, linking-done, marks-few, next-most}
+use Rattle.links.proofs.Links.{Linking, linking-start, linking-from, linking-more, linking-done}
 use borrow.Author.Needs.{needs}
 use Rattle.links.proofs.link_nodes.Statement.{statement}
 use Rattle.links.proofs.link_nodes.Tie as tie
-use Rattle.links.proofs.link_nodes.Reads as reads
-use Rattle.links.proofs.link_nodes.Lts as lts
-use Rattle.links.proofs.marks_of.Reads as marks-of-reads
-use Rattle.links.proofs.find_next.Reads as find-next-reads
 
 back : (i : ℕ) → 0 < i → i ≡ suc (i - 1)
 back i h = omega arith
@@ -31,25 +26,16 @@ find-next-requires : tie.Need-find-next-requires Inv-loop μ-loop
 find-next-requires c κs = (linking-from _ _ _ (c .before .before .before .before .before .before .pre .0) (c .before .before .before .before .before .before .pre .1) _ _ _ (c .before .before .loop .inv) (back _ (c .before .loop-test .taken)), omega (arith, c .before .before .loop .inv .most, c .before .loop-test .taken))
 
 mul-links : tie.Need-mul-links Inv-loop μ-loop
-mul-links c = record { fits = omega (arith, c .find-next .ensures, next-most (now (c .before .before .before .before .before .before .before .args .key)) (now (c .before .before .before .before .before .before .before .args .total)) (c .before .before .before .before .before .before .before .pre .0) (c .before .before .before .loop .i - 1) (omega (arith, c .before .before .before .loop .inv .most, c .before .before .loop-test .taken))) }
-
-marks-of-requires : tie.Need-marks-of-requires Inv-loop μ-loop
-marks-of-requires c κs = (omega (arith, c .before .before .before .loop .inv .most, c .before .before .loop-test .taken), omega (arith, c .before .before .before .loop .inv .most, c .before .before .loop-test .taken, c .before .before .before .before .before .before .before .pre .0 .totals))
-
-add-links : tie.Need-add-links Inv-loop μ-loop
-add-links c = record { fits = omega (arith, c .before .find-next .ensures, next-most (now (c .before .before .before .before .before .before .before .before .args .key)) (now (c .before .before .before .before .before .before .before .before .args .total)) (c .before .before .before .before .before .before .before .before .pre .0) (c .before .before .before .before .loop .i - 1) (omega (arith, c .before .before .before .before .loop .inv .most, c .before .before .before .loop-test .taken)), c .marks-of .ensures, marks-few (now (c .before .before .before .before .before .before .before .before .args .key)) (now (c .before .before .before .before .before .before .before .before .args .total)) (c .before .before .before .before .loop .i - 1)) }
-
-mul-links-2 : tie.Need-mul-links-2 Inv-loop μ-loop
-mul-links-2 c = search needs
+mul-links c = search needs
 
 slice-write-links : tie.Need-slice-write-links Inv-loop μ-loop
-slice-write-links c = omega (arith, c .before .before .before .before .loop .inv .most, c .before .before .before .before .loop .inv .long, c .before .before .before .loop-test .taken, c .before .before .before .before .before .before .before .before .pre .1)
+slice-write-links c = omega (arith, c .before .before .before .loop .inv .most, c .before .before .before .loop .inv .long, c .before .before .loop-test .taken, c .before .before .before .before .before .before .before .pre .1)
 
 loop-less : tie.Need-loop-less Inv-loop μ-loop
-loop-less c = omega (arith, c .before .before .before .loop-test .taken)
+loop-less c = omega (arith, c .before .before .loop-test .taken)
 
 loop-again : tie.Need-loop-again Inv-loop μ-loop
-loop-again c = linking-more _ _ _ (c .before .before .before .before .before .before .before .before .pre .0) (c .before .before .before .before .before .before .before .before .pre .1) _ _ _ (c .before .before .before .before .loop .inv) (back _ (c .before .before .before .loop-test .taken)) _ _ (c .before .find-next .ensures) (c .marks-of .ensures)
+loop-again c = linking-more _ _ _ (c .before .before .before .before .before .before .before .pre .0) (c .before .before .before .before .before .before .before .pre .1) _ _ _ (c .before .before .before .loop .inv) (back _ (c .before .before .loop-test .taken)) _ (c .find-next .ensures)
 
 same-length : tie.Need-same-length Inv-loop μ-loop
 same-length c = c .before .loop .inv .long
@@ -59,4 +45,4 @@ returns c = linking-done _ _ _ (c .before .before .before .before .before .pre .
 
 pub link-nodes-spec : {M : Type 1} → statement M
 link-nodes-spec =
-    tie.close (tie.spec Inv-loop μ-loop loop-holds sub-i find-next-requires mul-links marks-of-requires add-links mul-links-2 slice-write-links loop-less loop-again same-length returns)
+    tie.close (tie.spec Inv-loop μ-loop loop-holds sub-i find-next-requires mul-links slice-write-links loop-less loop-again same-length returns)

@@ -1,11 +1,7 @@
 -- `links::stops` meets its contract.
-use native.Mathlib.Omega.{arith}
 use Rattle.links.proofs.Links.{goes-on, may-stop}
-use borrow.Author.Needs.{needs}
 use Rattle.links.proofs.stops.Statement.{statement}
 use Rattle.links.proofs.stops.Tie as tie
-use Rattle.links.proofs.stops.Reads as reads
-use Rattle.links.proofs.stops.Lts as lts
 
 returns : tie.Need-returns
 returns c = goes-on (c .before .args .level) (c .before .args .k) (c .before .args .n) (c .if1 .taken)

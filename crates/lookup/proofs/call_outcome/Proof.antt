@@ -1,11 +1,11 @@
 -- `lookup::call_outcome` meets its contract.
-use mathlib.Core.Path.{_≡_, refl, sym, _∙_}
+use mathlib.Core.Path.{refl, sym, _∙_}
 use native.Mathlib.Omega.{arith}
 use denote.Ref.{now}
 use borrow.Author.Tests.{not-true, not-false}
 use Rattle.morton.proofs.Checks.{axes-known}
 use Rattle.space.proofs.Refusals.{fine}
-use Rattle.tree.proofs.Verdict.{by-rule}
+use Rattle.lookup.proofs.TreeRule.{by-rule}
 use Rattle.lookup.proofs.Calls.{box-refused, no-shape, too-many, not-tree, short, called}
 use borrow.Author.Needs.{needs}
 use Rattle.lookup.proofs.call_outcome.Statement.{statement}
@@ -43,13 +43,13 @@ is-well-formed-requires : tie.Need-is-well-formed-requires
 is-well-formed-requires c κs = search needs
 
 returns-4 : tie.Need-returns-4
-returns-4 c = let a = c .before .before .before .before .before .before .before .before .before .before .before .before .args in let o = sym (c .before .before .before .before .before .before .box-outcome .ensures) ∙ c .before .before .before .before .enum-told .given .1 in let f = fine (a .b) o in let t = by-rule (a .b .axes) (now (a .key)) (now (a .own)) (now (a .begin)) (now (a .total)) _ (axes-known (a .b .axes) (f .least) (f .most)) refl ∙ sym (c .before .is-well-formed .ensures) ∙ not-true _ (c .if3 .taken) in not-tree (a .b) (now (a .key)) (now (a .own)) (now (a .begin)) (now (a .total)) (now (a .points)) (a .room) o (c .before .before .before .if1 .left) (c .before .before .if2 .left) t
+returns-4 c = let a = c .before .before .before .before .before .before .before .before .before .before .before .before .args in let o = sym (c .before .before .before .before .before .before .box-outcome .ensures) ∙ c .before .before .before .before .enum-told .given .1 in let f = fine (a .b) o in let t = by-rule (a .b .axes) (now (a .key)) (now (a .own)) (now (a .begin)) (now (a .total)) (axes-known (a .b .axes) (f .least) (f .most)) _ refl ∙ sym (c .before .is-well-formed .ensures) ∙ not-true _ (c .if3 .taken) in not-tree (a .b) (now (a .key)) (now (a .own)) (now (a .begin)) (now (a .total)) (now (a .points)) (a .room) o (c .before .before .before .if1 .left) (c .before .before .if2 .left) t
 
 returns-5 : tie.Need-returns-5
-returns-5 c = let a = c .before .before .before .before .before .before .before .before .before .before .before .before .before .args in let o = sym (c .before .before .before .before .before .before .before .box-outcome .ensures) ∙ c .before .before .before .before .before .enum-told .given .1 in let f = fine (a .b) o in let t = by-rule (a .b .axes) (now (a .key)) (now (a .own)) (now (a .begin)) (now (a .total)) _ (axes-known (a .b .axes) (f .least) (f .most)) refl ∙ sym (c .before .before .is-well-formed .ensures) ∙ not-false _ (c .before .if3 .left) in short (a .b) (now (a .key)) (now (a .own)) (now (a .begin)) (now (a .total)) (now (a .points)) (a .room) o (c .before .before .before .before .if1 .left) (c .before .before .before .if2 .left) t (c .if4 .taken)
+returns-5 c = let a = c .before .before .before .before .before .before .before .before .before .before .before .before .before .args in let o = sym (c .before .before .before .before .before .before .before .box-outcome .ensures) ∙ c .before .before .before .before .before .enum-told .given .1 in let f = fine (a .b) o in let t = by-rule (a .b .axes) (now (a .key)) (now (a .own)) (now (a .begin)) (now (a .total)) (axes-known (a .b .axes) (f .least) (f .most)) _ refl ∙ sym (c .before .before .is-well-formed .ensures) ∙ not-false _ (c .before .if3 .left) in short (a .b) (now (a .key)) (now (a .own)) (now (a .begin)) (now (a .total)) (now (a .points)) (a .room) o (c .before .before .before .before .if1 .left) (c .before .before .before .if2 .left) t (c .if4 .taken)
 
 returns-6 : tie.Need-returns-6
-returns-6 c = let a = c .before .before .before .before .before .before .before .before .before .before .before .before .before .args in let o = sym (c .before .before .before .before .before .before .before .box-outcome .ensures) ∙ c .before .before .before .before .before .enum-told .given .1 in let f = fine (a .b) o in let t = by-rule (a .b .axes) (now (a .key)) (now (a .own)) (now (a .begin)) (now (a .total)) _ (axes-known (a .b .axes) (f .least) (f .most)) refl ∙ sym (c .before .before .is-well-formed .ensures) ∙ not-false _ (c .before .if3 .left) in called (a .b) (now (a .key)) (now (a .own)) (now (a .begin)) (now (a .total)) (now (a .points)) (a .room) o (c .before .before .before .before .if1 .left) (c .before .before .before .if2 .left) t (c .if4 .left)
+returns-6 c = let a = c .before .before .before .before .before .before .before .before .before .before .before .before .before .args in let o = sym (c .before .before .before .before .before .before .before .box-outcome .ensures) ∙ c .before .before .before .before .before .enum-told .given .1 in let f = fine (a .b) o in let t = by-rule (a .b .axes) (now (a .key)) (now (a .own)) (now (a .begin)) (now (a .total)) (axes-known (a .b .axes) (f .least) (f .most)) _ refl ∙ sym (c .before .before .is-well-formed .ensures) ∙ not-false _ (c .before .if3 .left) in called (a .b) (now (a .key)) (now (a .own)) (now (a .begin)) (now (a .total)) (now (a .points)) (a .room) o (c .before .before .before .before .if1 .left) (c .before .before .before .if2 .left) t (c .if4 .left)
 
 pub call-outcome-spec : {M : Type 1} → statement M
 call-outcome-spec =

@@ -1,7 +1,5 @@
 -- `lookup::code_to_leaf` meets its contract.
-use native.Mathlib.Omega.{arith}
 use denote.Ref.{now}
-use Rattle.lookup.proofs.Batch.{depth-le}
 use Rattle.lookup.proofs.Single.{code-found, code-none}
 use borrow.Author.Needs.{needs}
 use Rattle.lookup.proofs.code_to_leaf.Statement.{statement}
@@ -15,7 +13,7 @@ depth-of-requires : tie.Need-depth-of-requires
 depth-of-requires c κs = search needs
 
 climb-to-requires : tie.Need-climb-to-requires
-climb-to-requires c κs = let a = c .before .before .args in (c .before .before .pre .0, c .before .before .pre .1, omega (arith, c .depth-of .ensures, depth-le (a .axes) (now (a .key)) (c .before .before .pre .1)), c .before .before .pre .2)
+climb-to-requires c κs = (c .before .before .pre, c .depth-of .ensures)
 
 enum-known-climb : tie.Need-enum-known-climb
 enum-known-climb c = search needs
@@ -24,10 +22,10 @@ enum-told : tie.Need-enum-told
 enum-told c = search needs
 
 returns : tie.Need-returns
-returns c = let a = c .before .before .before .before .before .before .args in code-found (a .axes) (now (a .key)) (a .code) _ (c .before .before .before .before .depth-of .ensures) (c .before .before .before .climb-to .result) (c .before .before .before .climb-to .ensures) _ _ (c .before .climb .given .1)
+returns c = let a = c .before .before .before .before .before .before .args in code-found (a .axes) (now (a .key)) (a .code) (c .before .before .before .climb-to .result) (c .before .before .before .climb-to .ensures) _ _ (c .before .climb .given .1)
 
 returns-2 : tie.Need-returns-2
-returns-2 c = let a = c .before .before .before .before .before .args in code-none (a .axes) (now (a .key)) (a .code) _ (c .before .before .before .depth-of .ensures) (c .before .before .climb-to .result) (c .before .before .climb-to .ensures) (c .enum-told .given .1)
+returns-2 c = let a = c .before .before .before .before .before .args in code-none (a .axes) (now (a .key)) (a .code) (c .before .before .climb-to .result) (c .before .before .climb-to .ensures) (c .enum-told .given .1)
 
 pub code-to-leaf-spec : {M : Type 1} → statement M
 code-to-leaf-spec =

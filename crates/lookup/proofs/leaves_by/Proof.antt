@@ -1,76 +1,81 @@
 -- `lookup::leaves_by` meets its contract.
-use mathlib.Core.Path.{_≡_, sym, ap, _∙_}
-use Prim.Native.Nat.{_-_, _+_, _≤_}
+use mathlib.Core.Path.{sym, _∙_}
+use Prim.Native.Nat.{_-_}
 use native.Mathlib.Omega.{arith}
 use denote.Ref.{now}
 use lib.ListN.{getD}
-use Rattle.lookup.specs.Lookup.{climbTo}
-use Rattle.lookup.proofs.Batch.{Looking, depth-le, climb-leaf, climb-not, look-start, look-old, look-room, look-few, look-more, look-failed, look-short, look-ended, look-written}
+use Rattle.morton.proofs.Checks.{axes-facts}
+use Rattle.lookup.proofs.Leaves.{depth-le}
+use Rattle.lookup.proofs.Batch.{Looking, climb-leaf, climb-not, look-start, look-room, look-few, look-more, look-failed, look-short, look-ended, look-written}
 use borrow.Author.Needs.{needs}
 use Rattle.lookup.proofs.leaves_by.Statement.{statement}
 use Rattle.lookup.proofs.leaves_by.Tie as tie
 use Rattle.lookup.proofs.leaves_by.Reads as reads
 use Rattle.lookup.proofs.leaves_by.Lts as lts
-use Rattle.tree.proofs.depth_of.Reads as depth-of-reads
 use Rattle.lookup.proofs.climb_by.Reads as climb-by-reads
+use Rattle.lookup.proofs.hints.hint_of.Reads as hint-of-reads
+use Rattle.tree.proofs.depth_of.Reads as depth-of-reads
 
 abbrev Inv-loop : tie.InvT-loop
-Inv-loop axes key own hints trial codes₀ n depth steps₀ row₀ codes steps row = Looking axes key n codes₀ row steps codes
+Inv-loop axes key words blocks codes₀ n depth steps₀ row₀ codes steps row = Looking axes key n codes₀ row steps codes
 
 abbrev μ-loop : tie.MeasureT-loop
-μ-loop axes key own hints trial codes₀ n depth steps₀ row₀ codes steps row = n - row
+μ-loop axes key words blocks codes₀ n depth steps₀ row₀ codes steps row = n - row
 
 depth-of-requires : tie.Need-depth-of-requires Inv-loop μ-loop
 depth-of-requires c κs = search needs
 
 loop-holds : tie.Need-loop-holds Inv-loop μ-loop
-loop-holds c = look-start _ _ _ _ (c .before .before .before .before .pre .1)
+loop-holds c = look-start _ _ _ _ (c .before .before .before .pre .1)
 
-mul-climb-by : tie.Need-mul-climb-by Inv-loop μ-loop
-mul-climb-by c = let a = c .before .before .before .before .before .before .args in let r = look-room (a .axes) (now (a .key)) (a .n) (now (a .codes)) (c .before .before .before .before .before .before .pre .1) (c .before .loop .row) (c .before .loop .steps) (c .before .loop .codes) (c .before .loop .inv) (c .loop-test .taken) in omega (arith, c .before .before .before .before .before .before .pre .2, c .loop-test .taken)
+mul-code : tie.Need-mul-code Inv-loop μ-loop
+mul-code c = let a = c .before .before .before .before .before .args in let p = c .before .before .before .before .before .pre in let r = look-room (a .axes) (now (a .key)) (a .n) (now (a .codes)) (p .1) (c .before .loop .row) (c .before .loop .steps) (c .before .loop .codes) (c .before .loop .inv) (c .loop-test .taken) in omega (arith, p .2, c .loop-test .taken)
 
-slice-read-climb-by : tie.Need-slice-read-climb-by Inv-loop μ-loop
-slice-read-climb-by c = let a = c .before .before .before .before .before .before .before .args in look-room (a .axes) (now (a .key)) (a .n) (now (a .codes)) (c .before .before .before .before .before .before .before .pre .1) (c .before .before .loop .row) (c .before .before .loop .steps) (c .before .before .loop .codes) (c .before .before .loop .inv) (c .before .loop-test .taken)
+slice-read-code : tie.Need-slice-read-code Inv-loop μ-loop
+slice-read-code c = let a = c .before .before .before .before .before .before .args in let p = c .before .before .before .before .before .before .pre in look-room (a .axes) (now (a .key)) (a .n) (now (a .codes)) (p .1) (c .before .before .loop .row) (c .before .before .loop .steps) (c .before .before .loop .codes) (c .before .before .loop .inv) (c .before .loop-test .taken)
+
+hint-of-requires : tie.Need-hint-of-requires Inv-loop μ-loop
+hint-of-requires c κs = axes-facts _ (c .before .before .before .before .before .before .pre .0 .axes) .1
 
 climb-by-requires : tie.Need-climb-by-requires Inv-loop μ-loop
-climb-by-requires c κs = let a = c .before .before .before .before .before .before .before .args in (c .before .before .before .before .before .before .before .pre .0, c .before .before .before .depth-of .ensures, omega (arith, look-old (a .axes) (now (a .key)) (a .n) (now (a .codes)) (c .before .before .before .before .before .before .before .pre .1) (c .before .before .loop .row) (c .before .before .loop .steps) (c .before .before .loop .codes) (c .before .before .loop .inv) (c .before .loop-test .taken), c .before .before .before .before .before .before .before .pre .3 (c .before .before .loop .row) (c .before .loop-test .taken)))
+climb-by-requires c κs = (c .before .before .before .before .before .before .before .pre .0, c .before .before .before .before .depth-of .ensures)
 
 enum-known-climb : tie.Need-enum-known-climb Inv-loop μ-loop
 enum-known-climb c = search needs
 
 mul-codes : tie.Need-mul-codes Inv-loop μ-loop
-mul-codes c = omega (arith, c .before .before .before .before .before .before .before .before .before .before .before .pre .2, c .before .before .before .before .before .loop-test .taken)
+mul-codes c = omega (arith, c .before .before .before .before .before .before .before .before .before .before .before .pre .2, c .before .before .before .before .before .before .loop-test .taken)
 
 slice-write-codes : tie.Need-slice-write-codes Inv-loop μ-loop
-slice-write-codes c = let a = c .before .before .before .before .before .before .before .before .before .before .before .args in look-room (a .axes) (now (a .key)) (a .n) (now (a .codes)) (c .before .before .before .before .before .before .before .before .before .before .before .pre .1) (c .before .before .before .before .before .before .loop .row) (c .before .before .before .before .before .before .loop .steps) (c .before .before .before .before .before .before .loop .codes) (c .before .before .before .before .before .before .loop .inv) (c .before .before .before .before .before .loop-test .taken)
+slice-write-codes c = let a = c .before .before .before .before .before .before .before .before .before .before .before .args in let p = c .before .before .before .before .before .before .before .before .before .before .before .pre in look-room (a .axes) (now (a .key)) (a .n) (now (a .codes)) (p .1) (c .before .before .before .before .before .before .before .loop .row) (c .before .before .before .before .before .before .before .loop .steps) (c .before .before .before .before .before .before .before .loop .codes) (c .before .before .before .before .before .before .before .loop .inv) (c .before .before .before .before .before .before .loop-test .taken)
 
 add-steps : tie.Need-add-steps Inv-loop μ-loop
-add-steps c = let a = c .before .before .before .before .before .before .before .before .before .before .before .args in let deep = depth-le (a .axes) (now (a .key)) (c .before .before .before .before .before .before .before .before .before .before .before .pre .0 .tree .ascends) in let f = climb-leaf (a .axes) (now (a .key)) (getD (c .before .before .before .before .before .before .loop .codes) (c .before .before .before .before .before .before .loop .row) 0) _ _ (sym (c .before .before .before .climb-by .ensures ∙ ap (λ t. climbTo (a .axes) (now (a .key)) t (getD (c .before .before .before .before .before .before .loop .codes) (c .before .before .before .before .before .before .loop .row) 0)) (c .before .before .before .before .before .before .before .depth-of .ensures)) ∙ c .before .climb .given .1) in omega (arith, look-few (a .axes) (now (a .key)) (a .n) (now (a .codes)) (c .before .before .before .before .before .before .before .before .before .before .before .pre .1) (c .before .before .before .before .before .before .loop .row) (c .before .before .before .before .before .before .loop .steps) (c .before .before .before .before .before .before .loop .codes) (c .before .before .before .before .before .before .loop .inv) (c .before .before .before .before .before .loop-test .taken) _ deep (f .2), c .before .before .before .before .before .before .before .before .before .before .before .pre .2, c .before .before .before .before .before .loop-test .taken)
+add-steps c = let a = c .before .before .before .before .before .before .before .before .before .before .before .args in let p = c .before .before .before .before .before .before .before .before .before .before .before .pre in let few = depth-le (a .axes) (now (a .key)) (p .0) 0 in let f = climb-leaf (a .axes) (now (a .key)) (getD (c .before .before .before .before .before .before .before .loop .codes) (c .before .before .before .before .before .before .before .loop .row) 0) _ _ (sym (c .before .before .before .climb-by .ensures) ∙ c .before .climb .given .1) in omega (arith, look-few (a .axes) (now (a .key)) (a .n) (now (a .codes)) (p .1) (c .before .before .before .before .before .before .before .loop .row) (c .before .before .before .before .before .before .before .loop .steps) (c .before .before .before .before .before .before .before .loop .codes) (c .before .before .before .before .before .before .before .loop .inv) (c .before .before .before .before .before .before .loop-test .taken) _ few (f .2), p .2, c .before .before .before .before .before .before .loop-test .taken)
 
 enum-told : tie.Need-enum-told Inv-loop μ-loop
 enum-told c = search needs
 
 same-length : tie.Need-same-length Inv-loop μ-loop
-same-length c = c .before .before .before .before .before .loop .inv .kept
+same-length c = c .before .before .before .before .before .before .loop .inv .kept
 
 returns : tie.Need-returns Inv-loop μ-loop
-returns c = let a = c .before .before .before .before .before .before .before .before .before .before .args in let f = climb-not (a .axes) (now (a .key)) (getD (c .before .before .before .before .before .loop .codes) (c .before .before .before .before .before .loop .row) 0) (sym (c .before .before .climb-by .ensures ∙ ap (λ t. climbTo (a .axes) (now (a .key)) t (getD (c .before .before .before .before .before .loop .codes) (c .before .before .before .before .before .loop .row) 0)) (c .before .before .before .before .before .before .depth-of .ensures)) ∙ c .enum-told .given .1) in (look-failed (a .axes) (now (a .key)) (a .n) (now (a .codes)) (c .before .before .before .before .before .before .before .before .before .before .pre .1) (c .before .before .before .before .before .loop .row) (c .before .before .before .before .before .loop .steps) (c .before .before .before .before .before .loop .codes) (c .before .before .before .before .before .loop .inv) (c .before .before .before .before .loop-test .taken) f, (c .before .before .before .before .before .loop .inv .kept, λ q. absurd (look-short (a .axes) (now (a .key)) (a .n) (now (a .codes)) (c .before .before .before .before .before .before .before .before .before .before .pre .1) (c .before .before .before .before .before .loop .row) (c .before .before .before .before .before .loop .steps) (c .before .before .before .before .before .loop .codes) (c .before .before .before .before .before .loop .inv) (c .before .before .before .before .loop-test .taken) f q)))
+returns c = let a = c .before .before .before .before .before .before .before .before .before .before .args in let p = c .before .before .before .before .before .before .before .before .before .before .pre in let f = climb-not (a .axes) (now (a .key)) (getD (c .before .before .before .before .before .before .loop .codes) (c .before .before .before .before .before .before .loop .row) 0) (sym (c .before .before .climb-by .ensures) ∙ c .enum-told .given .1) in (look-failed (a .axes) (now (a .key)) (a .n) (now (a .codes)) (p .1) (c .before .before .before .before .before .before .loop .row) (c .before .before .before .before .before .before .loop .steps) (c .before .before .before .before .before .before .loop .codes) (c .before .before .before .before .before .before .loop .inv) (c .before .before .before .before .before .loop-test .taken) f, (c .before .before .before .before .before .before .loop .inv .kept, λ q. absurd (look-short (a .axes) (now (a .key)) (a .n) (now (a .codes)) (p .1) (c .before .before .before .before .before .before .loop .row) (c .before .before .before .before .before .before .loop .steps) (c .before .before .before .before .before .before .loop .codes) (c .before .before .before .before .before .before .loop .inv) (c .before .before .before .before .before .loop-test .taken) f q)))
 
 add-row : tie.Need-add-row Inv-loop μ-loop
-add-row c = omega (arith, c .before .before .before .before .before .before .before .before .before .before .before .pre .2, c .before .before .before .before .before .loop-test .taken)
+add-row c = omega (arith, c .before .before .before .before .before .before .before .before .before .before .before .pre .2, c .before .before .before .before .before .before .loop-test .taken)
 
 loop-less : tie.Need-loop-less Inv-loop μ-loop
 loop-less c = search needs
 
 loop-again : tie.Need-loop-again Inv-loop μ-loop
-loop-again c = let a = c .before .before .before .before .before .before .before .before .before .before .before .args in let deep = depth-le (a .axes) (now (a .key)) (c .before .before .before .before .before .before .before .before .before .before .before .pre .0 .tree .ascends) in let f = climb-leaf (a .axes) (now (a .key)) (getD (c .before .before .before .before .before .before .loop .codes) (c .before .before .before .before .before .before .loop .row) 0) _ _ (sym (c .before .before .before .climb-by .ensures ∙ ap (λ t. climbTo (a .axes) (now (a .key)) t (getD (c .before .before .before .before .before .before .loop .codes) (c .before .before .before .before .before .before .loop .row) 0)) (c .before .before .before .before .before .before .before .depth-of .ensures)) ∙ c .before .climb .given .1) in look-more (a .axes) (now (a .key)) (a .n) (now (a .codes)) (c .before .before .before .before .before .before .before .before .before .before .before .pre .1) (c .before .before .before .before .before .before .loop .row) (c .before .before .before .before .before .before .loop .steps) (c .before .before .before .before .before .before .loop .codes) (c .before .before .before .before .before .before .loop .inv) (c .before .before .before .before .before .loop-test .taken) _ deep _ (f .0) (f .1) (f .2)
+loop-again c = let a = c .before .before .before .before .before .before .before .before .before .before .before .args in let p = c .before .before .before .before .before .before .before .before .before .before .before .pre in let few = depth-le (a .axes) (now (a .key)) (p .0) 0 in let f = climb-leaf (a .axes) (now (a .key)) (getD (c .before .before .before .before .before .before .before .loop .codes) (c .before .before .before .before .before .before .before .loop .row) 0) _ _ (sym (c .before .before .before .climb-by .ensures) ∙ c .before .climb .given .1) in look-more (a .axes) (now (a .key)) (a .n) (now (a .codes)) (p .1) (c .before .before .before .before .before .before .before .loop .row) (c .before .before .before .before .before .before .before .loop .steps) (c .before .before .before .before .before .before .before .loop .codes) (c .before .before .before .before .before .before .before .loop .inv) (c .before .before .before .before .before .before .loop-test .taken) _ few _ (f .0) (f .1) (f .2)
 
 same-length-2 : tie.Need-same-length-2 Inv-loop μ-loop
 same-length-2 c = c .before .loop .inv .kept
 
 returns-2 : tie.Need-returns-2 Inv-loop μ-loop
-returns-2 c = let a = c .before .before .before .before .before .before .args in (look-ended (a .axes) (now (a .key)) (a .n) (now (a .codes)) (c .before .before .before .before .before .before .pre .1) (c .before .loop .row) (c .before .loop .steps) (c .before .loop .codes) (c .before .loop .inv) (c .loop-test .left), (c .before .loop .inv .kept, λ q. look-written (a .axes) (now (a .key)) (a .n) (now (a .codes)) (c .before .before .before .before .before .before .pre .1) (c .before .loop .row) (c .before .loop .steps) (c .before .loop .codes) (c .before .loop .inv) (c .loop-test .left)))
+returns-2 c = let a = c .before .before .before .before .before .args in let p = c .before .before .before .before .before .pre in (look-ended (a .axes) (now (a .key)) (a .n) (now (a .codes)) (p .1) (c .before .loop .row) (c .before .loop .steps) (c .before .loop .codes) (c .before .loop .inv) (c .loop-test .left), (c .before .loop .inv .kept, λ q. look-written (a .axes) (now (a .key)) (a .n) (now (a .codes)) (p .1) (c .before .loop .row) (c .before .loop .steps) (c .before .loop .codes) (c .before .loop .inv) (c .loop-test .left)))
 
 pub leaves-by-spec : {M : Type 1} → statement M
 leaves-by-spec =
-    tie.close (tie.spec Inv-loop μ-loop depth-of-requires loop-holds mul-climb-by slice-read-climb-by climb-by-requires enum-known-climb mul-codes slice-write-codes add-steps enum-told same-length returns add-row loop-less loop-again same-length-2 returns-2)
+    tie.close (tie.spec Inv-loop μ-loop depth-of-requires loop-holds mul-code slice-read-code hint-of-requires climb-by-requires enum-known-climb mul-codes slice-write-codes add-steps enum-told same-length returns add-row loop-less loop-again same-length-2 returns-2)

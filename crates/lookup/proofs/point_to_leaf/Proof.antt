@@ -1,14 +1,11 @@
 -- `lookup::point_to_leaf` meets its contract.
 use mathlib.Core.Path.{sym, _∙_}
-use native.Mathlib.Omega.{arith}
 use denote.Ref.{now}
-use Rattle.space.specs.Cells.{frameOf}
 use Rattle.space.proofs.Refusals.{fine}
-use Rattle.space.proofs.Points.{code-small}
 use Rattle.morton.proofs.Checks.{axes-known}
-use Rattle.tree.proofs.Verdict.{rule-keys}
+use Rattle.lookup.proofs.TreeRule.{tree-keys}
 use Rattle.lookup.proofs.Steps.{with-steps}
-use Rattle.lookup.proofs.Single.{tree-stops, tree-fine, cell-code, single-in, single-out}
+use Rattle.lookup.proofs.Single.{tree-stops, tree-fine, single-in, single-out}
 use borrow.Author.Needs.{needs}
 use Rattle.lookup.proofs.point_to_leaf.Statement.{statement}
 use Rattle.lookup.proofs.point_to_leaf.Tie as tie
@@ -37,7 +34,7 @@ enum-known-deepest : tie.Need-enum-known-deepest
 enum-known-deepest c = search needs
 
 code-to-leaf-requires : tie.Need-code-to-leaf-requires
-code-to-leaf-requires c κs = let a = c .before .before .before .before .before .before .before .before .before .before .before .args in let e = sym (c .before .before .before .before .before .before .tree-outcome .ensures) ∙ c .before .before .before .before .enum-told .given .1 in let t = tree-fine (a .b) (now (a .key)) (now (a .own)) (now (a .begin)) (now (a .total)) (a .point) e in let f = fine (a .b) (t .0) in let k = cell-code (a .b) (now (a .key)) (now (a .own)) (now (a .begin)) (now (a .total)) (a .point) e (c .before .before .before .point-to-key .result) (c .before .before .before .point-to-key .ensures) _ (c .before .deepest .given .1) in (axes-known (a .b .axes) (f .least) (f .most), rule-keys (a .b .axes) (now (a .key)) (now (a .own)) (now (a .begin)) (now (a .total)) (t .1), omega (arith, k .1, code-small (frameOf (a .b)) (a .point) (f .most)))
+code-to-leaf-requires c κs = let a = c .before .before .before .before .before .before .before .before .before .before .before .args in let e = sym (c .before .before .before .before .before .before .tree-outcome .ensures) ∙ c .before .before .before .before .enum-told .given .1 in let t = tree-fine (a .b) (now (a .key)) (now (a .own)) (now (a .begin)) (now (a .total)) (a .point) e in let f = fine (a .b) (t .0) in tree-keys (a .b .axes) (now (a .key)) (now (a .own)) (now (a .begin)) (now (a .total)) (axes-known (a .b .axes) (f .least) (f .most)) (t .1)
 
 enum-known-deepest-2 : tie.Need-enum-known-deepest-2
 enum-known-deepest-2 c = search needs

@@ -1,9 +1,9 @@
 -- `lookup::points_to_keys` meets its contract.
-use mathlib.Core.Path.{_≡_, sym, _∙_}
+use mathlib.Core.Path.{sym, _∙_}
 use native.Mathlib.Omega.{arith}
 use denote.Ref.{now}
 use lib.ListN.{length}
-use Rattle.lookup.proofs.Calls.{Called, checked, early-answer, early-output, found-answer, found-output, late-answer, late-output}
+use Rattle.lookup.proofs.Calls.{checked, early-answer, early-output, found-answer, found-output, late-answer, late-output}
 use Rattle.lookup.proofs.Steps.{both-steps}
 use borrow.Author.Needs.{needs}
 use Rattle.lookup.proofs.points_to_keys.Statement.{statement}
@@ -37,7 +37,7 @@ div-rows : tie.Need-div-rows
 div-rows c = let a = c .before .before .before .before .before .before .before .before .before .args in omega (arith, checked (a .b) (now (a .key)) (now (a .own)) (now (a .begin)) (now (a .total)) (now (a .points)) (length (now (a .output))) (sym (c .before .before .call-outcome .ensures) ∙ c .enum-told .given .1) .box .least)
 
 look-up-requires : tie.Need-look-up-requires
-look-up-requires c κs = let a = c .before .before .before .before .before .before .before .before .before .before .args in let k = checked (a .b) (now (a .key)) (now (a .own)) (now (a .begin)) (now (a .total)) (now (a .points)) (length (now (a .output))) (sym (c .before .before .before .call-outcome .ensures) ∙ c .before .enum-told .given .1) in (k .box .least, k .box .most, k .owned, k .fits, k .few)
+look-up-requires c κs = let a = c .before .before .before .before .before .before .before .before .before .before .args in let k = checked (a .b) (now (a .key)) (now (a .own)) (now (a .begin)) (now (a .total)) (now (a .points)) (length (now (a .output))) (sym (c .before .before .before .call-outcome .ensures) ∙ c .before .enum-told .given .1) in (k .box .least, k .box .most, k .tree, k .fits, k .few)
 
 enum-known-found : tie.Need-enum-known-found
 enum-known-found c = search needs

@@ -1,4 +1,4 @@
--- `work::get_near_work` meets its contract.
+-- `near_work::get_near_work` meets its contract.
 use mathlib.Core.Path.{_≡_, sym, ap, _∙_}
 use mathlib.Core.Bool.{true}
 use denote.Ref.{now}

@@ -1,4 +1,4 @@
--- `work::near_work` meets its contract.
+-- `near_work::near_work` meets its contract.
 use mathlib.Core.Path.{_∙_}
 use Prim.Native.Nat.{_-_}
 use native.Mathlib.Omega.{arith}

@@ -1,4 +1,4 @@
--- `work::row_sources` meets its contract.
+-- `near_work::row_sources` meets its contract.
 use Prim.Native.Nat.{_-_}
 use native.Mathlib.Omega.{arith}
 use denote.Ref.{now}
@@ -10,10 +10,10 @@ use Rattle.near_work.proofs.row_sources.Statement.{statement}
 use Rattle.near_work.proofs.row_sources.Tie as tie
 
 abbrev Inv-loop : tie.InvT-loop
-Inv-loop key own row sources₀ i₀ sources i = Summing (ownOf key own) row i sources
+Inv-loop axes key own row sources₀ i₀ sources i = Summing (ownOf key own) row i sources
 
 abbrev μ-loop : tie.MeasureT-loop
-μ-loop key own row sources₀ i₀ sources i = length row - i
+μ-loop axes key own row sources₀ i₀ sources i = length row - i
 
 loop-holds : tie.Need-loop-holds Inv-loop μ-loop
 loop-holds c = let a = c .before .before .before .args in summing-none (ownOf (now (a .key)) (now (a .own))) (now (a .row))

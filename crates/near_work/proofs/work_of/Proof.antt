@@ -1,13 +1,12 @@
--- `work::work_of` meets its contract.
+-- `near_work::work_of` meets its contract.
 use mathlib.Core.Path.{sym, ap, _∙_, subst}
 use Prim.Native.Nat.{_≤_}
 use native.Mathlib.Omega.{arith}
 use denote.Ref.{now}
 use borrow.Author.Tests.{not-true, not-false}
 use Rattle.tree.specs.WellFormed.{mostSources}
-use Rattle.morton.proofs.Checks.{axes-known}
 use Rattle.rows.specs.Lists.{uRow}
-use Rattle.sourced.proofs.Below.{tree-ascends, own-length}
+use Rattle.sourced.proofs.Sound.{tree-keys, own-length}
 use Rattle.near_work.specs.Work.{rowSources}
 use Rattle.near_work.proofs.Sums.{beside, own-few, sources-few, work-none, work-some, product-fits}
 use Rattle.near_work.proofs.Columns.{read-row}
@@ -16,7 +15,7 @@ use Rattle.near_work.proofs.work_of.Statement.{statement}
 use Rattle.near_work.proofs.work_of.Tie as tie
 
 is-leaf-requires : tie.Need-is-leaf-requires
-is-leaf-requires c κs = let a = c .before .before .before .before .args in (axes-known (a .axes) (c .before .before .before .before .pre .0 .some) (c .before .before .before .before .pre .0 .most), tree-ascends (a .axes) (now (a .key)) (now (a .own)) (c .before .before .before .before .pre .0), c .before .before .before .before .pre .2)
+is-leaf-requires c κs = let a = c .before .before .before .before .args in (tree-keys (a .axes) (now (a .key)) (now (a .own)) (c .before .before .before .before .pre .0), c .before .before .before .before .pre .2)
 
 returns : tie.Need-returns
 returns c = let a = c .before .before .before .before .before .before .args in work-none (a .axes) (now (a .key)) (now (a .own)) _ (sym (c .before .is-leaf .ensures) ∙ not-true _ (c .if1 .taken))

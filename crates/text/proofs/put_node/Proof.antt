@@ -1,5 +1,6 @@
 -- `text::put_node` meets its contract.
 use mathlib.Core.Path.{ap}
+use native.Mathlib.Omega.{arith}
 use borrow.Author.Needs.{needs}
 use Rattle.text.specs.Listing.{field, nodeLine}
 use Rattle.text.proofs.Putting.{puts-join, puts-same}
@@ -28,7 +29,7 @@ put-row-requires : tie.Need-put-row-requires
 put-row-requires c κs = search needs
 
 put-row-requires-2 : tie.Need-put-row-requires-2
-put-row-requires-2 c κs = search needs
+put-row-requires-2 c κs = let s = c .before .before .before .before .before .before .before .before .before .before .before .before .before .before .before .before .before .before .before .before .before .before .before .before .before .before in omega (arith, s .pre)
 
 put-requires : tie.Need-put-requires
 put-requires c κs = search needs

@@ -1,34 +1,51 @@
 -- `tree::depth_of` meets its contract.
+use Rattle.tree.proofs.KeyTests.{depth-all}
+use native.Mathlib.Omega.{arith}
+use mathlib.Core.Path.{_≡_}
 use denote.Ref.{now}
-use Rattle.tree.proofs.KeyTests.{depth-none}
+use Prim.Native.Nat.{_≤_}
+use lib.ListN.{length, drop}
+use Rattle.tree.specs.Order.{depthOf}
+use Rattle.tree.proofs.KeyTests.{depth-none, depth-more, depth-same}
 use borrow.Author.Needs.{needs}
 use Rattle.tree.proofs.depth_of.Statement.{statement}
 use Rattle.tree.proofs.depth_of.Tie as tie
 use Rattle.tree.proofs.depth_of.Reads as reads
 use Rattle.tree.proofs.depth_of.Lts as lts
-use Rattle.morton.proofs.keys.level_of.Reads as level-of-reads
 
-returns : tie.Need-returns
-returns c = depth-none (now (c .before .before .args .key)) (c .if1 .taken)
+abbrev Inv-loop : tie.InvT-loop
+Inv-loop key depth₀ i₀ depth i = (i ≤ length key) × (depth ≡ depthOf (drop i key))
 
-sub-level-of : tie.Need-sub-level-of
-sub-level-of c = search needs
+abbrev μ-loop : tie.MeasureT-loop
+μ-loop key depth₀ i₀ depth i = i
 
-mul-level-of : tie.Need-mul-level-of
-mul-level-of c = search needs
+loop-holds : tie.Need-loop-holds Inv-loop μ-loop
+loop-holds c = (omega arith, depth-none (now (c .args .key)))
 
-shared-slice-read-level-of : tie.Need-shared-slice-read-level-of
-shared-slice-read-level-of c = search needs
+sub-i : tie.Need-sub-i Inv-loop μ-loop
+sub-i c = search needs
 
-level-of-requires : tie.Need-level-of-requires
-level-of-requires c κs = search needs
+mul-level : tie.Need-mul-level Inv-loop μ-loop
+mul-level c = search needs
 
-returns-2 : tie.Need-returns-2
-returns-2 c = search needs
+shared-slice-read-level : tie.Need-shared-slice-read-level Inv-loop μ-loop
+shared-slice-read-level c = search needs
 
-returns-3 : tie.Need-returns-3
-returns-3 c = search needs
+loop-less : tie.Need-loop-less Inv-loop μ-loop
+loop-less c = search needs
+
+loop-again : tie.Need-loop-again Inv-loop μ-loop
+loop-again c = (omega arith, depth-more _ _ _ _ (c .before .before .before .loop .inv .0) (omega arith) (c .before .before .before .loop .inv .1) (c .if1 .taken))
+
+loop-less-2 : tie.Need-loop-less-2 Inv-loop μ-loop
+loop-less-2 c = search needs
+
+loop-again-2 : tie.Need-loop-again-2 Inv-loop μ-loop
+loop-again-2 c = (omega arith, depth-same _ _ _ _ (c .before .before .before .loop .inv .0) (omega arith) (c .before .before .before .loop .inv .1) (c .if1 .left))
+
+returns : tie.Need-returns Inv-loop μ-loop
+returns c = depth-all _ _ _ (c .before .loop .inv .1) (c .loop-test .left)
 
 pub depth-of-spec : {M : Type 1} → statement M
 depth-of-spec =
-    tie.close (tie.spec returns sub-level-of mul-level-of shared-slice-read-level-of level-of-requires returns-2 returns-3)
+    tie.close (tie.spec Inv-loop μ-loop loop-holds sub-i mul-level shared-slice-read-level loop-less loop-again loop-less-2 loop-again-2 returns)

@@ -1,5 +1,6 @@
 -- `tree::find_node` meets its contract.
-use Rattle.tree.proofs.Halving.{none-left, other-there}
+use native.Mathlib.Omega.{arith}
+use Rattle.tree.proofs.Finding.{none-stored}
 use borrow.Author.Needs.{needs}
 use Rattle.tree.proofs.find_node.Statement.{statement}
 use Rattle.tree.proofs.find_node.Tie as tie
@@ -8,10 +9,10 @@ use Rattle.tree.proofs.find_node.Lts as lts
 use Rattle.tree.proofs.first_from.Reads as first-from-reads
 
 first-from-requires : tie.Need-first-from-requires
-first-from-requires c κs = search needs
+first-from-requires c κs = c .before .pre
 
 returns : tie.Need-returns
-returns c = none-left _ _ _ (c .before .first-from .ensures) (c .if1 .taken)
+returns c = none-stored _ _ _ _ (c .before .first-from .ensures) (λ l e. omega (arith, c .if1 .taken))
 
 mul-if2 : tie.Need-mul-if2
 mul-if2 c = search needs
@@ -20,7 +21,7 @@ shared-slice-read-if2 : tie.Need-shared-slice-read-if2
 shared-slice-read-if2 c = search needs
 
 returns-2 : tie.Need-returns-2
-returns-2 c = other-there _ _ _ (c .before .before .before .first-from .ensures) (c .before .before .if1 .left) (c .if2 .taken)
+returns-2 c = none-stored _ _ _ _ (c .before .before .before .first-from .ensures) (λ l e. c .if2 .taken e)
 
 returns-3 : tie.Need-returns-3
 returns-3 c = search needs

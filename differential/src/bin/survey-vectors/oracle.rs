@@ -1,4 +1,5 @@
-//! The customer's Rust, called unchanged: the tree of a survey in document 01's order, its lists and its lookups.
+//! The customer's Rust, called unchanged: the tree of a survey, its nodes level by level as a listing has them, its lists and
+//! its lookups.
 //!
 //! The refusals of the build are document 01's; the Rust has none.
 use crate::survey::{BOX, ORDER, POINT, ROOM, Refused, SOURCE, Survey, UNSTORED};
@@ -12,7 +13,7 @@ pub const NODES: usize = 2_048;
 pub const ENTRIES: usize = 8_192;
 
 pub struct Tree {
-    /// Keys by level, then ascending code.
+    /// Keys by level, then ascending code: the order of a listing, and not that of columns.
     pub keys: Vec<u64>,
     pub depth: u64,
     pub lists: TreeLists,

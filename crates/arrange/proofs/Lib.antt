@@ -1,4 +1,0 @@
-pub mod Mapped
-pub mod Numbers
-pub mod Passing
-pub mod Filling

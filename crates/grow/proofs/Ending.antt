@@ -1,0 +1,136 @@
+-- The end of the growth: the columns are those of the tree, and the words stand in the order of its order column.
+use mathlib.Core.Path.{_≡_, refl, sym, ap, ap₂, _∙_, subst}
+use mathlib.Core.Bool.{Bool, true, false, not, cond}
+use mathlib.Core.List.{List, [], _∷_, _++_, map, append-nil}
+use Prim.Native.Nat.{ℕ, zero, suc, _+_, _*_, _-_, _%_, _^_, _≤_, _<_, min}
+use native.Mathlib.Omega.{arith}
+use lib.ListN.{length, getD, set, take, drop, length-set, length-append}
+use lib.Pow.{low}
+use lib.Seq.{slice, take-suc, take-suc-set, drop-set-lt}
+use native.Mathlib.Numerals.{add-one}
+use Rattle.slices.specs.Lists.{filter, concatMap, Mem}
+use Rattle.slices.proofs.Counts.{here, there}
+use Rattle.morton.specs.Keys.{axesKnown}
+use Rattle.tree.specs.Nodes.{leaf}
+use Rattle.tree.specs.Totals.{totalIn, totalColumn}
+use Rattle.growth.specs.declared.Rule.{Rule}
+use Rattle.growth.specs.Columns.{ownColumn, beginColumn, indicesIn, orderColumn}
+use Rattle.growth.proofs.Arranged.{indices-hold}
+use Rattle.growth.proofs.Leaves.{leaf-unsplit}
+use Rattle.growth.proofs.Joined.{mem-concat}
+use Rattle.growth.specs.Nodes.{preorder, nodes}
+use Rattle.growth.proofs.CellTotals.{total-sources}
+use Rattle.dealing.specs.Dealt.{wordOf}
+use Rattle.dealing.proofs.Laws.{map-join}
+use Rattle.grow.specs.Cells.{Points, splitting, sizeOf, within, ownIn, ownedBy}
+use Rattle.grow.specs.Rows.{Columns}
+use Rattle.grow.specs.Setting.{Setting, Given}
+use Rattle.grow.specs.Steps.{Stands, Built, Grown, Coded, Grows, IndicesTaken}
+use Rattle.grow.proofs.Joins.{concat-same, concat-filter}
+use Rattle.grow.proofs.Putting.{map-agree}
+use Rattle.grow.proofs.Root.{pointsOf}
+
+module _ (g : Rule) (p : Points) (z : Setting) (v : Given g z p) where
+  abbrev keys : List ℕ
+  keys = nodes g (p .sources) (p .targets)
+
+  -- the leaves are the nodes that do not split
+  leaf-is : (k : ℕ) → Mem k (nodes g (p .sources) (p .targets)) → leaf (g .axes) (nodes g (p .sources) (p .targets)) k ≡ not (splitting g p k)
+  leaf-is k m = leaf-unsplit g (p .sources) (p .targets) (v .known) k m
+
+  pub owns-are : map (ownIn g p) (nodes g (p .sources) (p .targets)) ≡ ownColumn (g .axes) (nodes g (p .sources) (p .targets)) (p .sources)
+  unfolding ownColumn
+  owns-are = map-agree (ownIn g p) (λ k. cond (leaf (g .axes) (nodes g (p .sources) (p .targets)) k) (sizeOf g p k) 0) (nodes g (p .sources) (p .targets))
+      (λ k m. flip (splitting g p k) (sizeOf g p k) ∙ ap (λ (b : Bool). cond b (sizeOf g p k) 0) (sym (leaf-is k m)))
+    where
+      flip : (b : Bool) (x : ℕ) → cond b 0 x ≡ cond (not b) x 0
+      flip true x = refl
+      flip false x = refl
+
+  pub totals-are : map (sizeOf g p) (nodes g (p .sources) (p .targets)) ≡ totalColumn (g .axes) (nodes g (p .sources) (p .targets)) (ownColumn (g .axes) (nodes g (p .sources) (p .targets)) (p .sources))
+  totals-are = map-agree (sizeOf g p) (totalIn (g .axes) (nodes g (p .sources) (p .targets)) (ownColumn (g .axes) (nodes g (p .sources) (p .targets)) (p .sources))) (nodes g (p .sources) (p .targets))
+      (λ k m. sym (total-sources g (p .sources) (p .targets) (v .known) (v .codes) k m))
+
+  pub order-is : ownedBy g p (nodes g (p .sources) (p .targets)) ≡ orderColumn (g .axes) (nodes g (p .sources) (p .targets)) (p .sources)
+  unfolding ownedBy orderColumn
+  order-is =
+      concat-same (λ k. cond (splitting g p k) [] (within g p k)) (λ k. cond (leaf (g .axes) (nodes g (p .sources) (p .targets)) k) (within g p k) []) (nodes g (p .sources) (p .targets))
+      (λ k m. flip (splitting g p k) (within g p k) ∙ ap (λ (b : Bool). cond b (within g p k) []) (sym (leaf-is k m)))
+      ∙ sym (concat-filter (within g p) (leaf (g .axes) (nodes g (p .sources) (p .targets))) (nodes g (p .sources) (p .targets)))
+    where
+      flip : (b : Bool) (xs : List ℕ) → cond b [] xs ≡ cond (not b) xs []
+      flip true xs = refl
+      flip false xs = refl
+
+pub nodes-are : (g : Rule) (s t : List ℕ) → [] ++ preorder g s t (2 * 8) 0 ≡ nodes g s t
+unfolding nodes
+nodes-are g s t = refl
+
+-- all is put
+pub grown : (g : Rule) (z : Setting) (p : Points) (work work′ : List ℕ) (s : Columns) → Given g z p → length work′ ≡ length work → p .beyond ≡ drop (2 * z .sources) work
+    → Stands g z p work′ s (z .sources) ([] ++ preorder g (p .sources) (p .targets) (2 * 8) 0) [] → Grown g z (p .sources) (p .targets) work work′ s
+grown g z p work work′ s v len behind r = done-so (subst (λ (xs : List ℕ). Stands g z p work′ s (z .sources) xs []) (nodes-are g (p .sources) (p .targets)) r)
+  where
+    done-so : Stands g z p work′ s (z .sources) (nodes g (p .sources) (p .targets)) [] → Grown g z (p .sources) (p .targets) work work′ s
+    done-so q = record {
+      counted = q .rows .counted;
+      rows = λ h.
+          let few : length (nodes g (p .sources) (p .targets)) ≤ z .room = omega (arith, q .rows .counted) in
+          let same : length (nodes g (p .sources) (p .targets)) ≡ s .number = omega (arith, q .rows .counted) in
+          let f = q .rows .filled few in
+          record {
+            keys = ap (λ (i : ℕ). take i (s .key)) (sym same) ∙ f .keys;
+            owns = ap (λ (i : ℕ). take i (s .own)) (sym same) ∙ f .owns ∙ owns-are g p z v;
+            begins = ap (λ (i : ℕ). take i (s .begin)) (sym same) ∙ f .begins ∙ ap beginColumn (owns-are g p z v);
+            totals = ap (λ (i : ℕ). take i (s .total)) (sym same) ∙ f .totals ∙ totals-are g p z v;
+          };
+      words = q .words .words ∙ ap (map (wordOf (p .sources))) (append-nil (ownedBy g p (nodes g (p .sources) (p .targets))) ∙ order-is g p z v);
+      kept = len;
+      beyond = q .words .beyond ∙ behind;
+    }
+
+-- ---- the indices of the words
+word-index : (codes : List ℕ) (i : ℕ) → i < 1048576 → wordOf codes i % 1048576 ≡ i
+word-index codes i h = low (getD codes i 0 % 17592186044416) 20 h
+
+indices-of : (codes xs : List ℕ) → ((i : ℕ) → Mem i xs → i < 1048576) → map (λ w. w % 1048576) (map (wordOf codes) xs) ≡ xs
+indices-of codes [] h = refl
+indices-of codes (x ∷ xs) h = ap₂ (λ (a : ℕ) (t : List ℕ). a ∷ t) (word-index codes x (h x (here x xs))) (indices-of codes xs (λ i m. h i (there x i xs m)))
+
+-- what `take_indices` writes after a growth is the order column
+pub order-taken : (g : Rule) (z : Setting) (sources targets work work′ order order′ : List ℕ) (s : Columns) → length sources ≤ 1048576
+    → Grown g z sources targets work work′ s → IndicesTaken (z .sources) work′ order order′ → take (z .sources) order′ ≡ orderColumn (g .axes) (nodes g sources targets) sources
+unfolding orderColumn
+order-taken g z sources targets work work′ order order′ s few q t =
+    t .taken
+    ∙ ap (map (λ w. w % 1048576)) (q .words)
+    ∙ indices-of sources (orderColumn (g .axes) (nodes g sources targets) sources)
+    (λ i m. let r = mem-concat (indicesIn (g .axes) sources) (filter (leaf (g .axes) (nodes g sources targets)) (nodes g sources targets)) i m in omega (arith, indices-hold (g .axes) sources (r .0) i (r .2) .0))
+
+-- ---- the loop that takes them
+pub record Taking (n : ℕ) (work order₀ order : List ℕ) (i : ℕ) : Type 0 where
+  pub upto : i ≤ n
+  pub kept : length order ≡ length order₀
+  pub taken : take i order ≡ map (λ w. w % 1048576) (take i work)
+  pub rest : drop n order ≡ drop n order₀
+
+module _ (n : ℕ) (work order₀ : List ℕ) (inside : n ≤ length work) (room : n ≤ length order₀) where
+  pub taking-start : Taking n work order₀ order₀ 0
+  taking-start = record { upto = omega arith; kept = refl; taken = refl; rest = refl }
+
+  pub taking-more : (order : List ℕ) (i : ℕ) → Taking n work order₀ order i → i < n → Taking n work order₀ (set order i (getD work i 0 % 1048576)) (i + 1)
+  taking-more order i g l = record {
+    upto = omega arith;
+    kept = length-set order i (getD work i 0 % 1048576) ∙ g .kept;
+    taken =
+        ap (λ (j : ℕ). take j (set order i (getD work i 0 % 1048576))) (add-one i)
+        ∙ take-suc-set order i (getD work i 0 % 1048576) (omega (arith, g .kept))
+        ∙ ap (λ (t : List ℕ). t ++ (getD work i 0 % 1048576) ∷ []) (g .taken)
+        ∙ sym (ap (λ (j : ℕ). map (λ w. w % 1048576) (take j work)) (add-one i) ∙ ap (map (λ w. w % 1048576)) (take-suc work i 0 (omega arith)) ∙ map-join (λ w. w % 1048576) (take i work) (getD work i 0 ∷ []));
+    rest = drop-set-lt n order i (getD work i 0 % 1048576) l ∙ g .rest;
+  }
+
+  pub taking-done : (order : List ℕ) (i : ℕ) → Taking n work order₀ order i → n ≤ i → IndicesTaken n work order₀ order
+  taking-done order i g h =
+      let e : i ≡ n = omega (arith, g .upto) in
+      record { taken = ap (λ (j : ℕ). take j order) (sym e) ∙ g .taken ∙ ap (λ (j : ℕ). map (λ w. w % 1048576) (take j work)) e; rest = g .rest }

@@ -1,4 +1,0 @@
-pub mod Progress
-pub mod Marks
-pub mod Pairs
-pub mod Both

@@ -1,0 +1,9 @@
+-- What the listing printed of a tree whose nodes stood by level: one line a node, in the order of its numbers. No promise speaks of it: it serves the theorem that the text is what it was.
+use mathlib.Core.List.{List, _++_}
+use Prim.Native.Nat.{ℕ}
+use lib.ListN.{length}
+use Rattle.slices.specs.Lists.{range, concatMap}
+use Rattle.text.specs.Listing.{firstLine, nodeLine}
+
+abbrev pub listingByLevel : (key own : List ℕ) (u v : ℕ → List ℕ) → ℕ → ℕ → ℕ → ℕ → List ℕ
+listingByLevel key own u v axes depth sources work = firstLine axes (length key) depth sources work ++ concatMap (λ i. nodeLine key own u v i i) (range 0 (length key))

@@ -1,7 +1,0 @@
-pub mod Flags
-pub mod Sorted
-pub mod Growing
-pub mod Columns
-pub mod Answers
-pub mod Placed
-pub mod Returned

@@ -1,8 +1,0 @@
-pub mod TreeRule
-pub mod Leaves
-pub mod Searching
-pub mod Batch
-pub mod Calls
-pub mod Single
-pub mod Steps
-pub mod Lowest

@@ -1,4 +1,0 @@
-pub mod Search
-pub mod Lookup
-pub mod Batch
-pub mod Single

@@ -1,3 +1,0 @@
-pub mod Characters
-pub mod Digits
-pub mod Listing
