@@ -1,7 +1,7 @@
 /* Measures the stack that each call uses. A call runs on a thread whose stack is painted; the lowest place that has lost its
  * paint says how far the call went, with the arguments that its caller puts there. Prints the most that was seen over trees
- * that go deep in several ways, 512 bytes where it was less, and ends with an error if a call went further than the table in
- * the header says. c/test compiles and runs it. */
+ * that go deep or wide in several ways, 512 bytes where it was less, and ends with an error if a call went further than the
+ * table in the header says. c/test compiles and runs it. */
 #define _GNU_SOURCE
 #include "../include/lohandema.h"
 
@@ -9,7 +9,7 @@
 #include <stdio.h>
 #include <stdlib.h>
 
-enum { KIB = 1024, STACK = 512 * KIB, POINTS = 200, NODES = 1 << 17, KEYS = 1 << 20 };
+enum { KIB = 1024, STACK = 512 * KIB, POINTS = 20000, NODES = 1 << 17, KEYS = 1 << 22 };
 
 /* ---- what the calls are given */
 
@@ -19,6 +19,7 @@ static double sources[3 * POINTS], targets[3 * POINTS];
 static uint64_t work[3 * POINTS], key[NODES], u_keys[KEYS], v_keys[KEYS], output[POINTS], cells[NODES];
 static size_t order[POINTS], own[NODES], begin[NODES], total[NODES], u_starts[NODES + 1], v_starts[NODES + 1];
 static size_t starts[NODES + 1], indices[POINTS], nodes;
+static size_t points, limit;
 static lohandema_ended last;
 
 #define BOX centre, 32.0, axes
@@ -31,8 +32,8 @@ static void nothing(void)
 static void build_tree(void)
 {
     uint64_t depth;
-    last = lohandema_build_tree(BOX, sources, axes * POINTS, targets, axes * POINTS, 2, 1, true, true, work, 3 * POINTS,
-                                order, POINTS, key, NODES, own, NODES, begin, NODES, total, NODES, &nodes, &depth);
+    last = lohandema_build_tree(BOX, sources, axes * points, targets, axes * points, limit, 1, true, true, work, 3 * POINTS,
+                                order, points, key, NODES, own, NODES, begin, NODES, total, NODES, &nodes, &depth);
 }
 
 static void is_well_formed(void)
@@ -48,19 +49,19 @@ static void depth_of(void)
 static void leaf_sources(void)
 {
     size_t start;
-    lohandema_leaf_sources(own, nodes, begin, nodes, order, POINTS, nodes - 1, &start);
+    lohandema_leaf_sources(own, nodes, begin, nodes, order, points, nodes - 1, &start);
 }
 
 static void cell_sources(void)
 {
     size_t start;
-    lohandema_cell_sources(total, nodes, begin, nodes, order, POINTS, 0, &start);
+    lohandema_cell_sources(total, nodes, begin, nodes, order, points, 0, &start);
 }
 
 static void points_to_keys(void)
 {
     size_t steps;
-    last = lohandema_points_to_keys(BOX, COLUMNS, sources, axes * POINTS, output, POINTS, &steps);
+    last = lohandema_points_to_keys(BOX, COLUMNS, sources, axes * points, output, points, &steps);
 }
 
 static void point_to_leaf(void)
@@ -71,7 +72,7 @@ static void point_to_leaf(void)
 
 static void get_points_to_leaves_map(void)
 {
-    last = lohandema_get_points_to_leaves_map(axes, COLUMNS, output, POINTS, starts, NODES + 1, indices, POINTS);
+    last = lohandema_get_points_to_leaves_map(axes, COLUMNS, output, points, starts, NODES + 1, indices, points);
 }
 
 static void get_sourced_cells(void)
@@ -266,10 +267,17 @@ static double coordinate(int way, size_t point)
 
 static void make_points(int way)
 {
-    for (size_t i = 0; i < axes * POINTS; i++) {
+    for (size_t i = 0; i < axes * points; i++) {
         sources[i] = coordinate(way, i / axes);
         targets[i] = coordinate(way == SCATTERED ? TO_THE_LOW_CORNER : SCATTERED, i / axes);
     }
+}
+
+/* Few points with a small limit, for deep trees, or many with a larger one, for wide ones. */
+static void choose_number(int wide)
+{
+    points = wide ? POINTS : 200;
+    limit = wide ? 512 : 2;
 }
 
 /* ---- the measuring */
@@ -326,8 +334,9 @@ int main(void)
     if (stack == NULL)
         fail("no memory");
     for (axes = 1; axes <= 3; axes++)
-        for (int way = 0; way < WAYS; way++) {
-            make_points(way);
+        for (int way = 0; way < 2 * WAYS; way++) {
+            choose_number(way % 2);
+            make_points(way / 2);
             for (size_t call = 0; call < CALLS; call++)
                 measure(call);
         }

@@ -1,4 +1,4 @@
-"""What the command lines of the tools share: the version, and names of files to write."""
+"""What the command lines of the tools share: options that stand once, the version, and names of files to write."""
 
 import argparse
 import os
@@ -6,6 +6,22 @@ import os
 from survey_file import Refused, read_bytes
 
 ROOT = os.path.dirname(os.path.dirname(os.path.realpath(__file__)))
+
+
+class Once(argparse.Action):
+    """An option with a value. The last of two values would win without a word, so the second is refused."""
+
+    def __call__(self, parser, namespace, value, option=None):
+        given = namespace.__dict__.setdefault("given", set())
+        if option and self.dest in given:
+            parser.error("%s stands twice; leave one of them out" % option)
+        given.add(self.dest)
+        setattr(namespace, self.dest, value)
+
+
+def options_once(parser):
+    """Makes every option with a value one that stands once."""
+    parser.register("action", None, Once)
 
 
 class Version(argparse.Action):

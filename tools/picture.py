@@ -81,8 +81,8 @@ class Picture:
         for node in self.listing.nodes:
             rect = self.view.rect(node.key)
             if rect and self.view.shows(node):
-                hint = "node %d, key %d, level %d: %d readings" % (
-                    node.number, node.key, house.level_of(node.key), self.listing.held[node.key])
+                hint = "node %d, key %d, level %d: %s" % (
+                    node.number, node.key, house.level_of(node.key), some(self.listing.held[node.key], "reading"))
                 kind, fill = ("inner", CHOSEN) if self.in_cell(node.key) else ("cell", PLAIN)
                 shapes.append(box(rect, class_=kind, fill=fill, stroke=LINE, stroke_width=line_width(rect, 0.8), hint=hint))
         return shapes
@@ -104,8 +104,8 @@ class Picture:
         if not rect:
             return []
         node = self.listing.by_key[key]
-        hint = "%s: node %d, key %d, level %d: %d readings" % (
-            name, node.number, key, house.level_of(key), self.listing.held[key])
+        hint = "%s: node %d, key %d, level %d: %s" % (
+            name, node.number, key, house.level_of(key), some(self.listing.held[key], "reading"))
         shape = box(rect, class_=kind, data_key=key, fill=colour, stroke="#333333", stroke_width=line_width(rect, 1.2),
                     hint=hint)
         return [shape] + self.name_in(rect, name, ink_on(colour))

@@ -258,11 +258,16 @@ class Draw(ToolTest):
             "--cell 1 --leaf 6": "--cell marks what lies in a cell, and --leaf what a leaf sums; leave one of them out",
             "--key 3 --cell 1": "--cell marks what lies in a cell, and --key what a leaf sums; leave one of them out",
             "--cell 0 --at=1": "--cell marks what lies in a cell, and --at what a leaf sums; leave one of them out",
-            "-o -": "-o -: nothing is written to standard output; name a file",
-            "-o example.survey": "example.survey: would be written over example.survey; name another file",
+            "--cell 1 --cell 32769": "--cell stands twice; leave one of them out",
+            "--leaf 6 --leaf 4": "--leaf stands twice; leave one of them out",
+            "--out other": "--out stands twice; leave one of them out",
         }
         for arguments, message in bad.items():
             self.refused(message, "draw", "example.survey", "example.listing", "-o", "out", *arguments.split())
+        self.refused("-o -: nothing is written to standard output; name a file",
+                     "draw", "example.survey", "example.listing", "-o", "-")
+        self.refused("example.survey: would be written over example.survey; name another file",
+                     "draw", "example.survey", "example.listing", "-o", "example.survey")
         self.refused("--slice: z = 64.0 is outside the box of two-heights.survey",
                      "draw", "two-heights.survey", "two-heights.listing", "--slice", "z=64", "-o", "out")
 

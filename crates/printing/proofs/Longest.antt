@@ -23,7 +23,8 @@ use Rattle.build.specs.Outcomes.{buildOutcome}
 use Rattle.survey.specs.declared.Survey.{Survey}
 use Rattle.survey.specs.File.{fileOutcome, survey, sourceRows, targetRows}
 use Rattle.text.proofs.Bound.{listing-fits, refusal-most}
-use Rattle.report.specs.Report.{textOr, treeListing}
+use Rattle.text.specs.Listing.{treeListing}
+use Rattle.report.specs.Report.{textOr}
 use Rattle.printing.specs.Printed.{askedBy, columnsText, surveyText, fileText}
 
 text-most : (o : Outcome) (text : List ℕ) → (o ≡ Done → length text ≤ 481390) → length (textOr o text) ≤ 481390
@@ -31,9 +32,9 @@ text-most Done text f = f refl
 text-most (Refused r) text f = omega (arith, refusal-most r)
 
 columns-most : (d : ℕ) (key own begin total : List ℕ) (sources : ℕ) → length (columnsText d (columns key own begin total) sources) ≤ 481390
-columns-most d key own begin total sources = text-most (listsCheck d (columns key own begin total) 2049 8192 2049 8192) (treeListing d (columns key own begin total) sources) fits
+columns-most d key own begin total sources = text-most (listsCheck d (columns key own begin total) 2049 8192 2049 8192) (treeListing d key own sources) fits
   where
-    fits : listsCheck d (columns key own begin total) 2049 8192 2049 8192 ≡ Done → length (treeListing d (columns key own begin total) sources) ≤ 481390
+    fits : listsCheck d (columns key own begin total) 2049 8192 2049 8192 ≡ Done → length (treeListing d key own sources) ≤ 481390
     fits e =
         let p = both-done (startsCheck d (columns key own begin total) 2049 2049 then ask (leb (keysOf (uRow d key own) key) (keysRoom 8192)) (Room 6)) (ask (leb (keysOf (vRow d key own) key) (keysRoom 8192)) (Room 7)) e in
         let q = both-done (startsCheck d (columns key own begin total) 2049 2049) (ask (leb (keysOf (uRow d key own) key) (keysRoom 8192)) (Room 6)) (p .0) in

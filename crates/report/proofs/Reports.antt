@@ -17,9 +17,9 @@ use Rattle.sourced.proofs.Checks.{passed}
 use Rattle.interaction.specs.declared.ListsAnswer.the-variants as lists
 use Rattle.interaction.specs.Answers.{listsCheck, listsAnswer}
 use Rattle.interaction.proofs.Checks.{listed-tree, told-listed, told-refused}
-use Rattle.text.specs.Listing.{listing, refusalLine}
+use Rattle.text.specs.Listing.{listing, refusalLine, treeListing}
 use Rattle.text.proofs.Columns.{listing-read}
-use Rattle.report.specs.Report.{textOr, treeListing, treeText}
+use Rattle.report.specs.Report.{textOr, treeText}
 
 -- slices that are filled with rows hold them
 pub holds-rows : (row : ℕ → List ℕ) (keys starts flat : List ℕ) (n m : ℕ) → starts ≡ filled n (rowStarts row keys) → flat ≡ filled m (rowKeys row keys) → Written keys row starts flat
@@ -33,7 +33,7 @@ holds-rows row keys starts flat n m e f = record {
 module _ (d : ℕ) (keys own begin total : List ℕ) (us uk vs vk : ℕ) where
   pub text-refused : (sources : ℕ) (r : Refusal) → lists.Refused r ≡ listsAnswer d (columns keys own begin total) us uk vs vk → refusalLine r ≡ treeText d (columns keys own begin total) us uk vs vk sources
   text-refused sources r e =
-      sym (ap (λ (o : Outcome). textOr o (treeListing d (columns keys own begin total) sources)) (told-refused d keys own begin total us uk vs vk r e))
+      sym (ap (λ (o : Outcome). textOr o (treeListing d keys own sources)) (told-refused d keys own begin total us uk vs vk r e))
 
   module _ (a b : ℕ) (e : lists.Listed a b ≡ listsAnswer d (columns keys own begin total) us uk vs vk) where
     pub tree-sound : SoundTree d keys own
@@ -49,4 +49,4 @@ module _ (d : ℕ) (keys own begin total : List ℕ) (us uk vs vk : ℕ) where
     text-listed sources work depth ss sk ts tk ew ed wu wv =
         listing-read keys own ss sk ts tk (uRow d keys own) (vRow d keys own) wu wv d depth sources work
         ∙ ap₂ (λ (n w : ℕ). listing keys own (λ i. uRow d keys own (getD keys i 0)) (λ i. vRow d keys own (getD keys i 0)) d n sources w) ed ew
-        ∙ sym (ap (λ (o : Outcome). textOr o (treeListing d (columns keys own begin total) sources)) (told-listed d keys own begin total us uk vs vk a b e))
+        ∙ sym (ap (λ (o : Outcome). textOr o (treeListing d keys own sources)) (told-listed d keys own begin total us uk vs vk a b e))

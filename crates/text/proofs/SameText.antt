@@ -1,31 +1,31 @@
 -- Order 10: the listing prints of a tree in Z order what it printed of the tree by level, to the byte.
 use mathlib.Core.Path.{_≡_, refl, sym, ap, ap₂, _∙_, subst, fun-ext}
 use mathlib.Core.Bool.{true, cond}
-use mathlib.Core.List.{List, [], _∷_, _++_}
+use mathlib.Core.List.{List, [], _∷_, _++_, map}
 use Prim.Native.Nat.{ℕ, zero, suc, _+_, _/_, _%_, _<_}
 use native.Mathlib.Nat.{zero-add}
 use native.Mathlib.Omega.{arith}
 use native.Mathlib.Decide.{decLt}
 use lib.Dec.{ltb}
-use lib.ListN.{length, getD}
-use Rattle.slices.specs.Lists.{range, concatMap, Distinct}
+use lib.ListN.{length, getD, length-append}
+use Rattle.slices.specs.Lists.{range, concatMap, sum, Distinct}
 use Rattle.slices.proofs.Lists.{getD-range, getD-map}
 use Rattle.morton.specs.Keys.{levelOf, codeOf, axesKnown}
 use Rattle.tree.specs.Nodes.{ownOf}
-use Rattle.tree.specs.ByLevel.{depthByLevel}
 use Rattle.tree.proofs.ByLevel as byLevelNodes
 use Rattle.tree.proofs.Members.{own-at}
 use Rattle.rows.specs.Lists.{uRow, vRow, nearWork}
+use Rattle.rows.specs.Written.{rowKeys}
 use Rattle.growth.specs.declared.Rule.{Rule}
 use Rattle.growth.specs.ByLevel.{nodesByLevel}
 use Rattle.growth.specs.Columns.{ownColumn}
 use Rattle.growth.proofs.ByLevel.{level-some, level-ascending}
 use Rattle.growth.proofs.Runs.{length-own}
 use Rattle.tree.specs.Order.{depthOf}
-use Rattle.tree.specs.Arrangement.{SameTree, oldNumber}
+use Rattle.tree.specs.Arrangement.{Arrangement, SameTree, oldNumber}
 use Rattle.tree.proofs.Rules.{Ascending}
 use Rattle.tree.proofs.Ranges.{distinct, level-le}
-use Rattle.tree.proofs.Perm.{perm-length}
+use Rattle.tree.proofs.Perm.{perm-length, perm-sum}
 use Rattle.tree.proofs.Renumber.{renumbered}
 use Rattle.growth.specs.Nodes.{nodes}
 use Rattle.growth.proofs.Sorted.{nodes-ascending}
@@ -33,8 +33,8 @@ use Rattle.growth.proofs.SameRows.{same-u-row, same-v-row, same-near-work}
 use Rattle.growth.proofs.SameDepth.{same-depth}
 use Rattle.growth.proofs.BothOrders.{same-tree}
 use Rattle.text.specs.Digits.{decimal}
-use Rattle.text.specs.ByLevel.{listingByLevel}
-use Rattle.text.specs.Listing.{field, lettered, byLevel, firstLine, nodeLine, linesFrom, listing}
+use Rattle.text.specs.ByLevel.{listingByLevel, treeListingByLevel}
+use Rattle.text.specs.Listing.{field, lettered, byLevel, firstLine, nodeLine, linesFrom, listing, treeListing}
 use Rattle.text.proofs.Levels.{printed-node, old-numbers, all-printed}
 
 -- ---- lines
@@ -113,18 +113,27 @@ module _ (d : ℕ) (keys own keys′ own′ : List ℕ) (two : TwoOrders d keys 
           (sym (zero-add j))
           (same-line keys own keys′ own′ (λ i. u (getD keys i 0)) (λ i. v (getD keys i 0)) (λ i. u (getD keys′ i 0)) (λ i. v (getD keys′ i 0)) j (getD (byLevel keys) j 0) k (printed-own j l) (ap u k) (ap v k))
 
+-- ---- the numbers that decide whether a listing has room
+
+length-rows : (row : ℕ → List ℕ) (keys : List ℕ) → length (rowKeys row keys) ≡ sum (map (λ k. length (row k)) keys)
+unfolding concatMap sum
+length-rows row [] = refl
+length-rows row (k ∷ ks) = length-append (row k) (concatMap row ks) ∙ ap (λ (n : ℕ). length (row k) + n) (length-rows row ks)
+
+-- rows that go by the node's key have as many keys in both orders
+same-size : (keys keys′ : List ℕ) → Arrangement keys keys′ → (row : ℕ → List ℕ) → length (rowKeys row keys) ≡ length (rowKeys row keys′)
+same-size keys keys′ a row = length-rows row keys ∙ perm-sum keys keys′ a (λ k. length (row k)) ∙ sym (length-rows row keys′)
+
+module _ (d : ℕ) (keys own keys′ own′ : List ℕ) (same : SameTree keys own keys′ own′) where
+  pub same-u-size : length (rowKeys (uRow d keys own) keys) ≡ length (rowKeys (uRow d keys′ own′) keys′)
+  same-u-size = ap (λ (u : ℕ → List ℕ). length (rowKeys u keys)) (fun-ext (same-u-row d keys own keys′ own′ same)) ∙ same-size keys keys′ (same .arranged) (uRow d keys′ own′)
+
+  pub same-v-size : length (rowKeys (vRow d keys own) keys) ≡ length (rowKeys (vRow d keys′ own′) keys′)
+  same-v-size = ap (λ (v : ℕ → List ℕ). length (rowKeys v keys)) (fun-ext (same-v-row d keys own keys′ own′ same)) ∙ same-size keys keys′ (same .arranged) (vRow d keys′ own′)
+
 -- ---- with the tree's own rows, depth and near work
 
--- what is printed of a tree in Z order, and what was printed of one by level
-abbrev pub treeListed : ℕ → List ℕ → List ℕ → ℕ → List ℕ
-treeListed d keys own sources =
-    listing keys own (λ i. uRow d keys own (getD keys i 0)) (λ i. vRow d keys own (getD keys i 0)) d (depthOf keys) sources (nearWork d keys own)
-
-abbrev pub treeListedByLevel : ℕ → List ℕ → List ℕ → ℕ → List ℕ
-treeListedByLevel d keys own sources =
-    listingByLevel keys own (λ i. uRow d keys own (getD keys i 0)) (λ i. vRow d keys own (getD keys i 0)) d (depthByLevel keys) sources (nearWork d keys own)
-
-pub same-listing : (d : ℕ) (keys own keys′ own′ : List ℕ) → TwoOrders d keys own keys′ own′ → 0 < length keys′ → (sources : ℕ) → treeListed d keys own sources ≡ treeListedByLevel d keys′ own′ sources
+pub same-listing : (d : ℕ) (keys own keys′ own′ : List ℕ) → TwoOrders d keys own keys′ own′ → 0 < length keys′ → (sources : ℕ) → treeListing d keys own sources ≡ treeListingByLevel d keys′ own′ sources
 same-listing d keys own keys′ own′ two some sources =
     ap₂ (λ (u v : ℕ → List ℕ). listing keys own (λ i. u (getD keys i 0)) (λ i. v (getD keys i 0)) d (depthOf keys) sources (nearWork d keys own))
     (fun-ext (same-u-row d keys own keys′ own′ (two .same))) (fun-ext (same-v-row d keys own keys′ own′ (two .same)))
@@ -143,5 +152,17 @@ module _ (g : Rule) (s t : List ℕ) (known : axesKnown (g .axes) ≡ true) wher
     owns′ = length-own (g .axes) (nodesByLevel g s t) s;
   }
 
-  pub build-text : (sources : ℕ) → treeListed (g .axes) (nodes g s t) (ownColumn (g .axes) (nodes g s t) s) sources ≡ treeListedByLevel (g .axes) (nodesByLevel g s t) (ownColumn (g .axes) (nodesByLevel g s t) s) sources
+  pub build-text : (sources : ℕ) → treeListing (g .axes) (nodes g s t) (ownColumn (g .axes) (nodes g s t) s) sources ≡ treeListingByLevel (g .axes) (nodesByLevel g s t) (ownColumn (g .axes) (nodesByLevel g s t) s) sources
   build-text = same-listing (g .axes) (nodes g s t) (ownColumn (g .axes) (nodes g s t) s) (nodesByLevel g s t) (ownColumn (g .axes) (nodesByLevel g s t) s) build-orders (level-some g s t known)
+
+  -- as many nodes, U keys and V keys as before: a file has room where it had room
+  pub build-sizes : (length (nodes g s t) ≡ length (nodesByLevel g s t))
+      × (length (rowKeys (uRow (g .axes) (nodes g s t) (ownColumn (g .axes) (nodes g s t) s)) (nodes g s t))
+      ≡ length (rowKeys (uRow (g .axes) (nodesByLevel g s t) (ownColumn (g .axes) (nodesByLevel g s t) s)) (nodesByLevel g s t)))
+      × (length (rowKeys (vRow (g .axes) (nodes g s t) (ownColumn (g .axes) (nodes g s t) s)) (nodes g s t))
+      ≡ length (rowKeys (vRow (g .axes) (nodesByLevel g s t) (ownColumn (g .axes) (nodesByLevel g s t) s)) (nodesByLevel g s t)))
+  build-sizes = (
+    perm-length (nodes g s t) (nodesByLevel g s t) (build-orders .same .arranged),
+    same-u-size (g .axes) (nodes g s t) (ownColumn (g .axes) (nodes g s t) s) (nodesByLevel g s t) (ownColumn (g .axes) (nodesByLevel g s t) s) (build-orders .same),
+    same-v-size (g .axes) (nodes g s t) (ownColumn (g .axes) (nodes g s t) s) (nodesByLevel g s t) (ownColumn (g .axes) (nodesByLevel g s t) s) (build-orders .same),
+  )

@@ -9,6 +9,8 @@ use Rattle.refusal.specs.declared.Refusal.{Refusal}
 use Rattle.refusal.specs.Numbers.{numberOf, valueOf}
 use Rattle.slices.specs.Lists.{range, filter, concatMap, filled}
 use Rattle.morton.specs.Keys.{deepest, levelOf}
+use Rattle.tree.specs.Order.{depthOf}
+use Rattle.rows.specs.Lists.{uRow, vRow, nearWork}
 use Rattle.text.specs.declared.Text.{Text}
 use Rattle.text.specs.declared.Text.the-variants.{Length, Short}
 use Rattle.text.specs.Characters.{ascii}
@@ -63,6 +65,11 @@ module _ (key own : List ℕ) (u v : ℕ → List ℕ) where
 
   abbrev pub listing : ℕ → ℕ → ℕ → ℕ → List ℕ
   listing axes depth sources work = firstLine axes (length key) depth sources work ++ nodeLines
+
+-- the listing of a tree over d axes: the U and V row of each node, the depth, the sources, near work
+abbrev pub treeListing : (d : ℕ) (key own : List ℕ) → ℕ → List ℕ
+treeListing d key own sources =
+    listing key own (λ i. uRow d key own (getD key i 0)) (λ i. vRow d key own (getD key i 0)) d (depthOf key) sources (nearWork d key own)
 
 -- ---- a text in a slice with so much room
 
