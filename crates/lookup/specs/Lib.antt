@@ -1,4 +1,3 @@
-pub mod Search
 pub mod Lookup
 pub mod Batch
 pub mod Single

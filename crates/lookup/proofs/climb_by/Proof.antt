@@ -7,7 +7,7 @@ use Rattle.lookup.proofs.climb_by.Statement.{statement}
 use Rattle.lookup.proofs.climb_by.Tie as tie
 use Rattle.lookup.proofs.climb_by.Reads as reads
 use Rattle.lookup.proofs.climb_by.Lts as lts
-use Rattle.lookup.proofs.search.leaf_from.Reads as leaf-from-reads
+use Rattle.leaf_search.proofs.leaf_from.Reads as leaf-from-reads
 use Rattle.lookup.proofs.end_of.Reads as end-of-reads
 
 leaf-from-requires : tie.Need-leaf-from-requires

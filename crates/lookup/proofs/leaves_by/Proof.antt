@@ -13,7 +13,7 @@ use Rattle.lookup.proofs.leaves_by.Tie as tie
 use Rattle.lookup.proofs.leaves_by.Reads as reads
 use Rattle.lookup.proofs.leaves_by.Lts as lts
 use Rattle.lookup.proofs.climb_by.Reads as climb-by-reads
-use Rattle.lookup.proofs.hints.hint_of.Reads as hint-of-reads
+use Rattle.hints.proofs.hint_of.Reads as hint-of-reads
 use Rattle.tree.proofs.depth_of.Reads as depth-of-reads
 
 abbrev Inv-loop : tie.InvT-loop
