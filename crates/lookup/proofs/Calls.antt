@@ -30,27 +30,27 @@ use Rattle.tree.specs.Columns.{columns}
 use Rattle.tree.specs.WellFormed.{wellFormed}
 use Rattle.tree.specs.Finding.{TreeKeys}
 use Rattle.lookup.proofs.TreeRule.{tree-keys}
-use Rattle.lookup.specs.declared.Climbs.{Climbs}
-use Rattle.lookup.specs.declared.Climbs.the-variants.{Ended, Failed}
+use Rattle.lookup.specs.declared.Holders.{Holders}
+use Rattle.lookup.specs.declared.Holders.the-variants.{All, Missing}
 use Rattle.lookup.specs.declared.LookedUp.{LookedUp}
 use Rattle.lookup.specs.declared.LookedUp.the-variants.{Found, Refused as NotFound}
 use Rattle.tree.specs.Leaves.{leafKey}
-use Rattle.lookup.specs.Batch.{heldBefore, leafKeys, stepsSum, endedOr, climbsOf, insideOf, codesInside, callOutcome, pointsOutcome, lookupOutcome, foundOr}
+use Rattle.lookup.specs.Batch.{heldBefore, leafKeys, stepsSum, allOr, holdersOf, insideOf, codesInside, callOutcome, pointsOutcome, lookupOutcome, foundOr}
 
--- ---- the end of the climbs
+-- ---- the leaves of a batch
 module _ (d : ℕ) (keys codes : List ℕ) where
-  pub climbs-failed : (row : ℕ) → climbsOf d keys codes ≡ Failed row → (heldBefore d keys codes ≡ length codes → ⊥) × (row ≡ heldBefore d keys codes)
-  climbs-failed row h = go (eqb (heldBefore d keys codes) (length codes)) refl h
+  pub holders-missing : (row : ℕ) → holdersOf d keys codes ≡ Missing row → (heldBefore d keys codes ≡ length codes → ⊥) × (row ≡ heldBefore d keys codes)
+  holders-missing row h = go (eqb (heldBefore d keys codes) (length codes)) refl h
     where
-      go : (t : Bool) → eqb (heldBefore d keys codes) (length codes) ≡ t → endedOr t (stepsSum d keys codes) (heldBefore d keys codes) ≡ Failed row
+      go : (t : Bool) → eqb (heldBefore d keys codes) (length codes) ≡ t → allOr t (stepsSum d keys codes) (heldBefore d keys codes) ≡ Missing row
           → (heldBefore d keys codes ≡ length codes → ⊥) × (row ≡ heldBefore d keys codes)
       go true e g = let z : _≡_ {A = ℕ} 0 1 = cc in absurd (omega arith)
       go false e g = (eqb-false (heldBefore d keys codes) (length codes) e, (cc))
 
-  pub climbs-ended : (steps : ℕ) → climbsOf d keys codes ≡ Ended steps → (heldBefore d keys codes ≡ length codes) × (steps ≡ stepsSum d keys codes)
-  climbs-ended steps h = go (eqb (heldBefore d keys codes) (length codes)) refl h
+  pub holders-all : (steps : ℕ) → holdersOf d keys codes ≡ All steps → (heldBefore d keys codes ≡ length codes) × (steps ≡ stepsSum d keys codes)
+  holders-all steps h = go (eqb (heldBefore d keys codes) (length codes)) refl h
     where
-      go : (t : Bool) → eqb (heldBefore d keys codes) (length codes) ≡ t → endedOr t (stepsSum d keys codes) (heldBefore d keys codes) ≡ Ended steps
+      go : (t : Bool) → eqb (heldBefore d keys codes) (length codes) ≡ t → allOr t (stepsSum d keys codes) (heldBefore d keys codes) ≡ All steps
           → (heldBefore d keys codes ≡ length codes) × (steps ≡ stepsSum d keys codes)
       go true e g = (eqb-true (heldBefore d keys codes) (length codes) e, (cc))
       go false e g = let z : _≡_ {A = ℕ} 0 1 = cc in absurd (omega arith)
@@ -84,20 +84,20 @@ module _ (b : Box) (keys : List ℕ) (xs : List Float) (old out : List ℕ) (row
   codes-room h = ap length w ∙ length-append (codesInside b xs) (drop (rowsInside b xs) old) ∙ omega (arith, size, first-is, first-le, length-drop (rowsInside b xs) old)
 
   -- the answers
-  module _ (climbs : Climbs) (c : climbs ≡ climbsOf (b .axes) keys (take first out)) where
-    told : climbs ≡ climbsOf (b .axes) keys (codesInside b xs)
-    told = c ∙ ap (climbsOf (b .axes) keys) codes-are
+  module _ (holders : Holders) (c : holders ≡ holdersOf (b .axes) keys (take first out)) where
+    told : holders ≡ holdersOf (b .axes) keys (codesInside b xs)
+    told = c ∙ ap (holdersOf (b .axes) keys) codes-are
 
-    pub look-unstored : (row : ℕ) → climbs ≡ Failed row → NotFound (Unstored row) ≡ foundOr (pointsOutcome b keys xs) (stepsSum (b .axes) keys (codesInside b xs))
+    pub look-unstored : (row : ℕ) → holders ≡ Missing row → NotFound (Unstored row) ≡ foundOr (pointsOutcome b keys xs) (stepsSum (b .axes) keys (codesInside b xs))
     unfolding pointsOutcome
     look-unstored row f =
-        let t = climbs-failed (b .axes) keys (codesInside b xs) row (sym told ∙ f) in
+        let t = holders-missing (b .axes) keys (codesInside b xs) row (sym told ∙ f) in
         let n : heldBefore (b .axes) keys (codesInside b xs) ≡ rowsInside b xs → ⊥ = λ q. t .0 (q ∙ sym first-is ∙ sym size) in
         ap (λ (i : ℕ). NotFound (Unstored i)) (t .1) ∙ rw (ne-eqb (heldBefore (b .axes) keys (codesInside b xs)) (rowsInside b xs) n)
 
-    module _ (steps : ℕ) (f : climbs ≡ Ended steps) where
+    module _ (steps : ℕ) (f : holders ≡ All steps) where
       held-all : heldBefore (b .axes) keys (codesInside b xs) ≡ rowsInside b xs
-      held-all = climbs-ended (b .axes) keys (codesInside b xs) steps (sym told ∙ f) .0 ∙ size ∙ first-is
+      held-all = holders-all (b .axes) keys (codesInside b xs) steps (sym told ∙ f) .0 ∙ size ∙ first-is
 
       pub look-outside : (first ≡ rowsOf b xs → ⊥) → NotFound (Point first) ≡ foundOr (pointsOutcome b keys xs) (stepsSum (b .axes) keys (codesInside b xs))
       unfolding pointsOutcome
@@ -108,7 +108,7 @@ module _ (b : Box) (keys : List ℕ) (xs : List Float) (old out : List ℕ) (row
       pub look-found : first ≡ rowsOf b xs → Found steps ≡ foundOr (pointsOutcome b keys xs) (stepsSum (b .axes) keys (codesInside b xs))
       unfolding pointsOutcome
       look-found q =
-          ap Found (climbs-ended (b .axes) keys (codesInside b xs) steps (sym told ∙ f) .1)
+          ap Found (holders-all (b .axes) keys (codesInside b xs) steps (sym told ∙ f) .1)
           ∙ rw (eq-eqb (heldBefore (b .axes) keys (codesInside b xs)) (rowsInside b xs) held-all, eq-eqb (rowsInside b xs) (rowsOf b xs) (sym first-is ∙ q))
 
   -- the output, where nothing is refused

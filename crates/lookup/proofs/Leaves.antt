@@ -1,4 +1,4 @@
--- A climb's end, as the leaf's key and the steps.
+-- The leaf that holds a code, as its key and the steps.
 use mathlib.Core.Path.{_≡_, refl, sym, ap, ap₂, _∙_}
 use mathlib.Core.Bool.{Bool, true, false, cond}
 use mathlib.Core.List.{List}
@@ -19,14 +19,14 @@ use Rattle.tree.specs.declared.Found.{Found}
 use Rattle.tree.specs.declared.Found.the-variants.{At, Nothing}
 use Rattle.tree.proofs.Ranges.{level-le, distinct}
 use Rattle.tree.proofs.Leaves.{tree-of, place-is, greatest-le}
-use Rattle.lookup.specs.Lookup.{leafOr, climbTo, climbAt, Reached, Steps}
-use Rattle.lookup.specs.declared.Climb.the-variants.{Leaf, Unstored}
+use Rattle.lookup.specs.Lookup.{leafOr, holderOf, holderAt, FoundWithin, Steps}
+use Rattle.lookup.specs.declared.Holder.the-variants.{Leaf, Unstored}
 
 module _ (d : ℕ) (keys : List ℕ) (k : TreeKeys d keys) (code : ℕ) where
   pub depth-le : depthOf keys ≤ 16
   depth-le = omega (arith, greatest-le keys 16 (level-le d keys (tree-of d keys k .ascending)))
 
--- ---- the climb
+-- ---- the climb of the definition
 module _ (d : ℕ) (keys : List ℕ) (code : ℕ) where
   pub climb-le : (l : ℕ) → climbed d keys code l ≤ l
   unfolding climbed
@@ -69,7 +69,7 @@ module _ (d : ℕ) (keys : List ℕ) (k : TreeKeys d keys) (code : ℕ) where
     few = omega (arith, ltb-true 0 (leafLevel d keys code) h, depth-le d keys k code);
   }
 
-  -- ---- a climb that found this
+  -- ---- what a search found
   module _ (depth : ℕ) (e : depth ≡ depthOf keys) (r : Found) (q : r ≡ leafOf d keys code) where
     told : (node : ℕ) → r ≡ At node → (held d keys code ≡ true) × (node ≡ leafNumber d keys code)
     told node f = go (held d keys code) refl (sym q ∙ f)
@@ -81,21 +81,21 @@ module _ (d : ℕ) (keys : List ℕ) (k : TreeKeys d keys) (code : ℕ) where
     key-told : (node : ℕ) → r ≡ At node → getD keys node 0 ≡ leafKey d keys code
     key-told node f = ap (λ j. getD keys j 0) (told node f .1) ∙ numbered (told node f .0) .1
 
-    pub climb-reached : Reached keys depth r
-    climb-reached = record {
+    pub holder-within : FoundWithin keys depth r
+    holder-within = record {
       number = λ node f. omega (arith, told node f .1, numbered (told node f .0) .0);
       within = λ node f. omega (arith, ap levelOf (key-told node f), level-is, level-le-depth);
     }
 
-    pub climb-at : climbAt keys depth r ≡ climbTo d keys code
-    climb-at = go r refl
+    pub holder-told : holderAt keys depth r ≡ holderOf d keys code
+    holder-told = go r refl
       where
-        go : (f : Found) → r ≡ f → climbAt keys depth f ≡ climbTo d keys code
+        go : (f : Found) → r ≡ f → holderAt keys depth f ≡ holderOf d keys code
         go (At node) f =
             ap₂ Leaf (key-told node f) (ap₂ _-_ e (ap levelOf (key-told node f) ∙ level-is))
             ∙ sym (ap (λ b. leafOr b (leafKey d keys code) (stepsTo d keys code)) (told node f .0))
         go Nothing f = none (held d keys code) refl (sym q ∙ f)
           where
-            none : (b : Bool) → held d keys code ≡ b → foundIf b (leafNumber d keys code) ≡ Nothing → Unstored ≡ climbTo d keys code
+            none : (b : Bool) → held d keys code ≡ b → foundIf b (leafNumber d keys code) ≡ Nothing → Unstored ≡ holderOf d keys code
             none false h g = sym (ap (λ b. leafOr b (leafKey d keys code) (stepsTo d keys code)) h)
             none true h g = let z : _≡_ {A = ℕ} 0 1 = cc in absurd (omega arith)

@@ -23,22 +23,22 @@ use Rattle.points.specs.Calls.{pointToKey}
 use Rattle.space.proofs.Refusals.{level-fine}
 use Rattle.points.proofs.Checked.{point-out}
 use Rattle.points.proofs.Answers.{refused-key, done-key}
-use Rattle.lookup.specs.declared.Climb.{Climb}
-use Rattle.lookup.specs.declared.Climb.the-variants.{Leaf, Unstored as NoClimb}
+use Rattle.lookup.specs.declared.Holder.{Holder}
+use Rattle.lookup.specs.declared.Holder.the-variants.{Leaf, Unstored as NoHolder}
 use Rattle.lookup.specs.declared.PointLeaf.the-variants.{Leaf as Found, Refused as NoLeaf}
-use Rattle.lookup.specs.Lookup.{climbTo}
+use Rattle.lookup.specs.Lookup.{holderOf}
 use Rattle.lookup.specs.Single.{treeOutcome, leafOrRefusal, codeLeaf, pointToLeaf}
-use Rattle.lookup.proofs.Batch.{climb-leaf, climb-not}
+use Rattle.lookup.proofs.Batch.{holder-leaf, holder-none}
 
 -- ---- the leaf of a code
-module _ (d : ℕ) (keys : List ℕ) (code : ℕ) (r : Climb) (q : r ≡ climbTo d keys code) where
+module _ (d : ℕ) (keys : List ℕ) (code : ℕ) (r : Holder) (q : r ≡ holderOf d keys code) where
   pub code-found : (k s : ℕ) → r ≡ Leaf k s → Found k s ≡ codeLeaf d keys code
   code-found k s f =
-      let c = climb-leaf d keys code k s (sym q ∙ f) in
+      let c = holder-leaf d keys code k s (sym q ∙ f) in
       ap₂ Found (c .1) (c .2) ∙ sym (ap (λ t. leafOrRefusal (ask t (Unstored 0)) (leafKey d keys code) (stepsTo d keys code)) (c .0))
 
-  pub code-none : r ≡ NoClimb → NoLeaf (Unstored 0) ≡ codeLeaf d keys code
-  code-none f = sym (ap (λ t. leafOrRefusal (ask t (Unstored 0)) (leafKey d keys code) (stepsTo d keys code)) (climb-not d keys code (sym q ∙ f)))
+  pub code-none : r ≡ NoHolder → NoLeaf (Unstored 0) ≡ codeLeaf d keys code
+  code-none f = sym (ap (λ t. leafOrRefusal (ask t (Unstored 0)) (leafKey d keys code) (stepsTo d keys code)) (holder-none d keys code (sym q ∙ f)))
 
 -- ---- the box and the tree
 module _ (b : Box) (keys own begin total : List ℕ) where

@@ -21,8 +21,8 @@ use Rattle.tree.specs.Columns.{Columns}
 use Rattle.tree.specs.WellFormed.{wellFormed}
 use Rattle.grouping.specs.Batches.{passing}
 use Rattle.tree.specs.Leaves.{held, leafKey, stepsTo}
-use Rattle.lookup.specs.declared.Climbs.{Climbs}
-use Rattle.lookup.specs.declared.Climbs.the-variants.{Ended, Failed}
+use Rattle.lookup.specs.declared.Holders.{Holders}
+use Rattle.lookup.specs.declared.Holders.the-variants.{All, Missing}
 use Rattle.lookup.specs.declared.LookedUp.{LookedUp}
 use Rattle.lookup.specs.declared.LookedUp.the-variants.{Found, Refused as NotFound}
 
@@ -37,12 +37,12 @@ leafKeys d keys codes = map (leafKey d keys) codes
 abbrev pub stepsSum : ℕ → List ℕ → List ℕ → ℕ
 stepsSum d keys codes = sum (map (stepsTo d keys) codes)
 
-abbrev pub endedOr : Bool → ℕ → ℕ → Climbs
-endedOr true steps row = Ended steps
-endedOr false steps row = Failed row
+abbrev pub allOr : Bool → ℕ → ℕ → Holders
+allOr true steps row = All steps
+allOr false steps row = Missing row
 
-abbrev pub climbsOf : ℕ → List ℕ → List ℕ → Climbs
-climbsOf d keys codes = endedOr (eqb (heldBefore d keys codes) (length codes)) (stepsSum d keys codes) (heldBefore d keys codes)
+abbrev pub holdersOf : ℕ → List ℕ → List ℕ → Holders
+holdersOf d keys codes = allOr (eqb (heldBefore d keys codes) (length codes)) (stepsSum d keys codes) (heldBefore d keys codes)
 
 -- how many rows stand before the first that is outside
 abbrev pub insideOf : Rows → ℕ → ℕ
