@@ -9,8 +9,8 @@ ghost use Rattle.morton.specs.Keys.{axesKnown, levelOf, above};
 ghost use Rattle.tree.specs.Order.{first};
 ghost use Rattle.tree.specs.declared.Found.the-variants.{At};
 ghost use Rattle.tree.specs.Leaves.{leafOf};
-ghost use Rattle.tree.specs.Finding.{TreeKeys, LastNode};
-ghost use Rattle.leaf_search.specs.Search.{leafHolds, Between};
+ghost use Rattle.tree.specs.Finding.{TreeKeys};
+ghost use Rattle.leaf_search.specs.Search.{leafHolds, LastNode, Between};
 
 // The cell of a level-16 code at the level of node k, as a code.
 fn up_to(axes: usize, k: u64, code: u64) -> u64
@@ -64,21 +64,29 @@ fn gallop(axes: usize, key: &[u64], from: usize, code: u64) -> usize
     last_between(axes, key, low, key.len(), code)
 }
 
-// The last node that begins by a code, from any number; soonest from that of a node at or close before it. 0 is no hint.
+// Whether a search may go from a number: from that of a node that begins by the code. 0 is no hint.
+fn may_start(axes: usize, key: &[u64], hint: usize, code: u64) -> bool
+    requires { ⌜ TreeKeys axes (now key) ⌝ }
+    ensures { λ r. ⌜ (r ≡ true → (hint < length (now (key .entry))) × (first axes (getD (now (key .entry)) hint 0) ≤ code)) ⌝ }
+{
+    if hint < 1 {
+        return false;
+    }
+    if key.len() <= hint {
+        return false;
+    }
+    begins_by(axes, key[hint], code)
+}
+
+// The last node that begins by a code, from any number; soonest from that of a node at or close before it.
 fn last_from(axes: usize, key: &[u64], hint: usize, code: u64) -> usize
     requires { ⌜ TreeKeys axes (now key) ⌝ }
     ensures { λ r. ⌜ LastNode axes (now (key .entry)) code r ⌝ }
 {
-    if hint < 1 {
-        return tree::last_node(axes, key, code);
+    if may_start(axes, key, hint, code) {
+        return gallop(axes, key, hint, code);
     }
-    if key.len() <= hint {
-        return tree::last_node(axes, key, code);
-    }
-    if !begins_by(axes, key[hint], code) {
-        return tree::last_node(axes, key, code);
-    }
-    gallop(axes, key, hint, code)
+    last_between(axes, key, 0, key.len(), code)
 }
 
 // Whether a node is a leaf that holds a code.

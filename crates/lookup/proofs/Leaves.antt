@@ -17,14 +17,10 @@ use Rattle.tree.specs.Leaves.{cellOf, climbed, leafLevel, held, leafKey, stepsT
 use Rattle.tree.specs.Finding.{TreeKeys}
 use Rattle.tree.specs.declared.Found.{Found}
 use Rattle.tree.specs.declared.Found.the-variants.{At, Nothing}
-use Rattle.tree.proofs.Ranges.{level-le, distinct}
-use Rattle.tree.proofs.Leaves.{tree-of, place-is, greatest-le}
+use Rattle.tree.proofs.Ranges.{distinct}
+use Rattle.tree.proofs.Leaves.{tree-of, place-is, depth-le}
 use Rattle.lookup.specs.Lookup.{leafOr, holderOf, holderAt, FoundWithin, Steps}
 use Rattle.lookup.specs.declared.Holder.the-variants.{Leaf, Unstored}
-
-module _ (d : ℕ) (keys : List ℕ) (k : TreeKeys d keys) (code : ℕ) where
-  pub depth-le : depthOf keys ≤ 16
-  depth-le = omega (arith, greatest-le keys 16 (level-le d keys (tree-of d keys k .ascending)))
 
 -- ---- the climb of the definition
 module _ (d : ℕ) (keys : List ℕ) (code : ℕ) where
@@ -52,7 +48,7 @@ module _ (d : ℕ) (keys : List ℕ) (k : TreeKeys d keys) (code : ℕ) where
   level-le-depth = climb-le d keys code (depthOf keys)
 
   level-is : levelOf (leafKey d keys code) ≡ leafLevel d keys code
-  level-is = key-level (leafLevel d keys code) (above d (16 - leafLevel d keys code) code) (omega (arith, level-le-depth, depth-le d keys k code))
+  level-is = key-level (leafLevel d keys code) (above d (16 - leafLevel d keys code) code) (omega (arith, level-le-depth, depth-le d keys (tree-of d keys k)))
 
   -- the leaf that holds the code has a number
   numbered : held d keys code ≡ true → (leafNumber d keys code < length keys) × (getD keys (leafNumber d keys code) 0 ≡ leafKey d keys code)
@@ -66,7 +62,7 @@ module _ (d : ℕ) (keys : List ℕ) (k : TreeKeys d keys) (code : ℕ) where
   pub steps-to : held d keys code ≡ true → Steps keys (leafKey d keys code) (stepsTo d keys code)
   steps-to h = record {
     levels = omega (arith, level-is, level-le-depth);
-    few = omega (arith, ltb-true 0 (leafLevel d keys code) h, depth-le d keys k code);
+    few = omega (arith, ltb-true 0 (leafLevel d keys code) h, depth-le d keys (tree-of d keys k));
   }
 
   -- ---- what a search found

@@ -1,5 +1,5 @@
 -- `leaf_search::begins_by` meets its contract.
-use Rattle.tree.proofs.Leaves.{first-test}
+use Rattle.leaf_search.proofs.Searching.{first-test}
 use borrow.Author.Needs.{needs}
 use Rattle.leaf_search.proofs.begins_by.Statement.{statement}
 use Rattle.leaf_search.proofs.begins_by.Tie as tie
