@@ -17,7 +17,8 @@ use Rattle.grouping.proofs.Values.{up-more, up-next}
 use Rattle.grouping.proofs.Passing.{Passed, pass-start, pass-more, pass-stop, pass-done}
 use Rattle.tree.specs.Leaves.{held, leafKey, stepsTo}
 use Rattle.lookup.specs.Lookup.{leafOr, holderOf}
-use Rattle.lookup.specs.Batch.{heldBefore, leafKeys, stepsSum, allOr, holdersOf}
+use Rattle.lookup.specs.Batch.{heldBefore, leafKeys, stepsSum}
+use Rattle.lookup.specs.Work.{allOr, holdersOf}
 
 -- ---- one code
 module _ (d : ℕ) (keys : List ℕ) (code : ℕ) where

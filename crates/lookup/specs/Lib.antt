@@ -1,3 +1,4 @@
 pub mod Lookup
 pub mod Batch
+pub mod Work
 pub mod Single
