@@ -14,7 +14,7 @@ use Rattle.refusal.specs.Chain.{ask, _then_}
 use Rattle.refusal.proofs.Chain.{asked, both-done}
 use Rattle.slices.specs.Lists.{filter, sum, range, bit, filled}
 use Rattle.slices.specs.Order.{ascending}
-use Rattle.morton.specs.Keys.{axesKnown}
+use Rattle.morton.specs.Keys.{axesKnown, holds}
 use Rattle.morton.specs.Anchors.{close}
 use Rattle.axes.proofs.Known.{axes-known}
 use Rattle.space.specs.Cells.{frameOf, inside}
@@ -30,7 +30,7 @@ use Rattle.rows.specs.Lists.{uRow, vRow}
 use Rattle.rows.specs.Demand3.{brings, meetings, Far, Few}
 use Rattle.rows.proofs.Demand3.{demand-3}
 use Rattle.tree.specs.Leaves.{leafKey}
-use Rattle.growth.specs.Columns.{holds, indicesIn}
+use Rattle.growth.specs.Columns.{indicesIn}
 use Rattle.growth.proofs.Arranged.{length-indices, order-arranged, order-length}
 use Rattle.growth.proofs.Formed.{well-formed, own-total, depth-most}
 use Rattle.growth.proofs.CellTotals.{total-here}

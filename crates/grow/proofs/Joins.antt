@@ -11,7 +11,7 @@ use lib.Seq.{take-suc, drop-cons}
 use Rattle.slices.specs.Lists.{filter, count, sum, range, concatMap, Mem}
 use Rattle.slices.proofs.Counts.{here, there, sum-range}
 use Rattle.slices.proofs.Lists.{concatMap-append, range-append, getD-range, length-range}
-use Rattle.dealing.proofs.Sums.{sum-take}
+use Rattle.slices.proofs.Sums.{sum-take}
 
 -- ---- filters
 pub filter-same : (p q : ℕ → Bool) (xs : List ℕ) → ((x : ℕ) → Mem x xs → p x ≡ q x) → filter p xs ≡ filter q xs

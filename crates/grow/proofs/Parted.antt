@@ -15,10 +15,10 @@ use Rattle.slices.proofs.Tests.{same-test, clash, refute, both, and-l, and-r, l
 use Rattle.slices.proofs.Counts.{count-ext}
 use Rattle.slices.proofs.Lists.{length-filter}
 use Rattle.slices.proofs.Members.{mem-range}
-use Rattle.morton.specs.Keys.{levelOf, child, children}
+use Rattle.morton.specs.Keys.{levelOf, child, children, holds}
 use Rattle.refine.specs.Counts.{countAt, sourcesIn}
 use Rattle.growth.specs.declared.Rule.{Rule}
-use Rattle.growth.specs.Columns.{holds, indicesIn}
+use Rattle.growth.specs.Columns.{indicesIn}
 use Rattle.growth.proofs.Arranged.{length-indices, indices-hold}
 use Rattle.dealing.specs.Dealt.{ofPlace, inPlace, dealt, placeOf, wordOf}
 use Rattle.dealing.proofs.Laws.{dealt-map}

@@ -18,12 +18,12 @@ use Rattle.slices.proofs.Lists.{count-append, length-filter, length-range, leng
 use Rattle.slices.proofs.Members.{range-distinct, range-mem, mem-range, mem-filter}
 use Rattle.slices.proofs.Order.{ascending-fixed}
 use Rattle.slices.proofs.Same.{times, ascending-same}
-use Rattle.morton.specs.Keys.{axesKnown}
+use Rattle.morton.specs.Keys.{axesKnown, holds}
 use Rattle.refine.specs.Counts.{countAt, sourcesIn}
 use Rattle.tree.specs.Nodes.{leaf}
 use Rattle.growth.specs.declared.Rule.{Rule}
 use Rattle.growth.specs.Nodes.{nodes}
-use Rattle.growth.specs.Columns.{holds, indicesIn, orderColumn}
+use Rattle.growth.specs.Columns.{indicesIn, orderColumn}
 use Rattle.growth.proofs.Held.{held-once}
 
 range-from : (x a n : ℕ) → x ≤ a → AllFrom x (range a n)

@@ -11,12 +11,12 @@ use Rattle.slices.specs.Lists.{count, filter, range, Mem}
 use Rattle.slices.proofs.Tests.{and-l, and-r}
 use Rattle.slices.proofs.Counts.{pos-count}
 use Rattle.slices.proofs.Members.{filter-mem, range-mem}
-use Rattle.morton.specs.Keys.{key, levelOf, axesKnown, under}
+use Rattle.morton.specs.Keys.{key, levelOf, axesKnown, under, holds}
 use Rattle.tree.specs.Nodes.{leaf}
 use Rattle.tree.specs.Sources.{hasPart, leafSources}
 use Rattle.tree.specs.WellFormed.{mostSources, Run}
 use Rattle.growth.specs.declared.Rule.{Rule}
-use Rattle.growth.specs.Columns.{holds, ownColumn, beginColumn, indicesIn, orderColumn}
+use Rattle.growth.specs.Columns.{ownColumn, beginColumn, indicesIn, orderColumn}
 use Rattle.growth.proofs.Arranged.{Codes}
 use Rattle.growth.proofs.Held.{held-once}
 use Rattle.growth.proofs.Runs.{length-own, leaf-part, placed}

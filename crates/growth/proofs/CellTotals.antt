@@ -11,19 +11,18 @@ use borrow.Author.Tests.{le-leb, eqb-true, eq-eqb}
 use Rattle.slices.specs.Lists.{bit, count, sum, Mem}
 use Rattle.slices.proofs.Tests.{and-l, and-r, both, clash, refute, lt-or-le}
 use Rattle.slices.proofs.Counts.{count-zero, count-ext}
-use Rattle.morton.specs.Keys.{deepest, key, levelOf, codeOf, above, axesKnown, under}
+use Rattle.morton.specs.Keys.{deepest, key, levelOf, codeOf, above, axesKnown, under, holds}
 use Rattle.morton.proofs.Cells.{key-level, key-code}
 use Rattle.refine.specs.Counts.{countAt, sourcesIn}
 use Rattle.tree.specs.Nodes.{stored, leaf, ownOf}
 use Rattle.growth.specs.declared.Rule.{Rule}
-use Rattle.growth.specs.Columns.{holds, ownColumn}
+use Rattle.growth.specs.Columns.{ownColumn}
 use Rattle.growth.proofs.Arranged.{Codes}
 use Rattle.growth.proofs.Held.{held-once}
 use Rattle.tree.specs.Totals.{totalIn, totalColumn}
 use Rattle.tree.proofs.Rules.{Tree}
 use Rattle.tree.proofs.Ranges.{nested}
-use Rattle.slices.proofs.Sums.{sum-same, sum-none, sum-swap}
-use Rattle.tree.proofs.Totals.{sum-bits}
+use Rattle.slices.proofs.Sums.{sum-same, sum-none, sum-swap, sum-bits}
 use Rattle.tree.proofs.Stored.{level-le, leaf-under, mem-stored}
 use Rattle.tree.proofs.Sourced.{facts-under, under-facts, under-trans}
 use Rattle.growth.specs.Nodes.{nodes}

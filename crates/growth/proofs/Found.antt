@@ -12,7 +12,7 @@ use borrow.Author.Tests.{eqb-true, lt-ltb}
 use Rattle.slices.specs.Lists.{Mem}
 use Rattle.slices.proofs.Tests.{refute}
 use Rattle.slices.proofs.Counts.{pos-count}
-use Rattle.morton.specs.Keys.{deepest, levelOf, above, axesKnown}
+use Rattle.morton.specs.Keys.{deepest, levelOf, above, axesKnown, holds}
 use Rattle.morton.proofs.Cells.{key-level}
 use Rattle.tree.specs.Nodes.{leaf}
 use Rattle.tree.specs.Order.{depthOf}
@@ -21,7 +21,7 @@ use Rattle.tree.proofs.Runs.{run-of}
 use Rattle.tree.specs.Leaves.{cellOf, climbed, leafLevel, held, leafKey}
 use Rattle.growth.specs.declared.Rule.{Rule}
 use Rattle.growth.specs.Nodes.{nodes}
-use Rattle.growth.specs.Columns.{holds, ownColumn, beginColumn, orderColumn}
+use Rattle.growth.specs.Columns.{ownColumn, beginColumn, orderColumn}
 use Rattle.growth.proofs.Leaves.{cell-holds, holds-cell, source-leaf}
 use Rattle.growth.proofs.Held.{leaf-mem, one-leaf}
 use Rattle.growth.proofs.Arranged.{Codes, order-times, order-length}

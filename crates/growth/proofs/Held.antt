@@ -11,14 +11,12 @@ use borrow.Author.Tests.{le-leb, eq-eqb}
 use Rattle.slices.specs.Lists.{bit, count, Mem}
 use Rattle.slices.proofs.Tests.{and-l, and-r, both, lt-or-le}
 use Rattle.slices.proofs.Counts.{count-one}
-use Rattle.morton.specs.Keys.{deepest, levelOf, codeOf, above, axesKnown, under}
+use Rattle.morton.specs.Keys.{deepest, levelOf, codeOf, above, axesKnown, under, holds}
 use Rattle.tree.specs.Nodes.{leaf}
 use Rattle.tree.proofs.Stored.{stored-mem, distinct, leaf-under}
-use Rattle.tree.proofs.Sourced.{under-facts}
 use Rattle.tree.specs.Leaves.{cellOf}
 use Rattle.growth.specs.declared.Rule.{Rule}
 use Rattle.growth.specs.Nodes.{nodes}
-use Rattle.growth.specs.Columns.{holds}
 use Rattle.growth.proofs.Sorted.{node-good, nodes-ascending, nodes-tree}
 use Rattle.growth.proofs.Leaves.{holds-code, cell-holds, source-leaf}
 
@@ -39,17 +37,6 @@ held-under d j k c l h hj hk =
     ∙ above-above d (deepest - levelOf k) (levelOf k - levelOf j) c
     ∙ ap (λ (n : ℕ). above d n c) e
     ∙ holds-code d j c hj))
-
--- a cell holds what a cell under it holds
-pub under-holds : (d k j c : ℕ) → levelOf j ≤ 16 → under d k j ≡ true → holds d j c ≡ true → holds d k c ≡ true
-under-holds d k j c l u h =
-    let f = under-facts d k j u in
-    let e : deepest - levelOf k ≡ (deepest - levelOf j) + (levelOf j - levelOf k) = omega (arith, f .level) in
-    eq-eqb (above d (deepest - levelOf k) c) (codeOf k)
-    (ap (λ (n : ℕ). above d n c) e
-    ∙ sym (above-above d (deepest - levelOf j) (levelOf j - levelOf k) c)
-    ∙ ap (above d (levelOf j - levelOf k)) (holds-code d j c h)
-    ∙ f .code)
 
 module _ (g : Rule) (s t : List ℕ) (known : axesKnown (g .axes) ≡ true) where
   ordered-leaf : (j k c : ℕ) → levelOf j ≤ levelOf k → leaf (g .axes) (nodes g s t) j ≡ true → leaf (g .axes) (nodes g s t) k ≡ true

@@ -14,7 +14,7 @@ use Rattle.slices.specs.Lists.{any, range, Mem}
 use Rattle.slices.proofs.Tests.{and-l, and-r, both, clash, refute, or-not, or-right}
 use Rattle.slices.proofs.Counts.{count-pos, pos-count, any-intro, any-elim}
 use Rattle.slices.proofs.Members.{map-mem, range-mem}
-use Rattle.morton.specs.Keys.{deepest, levelOf, codeOf, key, above, axesKnown, ValidKey, parent, child, children}
+use Rattle.morton.specs.Keys.{deepest, levelOf, codeOf, key, above, axesKnown, ValidKey, parent, child, children, holds}
 use Rattle.morton.proofs.Cells.{above-one, above-up, key-level, key-code, key-parts}
 use Rattle.anchors.proofs.Laws.{children-under}
 use Rattle.refine.specs.Counts.{countAt, sourcesIn}
@@ -23,7 +23,6 @@ use Rattle.tree.proofs.Stored.{mem-stored}
 use Rattle.tree.specs.Leaves.{cellOf}
 use Rattle.growth.specs.declared.Rule.{Rule}
 use Rattle.growth.specs.Nodes.{splits, nodes}
-use Rattle.growth.specs.Columns.{holds}
 use Rattle.growth.proofs.Kids.{Kid, splits-root, splits-level, child-below}
 use Rattle.growth.proofs.Sorted.{node-good}
 use Rattle.growth.proofs.Members.{root-node, node-up, node-down}

@@ -15,8 +15,9 @@ use Rattle.refine.specs.Counts.{sourcesIn}
 use Rattle.tree.specs.Nodes.{leaf}
 use Rattle.tree.specs.WellFormed.{Run}
 use Rattle.tree.specs.Sources.{hasPart, leafSources}
-use Rattle.tree.proofs.Runs.{sum-take, sum-whole}
-use Rattle.growth.specs.Columns.{holds, ownColumn, beginColumn, indicesIn, orderColumn}
+use Rattle.slices.proofs.Sums.{sum-take, sum-whole}
+use Rattle.morton.specs.Keys.{holds}
+use Rattle.growth.specs.Columns.{ownColumn, beginColumn, indicesIn, orderColumn}
 use Rattle.growth.proofs.Arranged.{length-indices, indices-hold}
 
 pub map-at : (f : ℕ → ℕ) (xs : List ℕ) (i : ℕ) → i < length xs → getD (map f xs) i 0 ≡ f (getD xs i 0)
@@ -109,7 +110,7 @@ module _ (d : ℕ) (keys s : List ℕ) where
     run-end : getD begin j 0 + getD own j 0 ≤ length order
     run-end =
         let l : j < length own = omega (arith, length-own) in
-        omega (arith, begin-at j l, sum-take own j l, sum-whole own (suc j), own-order)
+        omega (arith, begin-at j l, sum-take own j, sum-whole own (suc j), own-order)
 
     own-size : getD own j 0 ≡ length (sourcesOf (getD keys j 0))
     own-size = ap (λ (xs : List ℕ). getD xs j 0) own-sizes ∙ map-at (λ k. length (sourcesOf k)) keys j h

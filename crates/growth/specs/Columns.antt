@@ -1,17 +1,12 @@
 -- Document 01, "How the tree grows": the columns beside the keys of a tree over d axes, from its sources' level-16 codes.
 use mathlib.Core.Bool.{Bool, true, false, cond}
 use mathlib.Core.List.{List, [], _∷_, map}
-use Prim.Native.Nat.{ℕ, _-_}
-use lib.Dec.{eqb}
+use Prim.Native.Nat.{ℕ}
 use lib.ListN.{length, getD, take}
 use Rattle.slices.specs.Lists.{filter, range, concatMap, sum}
-use Rattle.morton.specs.Keys.{deepest, levelOf, codeOf, above}
+use Rattle.morton.specs.Keys.{holds}
 use Rattle.tree.specs.Nodes.{leaf}
 use Rattle.refine.specs.Counts.{sourcesIn}
-
--- cell k holds a point with this level-16 code
-abbrev pub holds : ℕ → ℕ → ℕ → Bool
-holds d k code = eqb (above d (deepest - levelOf k) code) (codeOf k)
 
 -- own sources: leaves only, else 0
 unfoldable pub ownColumn : ℕ → List ℕ → List ℕ → List ℕ

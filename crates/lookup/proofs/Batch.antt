@@ -11,26 +11,27 @@ use lib.Seq.{drop-cons, getD-take, take-all}
 use borrow.Author.Tests.{eq-eqb, ne-eqb}
 use Rattle.slices.specs.Lists.{sum}
 use Rattle.tree.specs.Order.{depthOf}
-use Rattle.lookup.specs.declared.Climb.the-variants.{Leaf, Unstored}
-use Rattle.lookup.specs.declared.Climbs.the-variants.{Ended, Failed}
+use Rattle.lookup.specs.declared.Holder.the-variants.{Leaf, Unstored}
+use Rattle.lookup.specs.declared.Holders.the-variants.{All, Missing}
 use Rattle.grouping.proofs.Values.{up-more, up-next}
 use Rattle.grouping.proofs.Passing.{Passed, pass-start, pass-more, pass-stop, pass-done}
 use Rattle.tree.specs.Leaves.{held, leafKey, stepsTo}
-use Rattle.lookup.specs.Lookup.{leafOr, climbTo}
-use Rattle.lookup.specs.Batch.{heldBefore, leafKeys, stepsSum, endedOr, climbsOf}
+use Rattle.lookup.specs.Lookup.{leafOr, holderOf}
+use Rattle.lookup.specs.Batch.{heldBefore, leafKeys, stepsSum}
+use Rattle.lookup.specs.Work.{allOr, holdersOf}
 
--- ---- one climb
+-- ---- one code
 module _ (d : ℕ) (keys : List ℕ) (code : ℕ) where
-  pub climb-leaf : (k s : ℕ) → climbTo d keys code ≡ Leaf k s → (held d keys code ≡ true) × (k ≡ leafKey d keys code) × (s ≡ stepsTo d keys code)
-  climb-leaf k s h = go (held d keys code) refl h
+  pub holder-leaf : (k s : ℕ) → holderOf d keys code ≡ Leaf k s → (held d keys code ≡ true) × (k ≡ leafKey d keys code) × (s ≡ stepsTo d keys code)
+  holder-leaf k s h = go (held d keys code) refl h
     where
       go : (t : Bool) → held d keys code ≡ t → leafOr t (leafKey d keys code) (stepsTo d keys code) ≡ Leaf k s
           → (held d keys code ≡ true) × (k ≡ leafKey d keys code) × (s ≡ stepsTo d keys code)
       go true e g = (e, (cc), (cc))
       go false e g = let z : _≡_ {A = ℕ} 0 1 = cc in absurd (omega arith)
 
-  pub climb-not : climbTo d keys code ≡ Unstored → held d keys code ≡ false
-  climb-not h = go (held d keys code) refl h
+  pub holder-none : holderOf d keys code ≡ Unstored → held d keys code ≡ false
+  holder-none h = go (held d keys code) refl h
     where
       go : (t : Bool) → held d keys code ≡ t → leafOr t (leafKey d keys code) (stepsTo d keys code) ≡ Unstored → held d keys code ≡ false
       go true e g = let z : _≡_ {A = ℕ} 0 1 = cc in absurd (omega arith)
@@ -88,10 +89,10 @@ module _ (d : ℕ) (keys : List ℕ) (n : ℕ) (old : List ℕ) (fits : n ≤ le
       stop : row ≡ heldBefore d keys (take n old)
       stop = pass-stop (held d keys) (take n old) row (s .passed) (omega (arith, size)) (ap (held d keys) (sym look-code) ∙ f)
 
-      pub look-failed : Failed row ≡ climbsOf d keys (take n old)
+      pub look-failed : Missing row ≡ holdersOf d keys (take n old)
       look-failed =
-          ap Failed stop
-          ∙ sym (ap (λ b. endedOr b (stepsSum d keys (take n old)) (heldBefore d keys (take n old))) (ne-eqb (heldBefore d keys (take n old)) (length (take n old)) (λ q. omega (arith, stop, size))))
+          ap Missing stop
+          ∙ sym (ap (λ b. allOr b (stepsSum d keys (take n old)) (heldBefore d keys (take n old))) (ne-eqb (heldBefore d keys (take n old)) (length (take n old)) (λ q. omega (arith, stop, size))))
 
       pub look-short : heldBefore d keys (take n old) ≡ n → ⊥
       look-short q = omega (arith, stop)
@@ -100,15 +101,15 @@ module _ (d : ℕ) (keys : List ℕ) (n : ℕ) (old : List ℕ) (fits : n ≤ le
     all : row ≡ n
     all = omega (arith, s .passed .within, size)
 
-    pub look-ended : Ended steps ≡ climbsOf d keys (take n old)
+    pub look-ended : All steps ≡ holdersOf d keys (take n old)
     unfolding sum
     look-ended =
         let done : row ≡ heldBefore d keys (take n old) = pass-done (held d keys) (take n old) row (s .passed) (omega (arith, size)) in
         let past : length (take n old) ≤ row = omega (arith, size) in
         let none : stepsSum d keys (drop row (take n old)) ≡ 0 = ap (stepsSum d keys) (drop-of-length-le (take n old) past) in
         let sums : steps ≡ stepsSum d keys (take n old) = omega (arith, s .adds, none) in
-        ap Ended sums
-        ∙ sym (ap (λ b. endedOr b (stepsSum d keys (take n old)) (heldBefore d keys (take n old))) (eq-eqb (heldBefore d keys (take n old)) (length (take n old)) (omega (arith, done, all, size))))
+        ap All sums
+        ∙ sym (ap (λ b. allOr b (stepsSum d keys (take n old)) (heldBefore d keys (take n old))) (eq-eqb (heldBefore d keys (take n old)) (length (take n old)) (omega (arith, done, all, size))))
 
     pub look-written : new ≡ leafKeys d keys (take n old) ++ drop n old
     look-written = s .is ∙ ap₂ (λ (t : List ℕ) (m : ℕ). map (leafKey d keys) t ++ drop m old) (take-all row (take n old) (omega (arith, size))) all

@@ -1,21 +1,21 @@
 -- The calls on a batch of points, check by check.
 use mathlib.Core.Path.{_≡_, refl, sym, ap, ap₂, _∙_}
-use mathlib.Core.Bool.{Bool, true, false}
+use mathlib.Core.Bool.{Bool, true, false, _&&_}
 use mathlib.Core.List.{List, _++_}
-use Prim.Native.Nat.{ℕ, _+_, _-_, _%_, _≤_, _<_}
+use Prim.Native.Nat.{ℕ, _-_, _/_, _%_, _≤_, _<_}
 use native.Mathlib.Omega.{arith}
 use lib.Dec.{leb, ltb, eqb}
 use lib.Ieee.{Float}
 use lib.ListN.{length, take, drop, replicate, length-append, length-drop, length-map}
 use lib.Seq.{take-at, drop-at}
-use borrow.Author.Tests.{eq-eqb, ne-eqb, eqb-true, eqb-false, le-leb, lt-leb, leb-true, ltb-false}
+use borrow.Author.Tests.{eq-eqb, ne-eqb, eqb-true, le-leb, lt-leb, leb-true, ltb-false}
 use Rattle.refusal.specs.declared.Refusal.{Refusal}
 use Rattle.refusal.specs.declared.Refusal.the-variants.{Shape, Count, Room, Tree, Point, Unstored}
 use Rattle.refusal.specs.declared.Outcome.{Outcome}
 use Rattle.refusal.specs.declared.Outcome.the-variants.{Done, Refused}
-use Rattle.refusal.specs.Chain.{ask}
+use Rattle.refusal.specs.Chain.{ask, _then_}
 use Rattle.refusal.specs.Left.{left}
-use Rattle.refusal.proofs.Chain.{asked, both-done, after-done, after-refused}
+use Rattle.refusal.proofs.Chain.{never, asked, both-done, after-done, after-refused}
 use Rattle.space.specs.declared.Box.{Box}
 use Rattle.space.specs.declared.Frame.{Frame}
 use Rattle.space.specs.declared.Rows.{Rows}
@@ -25,35 +25,35 @@ use Rattle.space.specs.Cells.{frameOf}
 use Rattle.space.specs.Rows.{insideRows, orInside, firstOutside, coded, rowsOf, rowsInside, mostPoints}
 use Rattle.space.proofs.Batches.{codes-length, rows-le}
 use Rattle.space.proofs.Refusals.{Fine, fine}
+use Rattle.morton.specs.Keys.{axesKnown}
 use Rattle.morton.proofs.Checks.{axes-known}
 use Rattle.tree.specs.Columns.{columns}
 use Rattle.tree.specs.WellFormed.{wellFormed}
 use Rattle.tree.specs.Finding.{TreeKeys}
-use Rattle.lookup.proofs.TreeRule.{tree-keys}
-use Rattle.lookup.specs.declared.Climbs.{Climbs}
-use Rattle.lookup.specs.declared.Climbs.the-variants.{Ended, Failed}
+use Rattle.lookup.proofs.TreeRule.{tree-keys, by-rule}
+use Rattle.lookup.specs.declared.Holders.{Holders}
+use Rattle.lookup.specs.declared.Holders.the-variants.{All, Missing}
 use Rattle.lookup.specs.declared.LookedUp.{LookedUp}
 use Rattle.lookup.specs.declared.LookedUp.the-variants.{Found, Refused as NotFound}
 use Rattle.tree.specs.Leaves.{leafKey}
-use Rattle.lookup.specs.Batch.{heldBefore, leafKeys, stepsSum, endedOr, climbsOf, insideOf, codesInside, callOutcome, pointsOutcome, lookupOutcome, foundOr}
+use Rattle.lookup.specs.Batch.{heldBefore, leafKeys, stepsSum, codesInside, callOutcome, pointsOutcome, lookupOutcome, foundOr}
+use Rattle.lookup.specs.Work.{allOr, holdersOf, insideOf, answerOf, shapeOutcome, batchOutcome, restCleared}
 
--- ---- the end of the climbs
-module _ (d : ℕ) (keys codes : List ℕ) where
-  pub climbs-failed : (row : ℕ) → climbsOf d keys codes ≡ Failed row → (heldBefore d keys codes ≡ length codes → ⊥) × (row ≡ heldBefore d keys codes)
-  climbs-failed row h = go (eqb (heldBefore d keys codes) (length codes)) refl h
-    where
-      go : (t : Bool) → eqb (heldBefore d keys codes) (length codes) ≡ t → endedOr t (stepsSum d keys codes) (heldBefore d keys codes) ≡ Failed row
-          → (heldBefore d keys codes ≡ length codes → ⊥) × (row ≡ heldBefore d keys codes)
-      go true e g = let z : _≡_ {A = ℕ} 0 1 = cc in absurd (omega arith)
-      go false e g = (eqb-false (heldBefore d keys codes) (length codes) e, (cc))
+-- ---- the answer of a batch
+picked : (t : Bool) (s h i n : ℕ) → answerOf (allOr t s h) i n ≡ foundOr (ask t (Unstored h) then ask (eqb i n) (Point i)) s
+picked true s h i n = refl
+picked false s h i n = refl
 
-  pub climbs-ended : (steps : ℕ) → climbsOf d keys codes ≡ Ended steps → (heldBefore d keys codes ≡ length codes) × (steps ≡ stepsSum d keys codes)
-  climbs-ended steps h = go (eqb (heldBefore d keys codes) (length codes)) refl h
-    where
-      go : (t : Bool) → eqb (heldBefore d keys codes) (length codes) ≡ t → endedOr t (stepsSum d keys codes) (heldBefore d keys codes) ≡ Ended steps
-          → (heldBefore d keys codes ≡ length codes) × (steps ≡ stepsSum d keys codes)
-      go true e g = (eqb-true (heldBefore d keys codes) (length codes) e, (cc))
-      go false e g = let z : _≡_ {A = ℕ} 0 1 = cc in absurd (omega arith)
+module _ (holders : Holders) (first all : ℕ) where
+  pub answer-missing : (row : ℕ) → holders ≡ Missing row → NotFound (Unstored row) ≡ answerOf holders first all
+  answer-missing row e = sym (ap (λ (t : Holders). answerOf t first all) e)
+
+  module _ (steps : ℕ) (e : holders ≡ All steps) where
+    pub answer-outside : (first ≡ all → ⊥) → NotFound (Point first) ≡ answerOf holders first all
+    answer-outside n = sym (ap (λ (t : Holders). answerOf t first all) e ∙ ap (λ (t : Bool). foundOr (ask t (Point first)) steps) (ne-eqb first all n))
+
+    pub answer-found : first ≡ all → Found steps ≡ answerOf holders first all
+    answer-found q = sym (ap (λ (t : Holders). answerOf t first all) e ∙ ap (λ (t : Bool). foundOr (ask t (Point first)) steps) (eq-eqb first all q))
 
 -- ---- the points of a call
 first-inside : (n : ℕ) (f : Frame) (xs : List Float) → insideOf (firstOutside n f xs) n ≡ insideRows n f xs
@@ -83,33 +83,16 @@ module _ (b : Box) (keys : List ℕ) (xs : List Float) (old out : List ℕ) (row
   pub codes-room : rowsOf b xs ≤ length old → length out ≡ length old
   codes-room h = ap length w ∙ length-append (codesInside b xs) (drop (rowsInside b xs) old) ∙ omega (arith, size, first-is, first-le, length-drop (rowsInside b xs) old)
 
-  -- the answers
-  module _ (climbs : Climbs) (c : climbs ≡ climbsOf (b .axes) keys (take first out)) where
-    told : climbs ≡ climbsOf (b .axes) keys (codesInside b xs)
-    told = c ∙ ap (climbsOf (b .axes) keys) codes-are
-
-    pub look-unstored : (row : ℕ) → climbs ≡ Failed row → NotFound (Unstored row) ≡ foundOr (pointsOutcome b keys xs) (stepsSum (b .axes) keys (codesInside b xs))
-    unfolding pointsOutcome
-    look-unstored row f =
-        let t = climbs-failed (b .axes) keys (codesInside b xs) row (sym told ∙ f) in
-        let n : heldBefore (b .axes) keys (codesInside b xs) ≡ rowsInside b xs → ⊥ = λ q. t .0 (q ∙ sym first-is ∙ sym size) in
-        ap (λ (i : ℕ). NotFound (Unstored i)) (t .1) ∙ rw (ne-eqb (heldBefore (b .axes) keys (codesInside b xs)) (rowsInside b xs) n)
-
-    module _ (steps : ℕ) (f : climbs ≡ Ended steps) where
-      held-all : heldBefore (b .axes) keys (codesInside b xs) ≡ rowsInside b xs
-      held-all = climbs-ended (b .axes) keys (codesInside b xs) steps (sym told ∙ f) .0 ∙ size ∙ first-is
-
-      pub look-outside : (first ≡ rowsOf b xs → ⊥) → NotFound (Point first) ≡ foundOr (pointsOutcome b keys xs) (stepsSum (b .axes) keys (codesInside b xs))
-      unfolding pointsOutcome
-      look-outside n =
-          ap (λ (i : ℕ). NotFound (Point i)) first-is
-          ∙ rw (eq-eqb (heldBefore (b .axes) keys (codesInside b xs)) (rowsInside b xs) held-all, ne-eqb (rowsInside b xs) (rowsOf b xs) (λ q. n (first-is ∙ q)))
-
-      pub look-found : first ≡ rowsOf b xs → Found steps ≡ foundOr (pointsOutcome b keys xs) (stepsSum (b .axes) keys (codesInside b xs))
-      unfolding pointsOutcome
-      look-found q =
-          ap Found (climbs-ended (b .axes) keys (codesInside b xs) steps (sym told ∙ f) .1)
-          ∙ rw (eq-eqb (heldBefore (b .axes) keys (codesInside b xs)) (rowsInside b xs) held-all, eq-eqb (rowsInside b xs) (rowsOf b xs) (sym first-is ∙ q))
+  -- the answer
+  pub look-answer : (holders : Holders) → holders ≡ holdersOf (b .axes) keys (take first out) → (result : LookedUp) → result ≡ answerOf holders first (rowsOf b xs)
+      → result ≡ foundOr (pointsOutcome b keys xs) (stepsSum (b .axes) keys (codesInside b xs))
+  unfolding pointsOutcome
+  look-answer holders c result q =
+      q
+      ∙ ap (λ (t : Holders). answerOf t first (rowsOf b xs)) (c ∙ ap (holdersOf (b .axes) keys) codes-are)
+      ∙ picked (eqb (heldBefore (b .axes) keys (codesInside b xs)) (length (codesInside b xs))) (stepsSum (b .axes) keys (codesInside b xs)) (heldBefore (b .axes) keys (codesInside b xs)) first (rowsOf b xs)
+      ∙ ap₂ (λ (l i : ℕ). foundOr (ask (eqb (heldBefore (b .axes) keys (codesInside b xs)) l) (Unstored (heldBefore (b .axes) keys (codesInside b xs))) then ask (eqb i (rowsOf b xs)) (Point i)) (stepsSum (b .axes) keys (codesInside b xs)))
+      (size ∙ first-is) first-is
 
   -- the output, where nothing is refused
   pub look-keys : (final : List ℕ) → (heldBefore (b .axes) keys (take first out) ≡ first → final ≡ leafKeys (b .axes) keys (take first out) ++ drop first out)
@@ -123,35 +106,58 @@ module _ (b : Box) (keys : List ℕ) (xs : List Float) (old out : List ℕ) (row
       ∙ ap₂ (λ (s t : List ℕ). leafKeys (b .axes) keys s ++ t) codes-are (rest-is ∙ ap (λ (n : ℕ). drop n old) (first-is ∙ whole))
 
 -- ---- the checks
-module _ (b : Box) (keys own begin total : List ℕ) (xs : List Float) (room : ℕ) where
-  pub box-refused : (r : Refusal) → boxOutcome b ≡ Refused r → Refused r ≡ callOutcome b (columns keys own begin total) xs room
-  unfolding callOutcome
+module _ (b : Box) (n : ℕ) where
+  pub box-refused : (r : Refusal) → boxOutcome b ≡ Refused r → Refused r ≡ shapeOutcome b n
+  unfolding shapeOutcome
   box-refused r e = rw e
 
   module _ (o : boxOutcome b ≡ Done) where
-    pub no-shape : (length xs % b .axes ≡ 0 → ⊥) → Refused Shape ≡ callOutcome b (columns keys own begin total) xs room
-    unfolding callOutcome
-    no-shape n = rw (o, ne-eqb (length xs % b .axes) 0 n)
+    pub no-shape : (n % b .axes ≡ 0 → ⊥) → Refused Shape ≡ shapeOutcome b n
+    unfolding shapeOutcome
+    no-shape h = rw (o, ne-eqb (n % b .axes) 0 h)
 
-    module _ (s : length xs % b .axes ≡ 0) where
-      pub too-many : mostPoints < rowsOf b xs → Refused Count ≡ callOutcome b (columns keys own begin total) xs room
-      unfolding callOutcome
-      too-many n = rw (o, eq-eqb (length xs % b .axes) 0 s, lt-leb (rowsOf b xs) mostPoints n)
+    module _ (s : n % b .axes ≡ 0) where
+      pub too-many : mostPoints < n / b .axes → Refused Count ≡ shapeOutcome b n
+      unfolding shapeOutcome
+      too-many h = rw (o, eq-eqb (n % b .axes) 0 s, lt-leb (n / b .axes) mostPoints h)
 
-      module _ (few : rowsOf b xs ≤ mostPoints) where
-        pub not-tree : wellFormed (b .axes) keys own begin total ≡ false → Refused Tree ≡ callOutcome b (columns keys own begin total) xs room
-        unfolding callOutcome
-        not-tree t = rw (o, eq-eqb (length xs % b .axes) 0 s, le-leb (rowsOf b xs) mostPoints few, t)
+      pub shaped : n / b .axes ≤ mostPoints → Done ≡ shapeOutcome b n
+      unfolding shapeOutcome
+      shaped h = rw (o, eq-eqb (n % b .axes) 0 s, le-leb (n / b .axes) mostPoints h)
 
-        module _ (t : wellFormed (b .axes) keys own begin total ≡ true) where
-          pub short : room < rowsOf b xs → Refused (Room 8) ≡ callOutcome b (columns keys own begin total) xs room
-          unfolding callOutcome
-          short n = rw (o, eq-eqb (length xs % b .axes) 0 s, le-leb (rowsOf b xs) mostPoints few, t, lt-leb (rowsOf b xs) room n)
+module _ (b : Box) (keys own begin total : List ℕ) (n room : ℕ) (o : Outcome) (q : o ≡ shapeOutcome b n) where
+  pub shape-refused : (r : Refusal) → o ≡ Refused r → Refused r ≡ batchOutcome b (columns keys own begin total) n room
+  unfolding batchOutcome
+  shape-refused r e = let f : shapeOutcome b n ≡ Refused r = sym q ∙ e in rw f
 
-          pub called : rowsOf b xs ≤ room → Done ≡ callOutcome b (columns keys own begin total) xs room
-          unfolding callOutcome
-          called n = rw (o, eq-eqb (length xs % b .axes) 0 s, le-leb (rowsOf b xs) mostPoints few, t, le-leb (rowsOf b xs) room n)
+  module _ (d : o ≡ Done) where
+    done : shapeOutcome b n ≡ Done
+    done = sym q ∙ d
 
+    pub shape-fine : Fine b
+    unfolding shapeOutcome
+    shape-fine =
+        let third = both-done _ (ask (leb (n / b .axes) mostPoints) Count) done in
+        fine b (both-done (boxOutcome b) (ask (eqb (n % b .axes) 0) Shape) (third .0) .0)
+
+    module _ (w : Bool) (e : w ≡ (axesKnown (b .axes) && wellFormed (b .axes) keys own begin total)) where
+      rule : wellFormed (b .axes) keys own begin total ≡ w
+      rule = by-rule (b .axes) keys own begin total (axes-known (b .axes) (shape-fine .least) (shape-fine .most)) _ refl ∙ sym e
+
+      pub not-tree : w ≡ false → Refused Tree ≡ batchOutcome b (columns keys own begin total) n room
+      unfolding batchOutcome
+      not-tree f = let t : wellFormed (b .axes) keys own begin total ≡ false = rule ∙ f in rw (done, t)
+
+      module _ (f : w ≡ true) where
+        pub short : room < n / b .axes → Refused (Room 8) ≡ batchOutcome b (columns keys own begin total) n room
+        unfolding batchOutcome
+        short h = let t : wellFormed (b .axes) keys own begin total ≡ true = rule ∙ f in rw (done, t, lt-leb (n / b .axes) room h)
+
+        pub called : n / b .axes ≤ room → Done ≡ batchOutcome b (columns keys own begin total) n room
+        unfolding batchOutcome
+        called h = let t : wellFormed (b .axes) keys own begin total ≡ true = rule ∙ f in rw (done, t, le-leb (n / b .axes) room h)
+
+module _ (b : Box) (keys own begin total : List ℕ) (xs : List Float) (room : ℕ) where
   pub record Called : Type 0 where
     pub box : Fine b
     pub few : rowsOf b xs ≤ mostPoints
@@ -179,10 +185,6 @@ pub found-is : (o : Outcome) (s steps : ℕ) → foundOr o s ≡ Found steps →
 found-is Done s steps e = (refl, (cc))
 found-is (Refused r) s steps e = let z : _≡_ {A = ℕ} 0 1 = cc in absurd (omega arith)
 
-refused-is : (o : Outcome) (s : ℕ) (r : Refusal) → foundOr o s ≡ NotFound r → o ≡ Refused r
-refused-is Done s r e = let z : _≡_ {A = ℕ} 0 1 = cc in absurd (omega arith)
-refused-is (Refused q) s r e = cc
-
 module _ (b : Box) (keys own begin total : List ℕ) (xs : List Float) (room : ℕ) where
   abbrev answer : ℕ
   answer = stepsSum (b .axes) keys (codesInside b xs)
@@ -190,54 +192,67 @@ module _ (b : Box) (keys own begin total : List ℕ) (xs : List Float) (room : �
   abbrev output : List ℕ
   output = leafKeys (b .axes) keys (codesInside b xs)
 
-  -- refused by a check
-  module _ (r : Refusal) (e : callOutcome b (columns keys own begin total) xs room ≡ Refused r) where
-    early : lookupOutcome b (columns keys own begin total) xs room ≡ Refused r
-    early = after-refused (callOutcome b (columns keys own begin total) xs room) (pointsOutcome b keys xs) r e
+  module _ (o : Outcome) (q : o ≡ batchOutcome b (columns keys own begin total) (length xs) room) where
+    by-numbers : o ≡ callOutcome b (columns keys own begin total) xs room
+    unfolding callOutcome batchOutcome shapeOutcome
+    by-numbers = q
 
-    pub early-answer : NotFound r ≡ foundOr (lookupOutcome b (columns keys own begin total) xs room) answer
-    early-answer = sym (ap (λ o. foundOr o answer) early)
+    -- refused by a check
+    module _ (r : Refusal) (e : o ≡ Refused r) where
+      early : lookupOutcome b (columns keys own begin total) xs room ≡ Refused r
+      early = after-refused (callOutcome b (columns keys own begin total) xs room) (pointsOutcome b keys xs) r (sym by-numbers ∙ e)
 
-    pub early-output : (final : List ℕ) → final ≡ replicate room 0 → final ≡ left (lookupOutcome b (columns keys own begin total) xs room) room output
-    early-output final z = z ∙ sym (ap (λ o. left o room output) early)
+      pub early-answer : NotFound r ≡ foundOr (lookupOutcome b (columns keys own begin total) xs room) answer
+      early-answer = sym (ap (λ o. foundOr o answer) early)
 
-  module _ (done : callOutcome b (columns keys own begin total) xs room ≡ Done) (result : LookedUp) (q : result ≡ foundOr (pointsOutcome b keys xs) answer) where
-    same : lookupOutcome b (columns keys own begin total) xs room ≡ pointsOutcome b keys xs
-    same = after-done (callOutcome b (columns keys own begin total) xs room) (pointsOutcome b keys xs) done
+      pub early-ends : lookupOutcome b (columns keys own begin total) xs room ≡ Done → ⊥
+      early-ends d = never r (sym early ∙ d)
 
-    -- refused for a point
-    module _ (r : Refusal) (e : result ≡ NotFound r) where
-      late : lookupOutcome b (columns keys own begin total) xs room ≡ Refused r
-      late = same ∙ refused-is (pointsOutcome b keys xs) answer r (sym q ∙ e)
+    -- checked
+    module _ (d : o ≡ Done) where
+      pub call-checked : Called b keys own begin total xs room
+      call-checked = checked b keys own begin total xs room (sym by-numbers ∙ d)
 
-      pub late-answer : NotFound r ≡ foundOr (lookupOutcome b (columns keys own begin total) xs room) answer
-      late-answer = sym (ap (λ o. foundOr o answer) late)
+      by-points : lookupOutcome b (columns keys own begin total) xs room ≡ pointsOutcome b keys xs
+      by-points = after-done (callOutcome b (columns keys own begin total) xs room) (pointsOutcome b keys xs) (sym by-numbers ∙ d)
 
-      pub late-output : (n : ℕ) (final : List ℕ) → n ≡ room → final ≡ replicate n 0 → final ≡ left (lookupOutcome b (columns keys own begin total) xs room) room output
-      late-output n final l z = z ∙ ap (λ (n : ℕ). replicate n 0) l ∙ sym (ap (λ o. left o room output) late)
+      pub looked-answer : (result : LookedUp) → result ≡ foundOr (pointsOutcome b keys xs) answer → result ≡ foundOr (lookupOutcome b (columns keys own begin total) xs room) answer
+      looked-answer result e = e ∙ sym (ap (λ o. foundOr o answer) by-points)
 
-    -- found
-    module _ (steps : ℕ) (e : result ≡ Found steps) where
-      fine-points : pointsOutcome b keys xs ≡ Done
-      fine-points = found-is (pointsOutcome b keys xs) answer steps (sym q ∙ e) .0
+      pub looked-points : lookupOutcome b (columns keys own begin total) xs room ≡ Done → pointsOutcome b keys xs ≡ Done
+      looked-points e = sym by-points ∙ e
 
-      pub found-answer : Found steps ≡ foundOr (lookupOutcome b (columns keys own begin total) xs room) answer
-      found-answer = ap Found (found-is (pointsOutcome b keys xs) answer steps (sym q ∙ e) .1) ∙ sym (ap (λ o. foundOr o answer) (same ∙ fine-points))
+  -- the output
+  module _ (result : LookedUp) (q : result ≡ foundOr (lookupOutcome b (columns keys own begin total) xs room) answer) where
+    pub found-axes : (steps : ℕ) → result ≡ Found steps → 1 ≤ b .axes
+    found-axes steps e =
+        let done = found-is (lookupOutcome b (columns keys own begin total) xs room) answer steps (sym q ∙ e) .0 in
+        checked b keys own begin total xs room (both-done (callOutcome b (columns keys own begin total) xs room) (pointsOutcome b keys xs) done .0) .box .least
 
+    module _ (d : lookupOutcome b (columns keys own begin total) xs room ≡ Done) where
       all-inside : rowsInside b xs ≡ rowsOf b xs
       unfolding pointsOutcome
       all-inside =
-          let p = both-done (ask (eqb (heldBefore (b .axes) keys (codesInside b xs)) (rowsInside b xs)) (Unstored (heldBefore (b .axes) keys (codesInside b xs)))) (ask (eqb (rowsInside b xs) (rowsOf b xs)) (Point (rowsInside b xs))) fine-points in
+          let f = both-done (callOutcome b (columns keys own begin total) xs room) (pointsOutcome b keys xs) d .1 in
+          let p = both-done (ask (eqb (heldBefore (b .axes) keys (codesInside b xs)) (rowsInside b xs)) (Unstored (heldBefore (b .axes) keys (codesInside b xs)))) (ask (eqb (rowsInside b xs) (rowsOf b xs)) (Point (rowsInside b xs))) f in
           eqb-true (rowsInside b xs) (rowsOf b xs) (asked (eqb (rowsInside b xs) (rowsOf b xs)) (Point (rowsInside b xs)) (p .1))
 
       size-is : length output ≡ rowsOf b xs
       size-is = length-map (codesInside b xs) (leafKey (b .axes) keys) ∙ codes-length (rowsInside b xs) (frameOf b) xs ∙ all-inside
 
-      pub found-output : (old mid final : List ℕ) → length mid ≡ room → (pointsOutcome b keys xs ≡ Done → mid ≡ output ++ drop (rowsOf b xs) old)
-          → final ≡ take (rowsOf b xs) mid ++ replicate (length mid - rowsOf b xs) 0 → final ≡ left (lookupOutcome b (columns keys own begin total) xs room) room output
-      found-output old mid final l m z =
-          z
-          ∙ ap₂ (λ (s : List ℕ) (n : ℕ). s ++ replicate n 0)
-          (ap (take (rowsOf b xs)) (m fine-points) ∙ take-at output (drop (rowsOf b xs) old) (rowsOf b xs) size-is)
+      filled-is : (old mid : List ℕ) → length mid ≡ room → mid ≡ output ++ drop (rowsOf b xs) old → take (rowsOf b xs) mid ++ replicate (length mid - rowsOf b xs) 0 ≡ left Done room output
+      filled-is old mid l m =
+          ap₂ (λ (s : List ℕ) (n : ℕ). s ++ replicate n 0)
+          (ap (take (rowsOf b xs)) m ∙ take-at output (drop (rowsOf b xs) old) (rowsOf b xs) size-is)
           (ap₂ _-_ l (sym size-is))
-          ∙ sym (ap (λ o. left o room output) (same ∙ fine-points))
+
+    pub output-left : (old mid final : List ℕ) → length mid ≡ room → (lookupOutcome b (columns keys own begin total) xs room ≡ Done → mid ≡ output ++ drop (rowsOf b xs) old)
+        → final ≡ restCleared result (rowsOf b xs) mid → final ≡ left (lookupOutcome b (columns keys own begin total) xs room) room output
+    output-left old mid final l m z = go (lookupOutcome b (columns keys own begin total) xs room) refl
+      where
+        told : (o : Outcome) → lookupOutcome b (columns keys own begin total) xs room ≡ o → final ≡ restCleared (foundOr o answer) (rowsOf b xs) mid
+        told o e = z ∙ ap (λ (t : LookedUp). restCleared t (rowsOf b xs) mid) (q ∙ ap (λ o. foundOr o answer) e)
+
+        go : (o : Outcome) → lookupOutcome b (columns keys own begin total) xs room ≡ o → final ≡ left (lookupOutcome b (columns keys own begin total) xs room) room output
+        go Done e = told Done e ∙ filled-is e old mid l (m e) ∙ sym (ap (λ o. left o room output) e)
+        go (Refused r) e = told (Refused r) e ∙ ap (λ (n : ℕ). replicate n 0) l ∙ sym (ap (λ o. left o room output) e)

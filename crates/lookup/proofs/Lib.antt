@@ -1,6 +1,5 @@
 pub mod TreeRule
 pub mod Leaves
-pub mod Searching
 pub mod Batch
 pub mod Calls
 pub mod Single

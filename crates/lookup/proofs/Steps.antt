@@ -48,7 +48,7 @@ module _ (b : Box) (keys own begin total : List ℕ) (xs : List Float) where
       let whole = leaf-is _ (leafKey (b .axes) keys code) (stepsTo (b .axes) keys code) k n (sym q ∙ e) in
       let third = both-done (treeOutcome b (columns keys own begin total) then ask (inside (frameOf b) xs) (Point 0)) (ask (held (b .axes) keys code) (Unstored 0)) (whole .0) in
       let second = both-done (treeOutcome b (columns keys own begin total)) (ask (inside (frameOf b) xs) (Point 0)) (third .0) in
-      let (box, rule) = tree-fine b keys own begin total xs (second .0) in
+      let (box, rule) = tree-fine b keys own begin total (second .0) in
       let f = fine b box in
       let tree = tree-keys (b .axes) keys own begin total (axes-known (b .axes) (f .least) (f .most)) rule in
       let s = steps-to (b .axes) keys tree code (asked (held (b .axes) keys code) (Unstored 0) (third .1)) in

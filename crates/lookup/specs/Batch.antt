@@ -1,5 +1,4 @@
 -- Document 01: lookup of a batch. The lowest failing index decides between 7 and 12; a batch reports the sum of the steps.
-use mathlib.Core.Bool.{Bool, true, false}
 use mathlib.Core.List.{List, map}
 use Prim.Native.Nat.{ℕ, _%_}
 use lib.Dec.{leb, eqb}
@@ -12,8 +11,6 @@ use Rattle.refusal.specs.Chain.{ask, _then_}
 use Rattle.refusal.specs.Left.{left}
 use Rattle.slices.specs.Lists.{sum}
 use Rattle.space.specs.declared.Box.{Box}
-use Rattle.space.specs.declared.Rows.{Rows}
-use Rattle.space.specs.declared.Rows.the-variants.{Inside, Outside}
 use Rattle.space.specs.Domain.{boxOutcome}
 use Rattle.space.specs.Cells.{frameOf}
 use Rattle.space.specs.Rows.{mostPoints, rowsOf, rowsInside, codes16}
@@ -21,8 +18,6 @@ use Rattle.tree.specs.Columns.{Columns}
 use Rattle.tree.specs.WellFormed.{wellFormed}
 use Rattle.grouping.specs.Batches.{passing}
 use Rattle.tree.specs.Leaves.{held, leafKey, stepsTo}
-use Rattle.lookup.specs.declared.Climbs.{Climbs}
-use Rattle.lookup.specs.declared.Climbs.the-variants.{Ended, Failed}
 use Rattle.lookup.specs.declared.LookedUp.{LookedUp}
 use Rattle.lookup.specs.declared.LookedUp.the-variants.{Found, Refused as NotFound}
 
@@ -36,18 +31,6 @@ leafKeys d keys codes = map (leafKey d keys) codes
 
 abbrev pub stepsSum : ℕ → List ℕ → List ℕ → ℕ
 stepsSum d keys codes = sum (map (stepsTo d keys) codes)
-
-abbrev pub endedOr : Bool → ℕ → ℕ → Climbs
-endedOr true steps row = Ended steps
-endedOr false steps row = Failed row
-
-abbrev pub climbsOf : ℕ → List ℕ → List ℕ → Climbs
-climbsOf d keys codes = endedOr (eqb (heldBefore d keys codes) (length codes)) (stepsSum d keys codes) (heldBefore d keys codes)
-
--- how many rows stand before the first that is outside
-abbrev pub insideOf : Rows → ℕ → ℕ
-insideOf Inside n = n
-insideOf (Outside row) n = row
 
 -- the codes of the points of a call before the first that is outside
 abbrev pub codesInside : Box → List Float → List ℕ

@@ -1,4 +1,4 @@
-pub mod Search
 pub mod Lookup
 pub mod Batch
+pub mod Work
 pub mod Single

@@ -9,26 +9,26 @@ use Rattle.tree.specs.Order.{depthOf}
 use Rattle.tree.specs.declared.Found.{Found}
 use Rattle.tree.specs.declared.Found.the-variants.{At, Nothing}
 use Rattle.tree.specs.Leaves.{held, leafKey, stepsTo}
-use Rattle.lookup.specs.declared.Climb.{Climb}
-use Rattle.lookup.specs.declared.Climb.the-variants.{Leaf, Unstored}
+use Rattle.lookup.specs.declared.Holder.{Holder}
+use Rattle.lookup.specs.declared.Holder.the-variants.{Leaf, Unstored}
 
-abbrev pub leafOr : Bool → ℕ → ℕ → Climb
+abbrev pub leafOr : Bool → ℕ → ℕ → Holder
 leafOr true k steps = Leaf k steps
 leafOr false k steps = Unstored
 
--- the end of a climb from the tree's depth: the leaf's key, and the levels climbed
-abbrev pub climbTo : ℕ → List ℕ → ℕ → Climb
-climbTo d keys code = leafOr (held d keys code) (leafKey d keys code) (stepsTo d keys code)
+-- the leaf that holds a code: its key, and the steps to it
+abbrev pub holderOf : ℕ → List ℕ → ℕ → Holder
+holderOf d keys code = leafOr (held d keys code) (leafKey d keys code) (stepsTo d keys code)
 
--- a climb from level `top` that found this: a node at that level or above, or none
-pub record Reached (keys : List ℕ) (top : ℕ) (leaf : Found) : Type 0 where
+-- what was found is a node whose level is at most `depth`, or nothing
+pub record FoundWithin (keys : List ℕ) (depth : ℕ) (leaf : Found) : Type 0 where
   pub number : (node : ℕ) → leaf ≡ At node → node < length keys
-  pub within : (node : ℕ) → leaf ≡ At node → levelOf (getD keys node 0) ≤ top
+  pub within : (node : ℕ) → leaf ≡ At node → levelOf (getD keys node 0) ≤ depth
 
--- its end
-abbrev pub climbAt : List ℕ → ℕ → Found → Climb
-climbAt keys top (At node) = Leaf (getD keys node 0) (top - levelOf (getD keys node 0))
-climbAt keys top Nothing = Unstored
+-- the leaf that holds the code, by what was found
+abbrev pub holderAt : List ℕ → ℕ → Found → Holder
+holderAt keys depth (At node) = Leaf (getD keys node 0) (depth - levelOf (getD keys node 0))
+holderAt keys depth Nothing = Unstored
 
 -- ---- what is promised of the steps: from the leaf with key k they make up the depth, and they are at most 15
 pub record Steps (keys : List ℕ) (k steps : ℕ) : Type 0 where

@@ -28,6 +28,11 @@ leafOrRefusal (Refused r) k steps = NoLeaf r
 abbrev pub codeLeaf : ℕ → List ℕ → ℕ → PointLeaf
 codeLeaf d keys code = leafOrRefusal (ask (held d keys code) (Unstored 0)) (leafKey d keys code) (stepsTo d keys code)
 
+-- the leaf that holds a point of a sound box: 7 POINT for one outside and 12 UNSTORED for one that no leaf holds
+abbrev pub leafAt : Box → List ℕ → List Float → PointLeaf
+leafAt b keys xs =
+    leafOrRefusal (ask (inside (frameOf b) xs) (Point 0) then ask (held (b .axes) keys (code16 (frameOf b) xs)) (Unstored 0)) (leafKey (b .axes) keys (code16 (frameOf b) xs)) (stepsTo (b .axes) keys (code16 (frameOf b) xs))
+
 -- 1, 2 and 13, then 7 POINT for a point outside and 12 UNSTORED for one that no leaf holds
 abbrev pub singleOutcome : Box → Columns → List Float → Outcome
 singleOutcome b t xs =

@@ -58,3 +58,7 @@ ancestors d k = upwards (levelOf k) d k
 -- cell j is cell k or lies in it
 abbrev pub under : ℕ → ℕ → ℕ → Bool
 under d k j = leb (levelOf k) (levelOf j) && eqb (above d (levelOf j - levelOf k) (codeOf j)) (codeOf k)
+
+-- cell k holds a point with this level-16 code
+abbrev pub holds : ℕ → ℕ → ℕ → Bool
+holds d k code = eqb (above d (deepest - levelOf k) code) (codeOf k)

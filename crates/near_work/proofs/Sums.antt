@@ -19,7 +19,7 @@ use Rattle.tree.specs.Finding.{FoundNode}
 use Rattle.tree.specs.declared.Found.{Found}
 use Rattle.tree.specs.declared.Found.the-variants.{At, Nothing}
 use Rattle.axes.proofs.Known.{axes-known}
-use Rattle.tree.proofs.Runs.{sum-take, sum-whole, sum-all}
+use Rattle.slices.proofs.Sums.{sum-take, sum-whole, sum-all}
 use Rattle.rows.specs.Lists.{uRow, inU, nearWork}
 use Rattle.tree.specs.WellFormed.{SoundTree}
 use Rattle.sourced.proofs.Sound.{tree-facts, tree-ascends, own-of, own-length}
@@ -40,7 +40,7 @@ module _ (f : ℕ → ℕ) (xs : List ℕ) where
   one-more : (i : ℕ) → i < length xs → sum (take (i + 1) (map f xs)) ≡ sum (take i (map f xs)) + f (getD xs i 0)
   one-more i l =
       ap (λ (n : ℕ). sum (take n (map f xs))) (add-one i)
-      ∙ sum-take (map f xs) i (omega (arith, length-map xs f))
+      ∙ sum-take (map f xs) i
       ∙ ap (λ (n : ℕ). sum (take i (map f xs)) + n) (getD-map f xs i l)
 
   module _ (i total : ℕ) (g : Summing f xs i total) where
@@ -144,7 +144,7 @@ module _ (d : ℕ) (keys own : List ℕ) (t : SoundTree d keys own) where
   few = tree-facts d keys own t .total
 
   pub own-few : (i : ℕ) → i < length keys → getD own i 0 ≤ mostSources
-  own-few i l = omega (arith, sum-take own i (omega (arith, own-length d keys own t)), sum-whole own (suc i), few)
+  own-few i l = omega (arith, sum-take own i, sum-whole own (suc i), few)
 
   -- no row has more sources than the tree
   row-few : (b : ℕ) → rowSources keys own (uRow d keys own b) ≤ sum own

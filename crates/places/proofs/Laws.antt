@@ -103,9 +103,6 @@ module _ (d l x : ℕ) (p : 1 ≤ d) (q : d ≤ 3) (deep : l ≤ 16) where
       go true = omega (arith, anchor-lt d a l x, pow-mono {i = l} {j = 16} deep)
       go false = omega arith
 
-  pub place-lt : placeAt d l x < 1152921504606846976
-  place-lt = omega (arith, holds d l x p q, small 0, small 1, small 2)
-
   pub first : placeAt d l x % 1048576 ≡ part d 0 l x
   first = omega (arith, holds d l x p q, small 0, small 1, small 2)
 

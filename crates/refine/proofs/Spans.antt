@@ -8,13 +8,11 @@ use native.Mathlib.Omega.{arith}
 use lib.Dec.{leb, ltb, eqb}
 use lib.Pow.{pow-pos, pow-lt, shl-exact}
 use borrow.Author.Tests.{leb-true, ltb-true, eqb-true, le-leb, lt-ltb, eq-eqb}
-use Rattle.slices.specs.Lists.{count}
 use Rattle.slices.specs.Order.{countIn, InRange, Sorted}
 use Rattle.slices.proofs.Tests.{and-l, and-r, both, same-test}
 use Rattle.slices.proofs.Counts.{count-ext}
-use Rattle.morton.specs.Keys.{levelOf, codeOf, key, above, under, ValidKey}
+use Rattle.morton.specs.Keys.{levelOf, codeOf, ValidKey}
 use Rattle.morton.proofs.Checks.{width-le}
-use Rattle.morton.proofs.Cells.{key-level, key-code}
 use Rattle.refine.specs.Counts.{countAt}
 
 -- a code is from code · 2^w up to (code + 1) · 2^w exactly if it is this code, w bits longer
@@ -29,17 +27,6 @@ in-span w code c = same-test _ _ into from
         let e : c / 2 ^ w * 2 ^ w ≡ code * 2 ^ w = ap (λ (n : ℕ). n * 2 ^ w) (eqb-true (c / 2 ^ w) code h) in
         let up : (code + 1) * 2 ^ w ≡ code * 2 ^ w + 2 ^ w = add-mul code 1 (2 ^ w) ∙ ap (λ (n : ℕ). code * 2 ^ w + n) (one-mul (2 ^ w)) in
         both (le-leb (code * 2 ^ w) c (omega (arith, div-mul-le-self c (2 ^ w)))) (lt-ltb c ((code + 1) * 2 ^ w) (omega (arith, lt-div-mul-add {a = c} {b = 2 ^ w} (pow-pos w))))
-
--- a cell's count is of the level-16 cells that lie in it
-pub count-under : (d k : ℕ) (codes : List ℕ) → levelOf k ≤ 16 → countAt d codes (levelOf k) (codeOf k) ≡ count (λ c. under d k (key 16 c)) codes
-unfolding countAt
-count-under d k codes h = count-ext _ _ codes (λ c m. same c)
-  where
-    same : (c : ℕ) → eqb (above d (16 - levelOf k) c) (codeOf k) ≡ under d k (key 16 c)
-    same c =
-        let l : levelOf (key 16 c) ≡ 16 = key-level 16 c (omega arith) in
-        let e : codeOf (key 16 c) ≡ c = key-code 16 c (omega arith) in
-        sym (ap₂ (λ (n x : ℕ). leb (levelOf k) n && eqb (above d (n - levelOf k) x) (codeOf k)) l e ∙ ap (λ b. b && eqb (above d (16 - levelOf k) c) (codeOf k)) (le-leb (levelOf k) 16 h))
 
 -- so a count of that span is the cell's
 pub count-span : (d level code : ℕ) (codes : List ℕ)

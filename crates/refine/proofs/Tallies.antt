@@ -12,7 +12,7 @@ use borrow.Author.Tests.{eq-eqb, ne-eqb}
 use Rattle.slices.specs.Lists.{count, sum}
 use Rattle.slices.proofs.Tests.{same-or-not}
 use Rattle.slices.proofs.Sorted.{count-yes, count-no, count-le}
-use Rattle.dealing.proofs.Sums.{sum-take, sum-mono}
+use Rattle.slices.proofs.Sums.{sum-take, sum-mono}
 use Rattle.refine.specs.Cells.{inCell, CellCounts, RunningSums}
 
 -- ---- counting

@@ -14,7 +14,7 @@ use Rattle.slices.specs.Lists.{bit, count, sum}
 use Rattle.slices.proofs.Tests.{lt-or-le}
 use Rattle.slices.proofs.Counts.{count-add, count-ext, count-zero}
 use Rattle.slices.proofs.Sorted.{count-le}
-use Rattle.dealing.proofs.Sums.{sum-take}
+use Rattle.slices.proofs.Sums.{sum-take}
 use Rattle.refine.specs.Cells.{upToCell, CellCounts, CellSums, RunningSums}
 
 -- how many codes lie in the cells before n

@@ -7,7 +7,7 @@ use native.Mathlib.Omega.{arith}
 use native.Mathlib.Nat.{not-suc-le-zero, le-of-suc-le-suc, zero-add}
 use native.Mathlib.Decide.{decLt}
 use lib.Dec.{ltb}
-use lib.ListN.{length, getD, drop}
+use lib.ListN.{length, getD, take, drop}
 use Rattle.slices.specs.Lists.{bit, count, sum, Mem}
 use Rattle.slices.proofs.Counts.{here, there}
 
@@ -30,6 +30,12 @@ pub sum-swap : (f : ℕ → ℕ → ℕ) (xs ys : List ℕ) → sum (map (λ x. 
 unfolding sum
 sum-swap f [] ys = sym (sum-none (λ y. 0) ys (λ x m. refl))
 sum-swap f (x ∷ xs) ys = omega (arith, sum-swap f xs ys, sum-both (f x) (λ y. sum (map (λ x. f x y) xs)) ys)
+
+-- how many pass a test, as a sum
+pub sum-bits : (p : ℕ → Bool) (xs : List ℕ) → sum (map (λ x. bit (p x)) xs) ≡ count p xs
+unfolding sum count
+sum-bits p [] = refl
+sum-bits p (x ∷ xs) = omega (arith, sum-bits p xs)
 
 -- n, as often as a test passes
 pub sum-times : (p : ℕ → Bool) (n : ℕ) (xs : List ℕ) → count p xs ≤ 1 → sum (map (λ x. cond (p x) n 0) xs) ≡ cond (ltb 0 (count p xs)) n 0
@@ -69,6 +75,33 @@ pub sum-less : (f g : ℕ → ℕ) (xs : List ℕ) → ((x : ℕ) → Mem x xs �
 unfolding sum
 sum-less f g [] h = zero-le
 sum-less f g (x ∷ xs) h = omega (arith, h x (here x xs), sum-less f g xs (λ y m. h y (there x y xs m)))
+
+-- ---- the terms up to a place
+
+pub sum-take : (xs : List ℕ) (i : ℕ) → sum (take (suc i) xs) ≡ sum (take i xs) + getD xs i 0
+unfolding sum
+sum-take [] zero = refl
+sum-take [] (suc i) = refl
+sum-take (x ∷ xs) zero = omega arith
+sum-take (x ∷ xs) (suc i) = omega (arith, sum-take xs i)
+
+pub sum-mono : (xs : List ℕ) (i j : ℕ) → i ≤ j → sum (take i xs) ≤ sum (take j xs)
+unfolding sum
+sum-mono xs zero j h = zero-le
+sum-mono xs (suc i) zero h = absurd (not-suc-le-zero h)
+sum-mono [] (suc i) (suc j) h = zero-le
+sum-mono (x ∷ xs) (suc i) (suc j) h = omega (arith, sum-mono xs i j (le-of-suc-le-suc h))
+
+pub sum-whole : (xs : List ℕ) (i : ℕ) → sum (take i xs) ≤ sum xs
+unfolding sum
+sum-whole xs zero = zero-le
+sum-whole [] (suc i) = zero-le
+sum-whole (x ∷ xs) (suc i) = omega (arith, sum-whole xs i)
+
+pub sum-all : (xs : List ℕ) → sum (take (length xs) xs) ≡ sum xs
+unfolding sum
+sum-all [] = refl
+sum-all (x ∷ xs) = omega (arith, sum-all xs)
 
 -- ---- the terms from a place on
 

@@ -9,7 +9,7 @@ use native.Mathlib.Decide.{decLt}
 use lib.ListN.{length, getD, take}
 use Rattle.slices.specs.Lists.{sum}
 use Rattle.tree.specs.WellFormed.{mostSources}
-use Rattle.tree.proofs.Runs.{sum-take, sum-all}
+use Rattle.slices.proofs.Sums.{sum-take, sum-all}
 
 pub record Added (own begin : List ℕ) (run i : ℕ) : Type 0 where
   pub most : i ≤ length own
@@ -24,7 +24,7 @@ module _ (own begin : List ℕ) where
   add-start l b o = record {
     most = l;
     begins = λ j h. let e : j ≡ 0 = omega arith in rw e b;
-    adds = omega (arith, sum-take own 0 l);
+    adds = omega (arith, sum-take own 0);
     small = zero-le;
   }
 
@@ -32,7 +32,7 @@ module _ (own begin : List ℕ) where
   add-more run i a l b n = record {
     most = omega arith;
     begins = λ j h. here j h (decLt j i);
-    adds = rw (add-one i) (omega (arith, a .adds, sum-take own i l));
+    adds = rw (add-one i) (omega (arith, a .adds, sum-take own i));
     small = omega (arith, a .small);
   }
     where

@@ -10,7 +10,7 @@ use Rattle.tree.specs.Order.{endOf}
 use Rattle.tree.specs.Sources.{leafSources, cellSources}
 use Rattle.tree.specs.WellFormed.{wellFormed}
 use Rattle.tree.proofs.Rules.{Formed, all-facts}
-use Rattle.tree.proofs.Runs.{sum-whole}
+use Rattle.slices.proofs.Sums.{sum-whole}
 use Rattle.tree.proofs.Parts.{whole}
 use Rattle.tree.proofs.Sums.{total-to}
 

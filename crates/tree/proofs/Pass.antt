@@ -12,7 +12,7 @@ use Rattle.slices.proofs.Tests.{and-l, and-r, both, clash, refute}
 use Rattle.morton.specs.Keys.{valid}
 use Rattle.tree.specs.WellFormed.{mostSources, parentsStored, leavesOwn, runsAdd}
 use Rattle.tree.proofs.Clauses.{parents-facts, facts-parents, leaves-facts, facts-leaves, runs-facts, facts-runs}
-use Rattle.tree.proofs.Runs.{sum-take, sum-whole}
+use Rattle.slices.proofs.Sums.{sum-take, sum-whole}
 use Rattle.tree.proofs.Adding.{Added, add-start, add-more, add-done}
 use Rattle.tree.specs.WellFormed.{keysAscend}
 use Rattle.tree.specs.Pass.{follows, mayOwn, rowsRight, Rooted}
@@ -95,7 +95,7 @@ module _ (d : ℕ) (keys own begin : List ℕ) (r : Rooted d keys own begin) whe
     pub too-many : mostSources - run < getD own i 0 → false ≡ rowsRight d keys own begin
     too-many n = broken (λ w.
         let lo : i < length own = omega (arith, r .owns) in
-        omega (arith, w .most, a .added .adds, a .added .small, sum-take own i lo, sum-whole own (suc i)))
+        omega (arith, w .most, a .added .adds, a .added .small, sum-take own i, sum-whole own (suc i)))
 
     pub pass-more : follows d (getD keys (i - 1) 0) (getD keys i 0) ≡ true → mayOwn (getD keys (i - 1) 0) (getD keys i 0) (getD own (i - 1) 0) ≡ true
         → getD begin i 0 ≡ run → getD own i 0 ≤ mostSources - run → Passed d keys own begin (run + getD own i 0) (i + 1)

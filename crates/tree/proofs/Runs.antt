@@ -1,37 +1,14 @@
 -- Running sums: each source place lies in one run.
-use mathlib.Core.Path.{_≡_, refl, sym, ap, _∙_}
+use mathlib.Core.Path.{_≡_}
 use mathlib.Core.List.{List, [], _∷_}
-use Prim.Native.Nat.{ℕ, zero, suc, _+_, _-_, _≤_, _<_, suc-le-suc, zero-le}
+use Prim.Native.Nat.{ℕ, suc, _+_, _-_, _≤_, _<_, suc-le-suc, zero-le}
 use native.Mathlib.Omega.{arith}
-use native.Mathlib.Nat.{le-of-suc-le-suc, not-suc-le-zero}
+use native.Mathlib.Nat.{not-suc-le-zero}
 use native.Mathlib.Decide.{decLt}
 use lib.ListN.{length, getD, take}
 use Rattle.slices.specs.Lists.{sum}
+use Rattle.slices.proofs.Sums.{sum-take, sum-mono}
 use Rattle.tree.specs.WellFormed.{Run}
-
-pub sum-take : (own : List ℕ) (j : ℕ) → j < length own → sum (take (suc j) own) ≡ sum (take j own) + getD own j 0
-unfolding sum
-sum-take [] j l = absurd (not-suc-le-zero l)
-sum-take (x ∷ xs) zero l = omega arith
-sum-take (x ∷ xs) (suc j) l = omega (arith, sum-take xs j (le-of-suc-le-suc l))
-
-pub sum-mono : (own : List ℕ) (i j : ℕ) → i ≤ j → sum (take i own) ≤ sum (take j own)
-unfolding sum
-sum-mono own zero j h = zero-le
-sum-mono own (suc i) zero h = absurd (not-suc-le-zero h)
-sum-mono [] (suc i) (suc j) h = zero-le
-sum-mono (x ∷ xs) (suc i) (suc j) h = omega (arith, sum-mono xs i j (le-of-suc-le-suc h))
-
-pub sum-whole : (own : List ℕ) (i : ℕ) → sum (take i own) ≤ sum own
-unfolding sum
-sum-whole own zero = zero-le
-sum-whole [] (suc i) = zero-le
-sum-whole (x ∷ xs) (suc i) = omega (arith, sum-whole xs i)
-
-pub sum-all : (own : List ℕ) → sum (take (length own) own) ≡ sum own
-unfolding sum
-sum-all [] = refl
-sum-all (x ∷ xs) = omega (arith, sum-all xs)
 
 spot : (own : List ℕ) (p : ℕ) → p < sum own → (j : ℕ) × (j < length own) × (sum (take j own) ≤ p) × (p < sum (take j own) + getD own j 0)
 unfolding sum
@@ -48,7 +25,7 @@ module _ (own begin : List ℕ) (runs : (i : ℕ) → i < length own → getD be
   run-of p h = let r = spot own p h in let e = runs (r .0) (r .1) in (r .0, record { node = r .1; from = omega (arith, e, r .2); to = omega (arith, e, r .3) })
 
   not-before : (p j k : ℕ) → Run own begin j p → Run own begin k p → j < k → ⊥
-  not-before p j k a b h = omega (arith, a .to, b .from, b .node, runs j (a .node), runs k (b .node), sum-take own j (a .node), sum-mono own (suc j) k h)
+  not-before p j k a b h = omega (arith, a .to, b .from, b .node, runs j (a .node), runs k (b .node), sum-take own j, sum-mono own (suc j) k h)
 
   pub run-unique : (p j k : ℕ) → Run own begin j p → Run own begin k p → j ≡ k
   run-unique p j k r t = go (decLt j k) (decLt k j)

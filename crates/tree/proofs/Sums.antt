@@ -16,7 +16,8 @@ use Rattle.morton.specs.Keys.{under}
 use Rattle.tree.specs.Nodes.{leaf, ownOf}
 use Rattle.tree.specs.WellFormed.{Run}
 use Rattle.tree.proofs.Members.{own-at}
-use Rattle.tree.proofs.Runs.{sum-take, sum-mono, sum-whole, sum-all, run-of}
+use Rattle.slices.proofs.Sums.{sum-take, sum-mono, sum-whole, sum-all}
+use Rattle.tree.proofs.Runs.{run-of}
 use Rattle.tree.specs.Order.{endOf}
 use Rattle.tree.specs.Totals.{totalIn}
 use Rattle.tree.proofs.Rules.{Ascending, Tree, Rows, Formed}
@@ -101,7 +102,7 @@ module _ (d : ℕ) (keys own begin total : List ℕ) (w : Formed d keys own begi
         where
           low : (j : ℕ) → Run own begin j p → Dec (j < i) → i ≤ j
           low j r (no n) = omega arith
-          low j r (yes h) = absurd (omega (arith, r .to, begins j (r .node), sum-take own j (r .node), sum-mono own (suc j) i h, begins i (omega (arith, w .owns))))
+          low j r (yes h) = absurd (omega (arith, r .to, begins j (r .node), sum-take own j, sum-mono own (suc j) i h, begins i (omega (arith, w .owns))))
 
           high : (j : ℕ) → Run own begin j p → Dec (j < endOf keys i) → j < endOf keys i
           high j r (yes h) = h
@@ -114,7 +115,7 @@ module _ (d : ℕ) (keys own begin total : List ℕ) (w : Formed d keys own begi
           let a = leb-true i j (and-l _ _ h) in
           let b = ltb-true j (endOf keys i) (and-r (leb i j) _ h) in (
             omega (arith, r .from, begins j (r .node), begins i (omega (arith, w .owns)), sum-mono own i j a),
-            omega (arith, r .to, begins j (r .node), sum-take own j (r .node), sum-mono own (suc j) (endOf keys i) b, total-to i l),
+            omega (arith, r .to, begins j (r .node), sum-take own j, sum-mono own (suc j) (endOf keys i) b, total-to i l),
           )
 
   -- a node with a run is a leaf

@@ -12,11 +12,10 @@ use borrow.Author.Tests.{ltb-true, leb-true, eqb-true, lt-ltb, le-ltb, le-leb, l
 use Rattle.slices.specs.Lists.{bit, count, sum, Mem, Distinct}
 use Rattle.slices.proofs.Tests.{and-l, and-r, both, clash, refute, same-test}
 use Rattle.slices.proofs.Counts.{count-one, count-zero}
-use Rattle.slices.proofs.Sums.{sum-same, sum-both, sum-none, sum-swap, sum-times}
+use Rattle.slices.proofs.Sums.{sum-same, sum-both, sum-none, sum-swap, sum-times, sum-all}
 use Rattle.morton.specs.Keys.{levelOf, codeOf, parent, under}
 use Rattle.morton.proofs.Cells.{level-at, level-parent}
 use Rattle.tree.specs.Nodes.{cellAt, stored, childOf, leaf, ownOf}
-use Rattle.tree.proofs.Runs.{sum-all}
 use Rattle.tree.proofs.Under.{under-self, under-trans, child-under, under-facts}
 use Rattle.tree.specs.Order.{endOf}
 use Rattle.tree.specs.Totals.{totalIn}
@@ -27,12 +26,6 @@ use Rattle.tree.proofs.Laws.{holder-at}
 use Rattle.tree.proofs.Sums.{total-part}
 use Rattle.tree.proofs.Sourced.{child-at}
 use Rattle.tree.proofs.Stored.{above-mem}
-
--- how many pass a test, as a sum
-pub sum-bits : (p : ℕ → Bool) (xs : List ℕ) → sum (map (λ x. bit (p x)) xs) ≡ count p xs
-unfolding sum count
-sum-bits p [] = refl
-sum-bits p (x ∷ xs) = omega (arith, sum-bits p xs)
 
 module _ (d : ℕ) (keys own : List ℕ) (t : Tree d keys) (owns : length own ≡ length keys) (some : 0 < length keys) where
   -- the root's total is all sources

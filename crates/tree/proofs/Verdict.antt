@@ -2,11 +2,9 @@
 use mathlib.Core.Path.{_≡_, refl, sym, ap, _∙_}
 use mathlib.Core.Bool.{Bool, true, false, _&&_}
 use mathlib.Core.List.{List}
-use Prim.Native.Nat.{ℕ, _≤_, _<_}
+use Prim.Native.Nat.{ℕ, _<_}
 use native.Mathlib.Omega.{arith}
-use lib.Dec.{leb}
 use lib.ListN.{length, getD, take}
-use borrow.Author.Tests.{leb-true}
 use Rattle.slices.specs.Lists.{sum}
 use Rattle.slices.proofs.Tests.{and-l, and-r, clash, refute}
 use Rattle.morton.specs.Keys.{axesKnown}
@@ -76,6 +74,3 @@ module _ (d : ℕ) (keys own begin total : List ℕ) where
 
   pub keys-of : wellFormed d keys own begin total ≡ true → keysAscend d keys ≡ true
   keys-of h = facts-ascend d keys (all-facts d keys own begin total h .rows .tree .ascending)
-
-  pub axes-of : (axesKnown d && wellFormed d keys own begin total) ≡ true → (1 ≤ d) × (d ≤ 3) × (wellFormed d keys own begin total ≡ true)
-  axes-of h = (leb-true 1 d (and-l _ _ (and-l (axesKnown d) _ h)), leb-true d 3 (and-r (leb 1 d) _ (and-l (axesKnown d) _ h)), and-r (axesKnown d) _ h)

@@ -15,7 +15,7 @@ use Rattle.slices.specs.Lists.{sum}
 use Rattle.slices.proofs.Tests.{and-l, and-r, both, clash, refute}
 use Rattle.morton.specs.Keys.{levelOf}
 use Rattle.tree.specs.WellFormed.{mostSources}
-use Rattle.tree.proofs.Runs.{sum-take, sum-whole}
+use Rattle.slices.proofs.Sums.{sum-take, sum-whole}
 use Rattle.tree.specs.Order.{deeperRun, endOf}
 use Rattle.tree.specs.Totals.{totalIn}
 use Rattle.tree.specs.Pass.{waiting, rowsRight, Rowed}
@@ -158,7 +158,7 @@ module _ (d : ℕ) (keys own : List ℕ) (t : Tree d keys) (owns : length own �
       let b = held-run (levelOf (getD keys i 0)) (drop (suc i) keys) (drop (suc i) own) (omega (arith, length-drop (suc i) keys, length-drop (suc i) own)) in
       let c = total-part d keys own t owns i (endOf keys i) l (ends keys i l) in
       let e = ap sum (take-add (suc i) (deeperRun (levelOf (getD keys i 0)) (drop (suc i) keys)) own) ∙ sum-append (take (suc i) own) (take (deeperRun (levelOf (getD keys i 0)) (drop (suc i) keys)) (drop (suc i) own)) in
-      omega (arith, sum-take own i lo)
+      omega (arith, sum-take own i)
 
 -- the waiting sums, after the rows from i on
 pub record Waits (keys own w : List ℕ) (i : ℕ) : Type 0 where
@@ -214,7 +214,7 @@ module _ (d : ℕ) (keys own begin total : List ℕ) (r : Rowed d keys own begin
         omega (arith, a .waits .sums l h, wait-le l (drop n keys) (drop n own) (drop-steps d keys own (rows .tree) (r .owns) n), sum-drop n own, rows .most)
 
     pub own-most : getD own i 0 ≤ mostSources
-    own-most = omega (arith, rows .most, sum-take own i (omega (arith, inside, r .owns)), sum-whole own (suc i))
+    own-most = omega (arith, rows .most, sum-take own i, sum-whole own (suc i))
 
     pub sum-fits : getD own i 0 + getD w (levelOf (getD keys i 0) + 1) 0 ≤ 2 * mostSources
     sum-fits = omega (arith, own-most, wait-most (levelOf (getD keys i 0) + 1) (omega (arith, level-in)))

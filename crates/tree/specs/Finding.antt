@@ -3,12 +3,12 @@ use mathlib.Core.Path.{_≡_}
 use mathlib.Core.Bool.{Bool, true, false}
 use mathlib.Core.List.{List}
 use Prim.Native.Nat.{ℕ, _≤_, _<_}
-use lib.Dec.{leb, ltb}
+use lib.Dec.{ltb}
 use lib.ListN.{length, getD}
 use Rattle.morton.specs.Keys.{axesKnown, levelOf}
 use Rattle.tree.specs.Nodes.{stored}
 use Rattle.tree.specs.WellFormed.{parentsStored}
-use Rattle.tree.specs.Order.{before, first}
+use Rattle.tree.specs.Order.{before}
 use Rattle.tree.specs.WellFormed.{keysAscend}
 use Rattle.tree.specs.declared.Found.{Found}
 use Rattle.tree.specs.declared.Found.the-variants.{At, Nothing}
@@ -19,11 +19,6 @@ pub record TreeKeys (d : ℕ) (keys : List ℕ) : Type 0 where
   pub some : 0 < length keys
   pub ascend : keysAscend d keys ≡ true
   pub parents : parentsStored d keys ≡ true
-
--- r is the last node whose first code is at most a level-16 code
-pub record LastNode (d : ℕ) (keys : List ℕ) (code r : ℕ) : Type 0 where
-  pub within : r < length keys
-  pub splits : (j : ℕ) → j < length keys → leb (first d (getD keys j 0)) code ≡ leb j r
 
 -- where the keys are valid and in order, r is the number of the first node that does not come before cell k, or the number of nodes
 pub record FirstFrom (d : ℕ) (keys : List ℕ) (k r : ℕ) : Type 0 where

@@ -3,14 +3,12 @@ ghost use mathlib.Core.Path.{_≡_};
 ghost use mathlib.Core.Bool.{true, _&&_};
 ghost use Prim.Native.Nat.{ℕ, _+_, _≤_, _<_};
 ghost use lib.ListN.{length, getD};
-ghost use lib.Dec.{leb};
-ghost use Rattle.morton.specs.Keys.{axesKnown, levelOf, above, under};
+ghost use Rattle.morton.specs.Keys.{axesKnown, above, under};
 ghost use Rattle.tree.specs.Nodes.{leaf};
-ghost use Rattle.tree.specs.Order.{before, depthOf, endOf, first};
+ghost use Rattle.tree.specs.Order.{before, depthOf, endOf};
 ghost use Rattle.tree.specs.WellFormed.{wellFormed};
 ghost use Rattle.tree.specs.Pass.{follows, mayOwn, rowsRight, Rooted, Rowed};
-ghost use Rattle.tree.specs.Leaves.{leafOf};
-ghost use Rattle.tree.specs.Finding.{TreeKeys, LastNode, FirstFrom, FoundNode};
+ghost use Rattle.tree.specs.Finding.{TreeKeys, FirstFrom, FoundNode};
 ghost use Rattle.tree.specs.Sources.{leafSources, cellSources};
 
 pub const MOST_SOURCES: usize = 1048576;
@@ -188,32 +186,6 @@ pub fn depth_of(key: &[u64]) -> u64
     depth
 }
 
-// Whether a node's first level-16 code is at most one.
-fn begins_by(axes: usize, k: u64, code: u64) -> bool
-    requires { ⌜ (axesKnown axes ≡ true) × (levelOf k ≤ 16) ⌝ }
-    ensures { λ r. ⌜ r ≡ leb (first axes k) code ⌝ }
-{
-    k / 32768 <= up(axes, code, 16 - k % 32768)
-}
-
-// The last node whose first code is at most a level-16 code, by halving.
-pub fn last_node(axes: usize, key: &[u64], code: u64) -> usize
-    requires { ⌜ TreeKeys axes (now key) ⌝ }
-    ensures { λ r. ⌜ LastNode axes (now (key .entry)) code r ⌝ }
-{
-    let mut low = 0;
-    let mut high = key.len();
-    while low + 1 < high {
-        let middle = low + (high - low) / 2;
-        if begins_by(axes, key[middle], code) {
-            low = middle;
-        } else {
-            high = middle;
-        }
-    }
-    low
-}
-
 // Whether a node is a leaf: by the next row.
 pub fn is_leaf(axes: usize, key: &[u64], node: usize) -> bool
     requires { ⌜ TreeKeys axes (now key) × (node < length (now key)) ⌝ }
@@ -272,22 +244,6 @@ pub fn end_of(axes: usize, key: &[u64], node: usize) -> usize
         }
     }
     low + 1
-}
-
-// The leaf that holds a level-16 code: the last node that begins by it, if that is a leaf and holds it.
-pub fn leaf_of(axes: usize, key: &[u64], code: u64) -> Found
-    requires { ⌜ TreeKeys axes (now key) ⌝ }
-    ensures { λ r. ⌜ r ≡ leafOf axes (now (key .entry)) code ⌝ }
-{
-    let node = last_node(axes, key, code);
-    if !is_leaf(axes, key, node) {
-        return Found::Nothing;
-    }
-    let k = key[node];
-    if up(axes, code, 16 - k % 32768) != k / 32768 {
-        return Found::Nothing;
-    }
-    Found::At(node)
 }
 
 // The number of the first node that does not come before k, by halving.

@@ -5,15 +5,15 @@ use native.Mathlib.Omega.{arith}
 use denote.Ref.{now}
 use lib.ListN.{getD}
 use Rattle.morton.proofs.Checks.{axes-facts}
-use Rattle.lookup.proofs.Leaves.{depth-le}
-use Rattle.lookup.proofs.Batch.{Looking, climb-leaf, climb-not, look-start, look-room, look-few, look-more, look-failed, look-short, look-ended, look-written}
+use Rattle.tree.proofs.Leaves.{tree-of, depth-le}
+use Rattle.lookup.proofs.Batch.{Looking, holder-leaf, holder-none, look-start, look-room, look-few, look-more, look-failed, look-short, look-ended, look-written}
 use borrow.Author.Needs.{needs}
 use Rattle.lookup.proofs.leaves_by.Statement.{statement}
 use Rattle.lookup.proofs.leaves_by.Tie as tie
 use Rattle.lookup.proofs.leaves_by.Reads as reads
 use Rattle.lookup.proofs.leaves_by.Lts as lts
-use Rattle.lookup.proofs.climb_by.Reads as climb-by-reads
-use Rattle.lookup.proofs.hints.hint_of.Reads as hint-of-reads
+use Rattle.lookup.proofs.holder_of.Reads as holder-of-reads
+use Rattle.hints.proofs.hint_of.Reads as hint-of-reads
 use Rattle.tree.proofs.depth_of.Reads as depth-of-reads
 
 abbrev Inv-loop : tie.InvT-loop
@@ -37,11 +37,11 @@ slice-read-code c = let a = c .before .before .before .before .before .before .a
 hint-of-requires : tie.Need-hint-of-requires Inv-loop μ-loop
 hint-of-requires c κs = axes-facts _ (c .before .before .before .before .before .before .pre .0 .axes) .1
 
-climb-by-requires : tie.Need-climb-by-requires Inv-loop μ-loop
-climb-by-requires c κs = (c .before .before .before .before .before .before .before .pre .0, c .before .before .before .before .depth-of .ensures)
+holder-of-requires : tie.Need-holder-of-requires Inv-loop μ-loop
+holder-of-requires c κs = (c .before .before .before .before .before .before .before .pre .0, c .before .before .before .before .depth-of .ensures)
 
-enum-known-climb : tie.Need-enum-known-climb Inv-loop μ-loop
-enum-known-climb c = search needs
+enum-known-holder : tie.Need-enum-known-holder Inv-loop μ-loop
+enum-known-holder c = search needs
 
 mul-codes : tie.Need-mul-codes Inv-loop μ-loop
 mul-codes c = omega (arith, c .before .before .before .before .before .before .before .before .before .before .before .pre .2, c .before .before .before .before .before .before .loop-test .taken)
@@ -50,7 +50,7 @@ slice-write-codes : tie.Need-slice-write-codes Inv-loop μ-loop
 slice-write-codes c = let a = c .before .before .before .before .before .before .before .before .before .before .before .args in let p = c .before .before .before .before .before .before .before .before .before .before .before .pre in look-room (a .axes) (now (a .key)) (a .n) (now (a .codes)) (p .1) (c .before .before .before .before .before .before .before .loop .row) (c .before .before .before .before .before .before .before .loop .steps) (c .before .before .before .before .before .before .before .loop .codes) (c .before .before .before .before .before .before .before .loop .inv) (c .before .before .before .before .before .before .loop-test .taken)
 
 add-steps : tie.Need-add-steps Inv-loop μ-loop
-add-steps c = let a = c .before .before .before .before .before .before .before .before .before .before .before .args in let p = c .before .before .before .before .before .before .before .before .before .before .before .pre in let few = depth-le (a .axes) (now (a .key)) (p .0) 0 in let f = climb-leaf (a .axes) (now (a .key)) (getD (c .before .before .before .before .before .before .before .loop .codes) (c .before .before .before .before .before .before .before .loop .row) 0) _ _ (sym (c .before .before .before .climb-by .ensures) ∙ c .before .climb .given .1) in omega (arith, look-few (a .axes) (now (a .key)) (a .n) (now (a .codes)) (p .1) (c .before .before .before .before .before .before .before .loop .row) (c .before .before .before .before .before .before .before .loop .steps) (c .before .before .before .before .before .before .before .loop .codes) (c .before .before .before .before .before .before .before .loop .inv) (c .before .before .before .before .before .before .loop-test .taken) _ few (f .2), p .2, c .before .before .before .before .before .before .loop-test .taken)
+add-steps c = let a = c .before .before .before .before .before .before .before .before .before .before .before .args in let p = c .before .before .before .before .before .before .before .before .before .before .before .pre in let few = depth-le (a .axes) (now (a .key)) (tree-of (a .axes) (now (a .key)) (p .0)) in let f = holder-leaf (a .axes) (now (a .key)) (getD (c .before .before .before .before .before .before .before .loop .codes) (c .before .before .before .before .before .before .before .loop .row) 0) _ _ (sym (c .before .before .before .holder-of .ensures) ∙ c .before .holder .given .1) in omega (arith, look-few (a .axes) (now (a .key)) (a .n) (now (a .codes)) (p .1) (c .before .before .before .before .before .before .before .loop .row) (c .before .before .before .before .before .before .before .loop .steps) (c .before .before .before .before .before .before .before .loop .codes) (c .before .before .before .before .before .before .before .loop .inv) (c .before .before .before .before .before .before .loop-test .taken) _ few (f .2), p .2, c .before .before .before .before .before .before .loop-test .taken)
 
 enum-told : tie.Need-enum-told Inv-loop μ-loop
 enum-told c = search needs
@@ -59,7 +59,7 @@ same-length : tie.Need-same-length Inv-loop μ-loop
 same-length c = c .before .before .before .before .before .before .loop .inv .kept
 
 returns : tie.Need-returns Inv-loop μ-loop
-returns c = let a = c .before .before .before .before .before .before .before .before .before .before .args in let p = c .before .before .before .before .before .before .before .before .before .before .pre in let f = climb-not (a .axes) (now (a .key)) (getD (c .before .before .before .before .before .before .loop .codes) (c .before .before .before .before .before .before .loop .row) 0) (sym (c .before .before .climb-by .ensures) ∙ c .enum-told .given .1) in (look-failed (a .axes) (now (a .key)) (a .n) (now (a .codes)) (p .1) (c .before .before .before .before .before .before .loop .row) (c .before .before .before .before .before .before .loop .steps) (c .before .before .before .before .before .before .loop .codes) (c .before .before .before .before .before .before .loop .inv) (c .before .before .before .before .before .loop-test .taken) f, (c .before .before .before .before .before .before .loop .inv .kept, λ q. absurd (look-short (a .axes) (now (a .key)) (a .n) (now (a .codes)) (p .1) (c .before .before .before .before .before .before .loop .row) (c .before .before .before .before .before .before .loop .steps) (c .before .before .before .before .before .before .loop .codes) (c .before .before .before .before .before .before .loop .inv) (c .before .before .before .before .before .loop-test .taken) f q)))
+returns c = let a = c .before .before .before .before .before .before .before .before .before .before .args in let p = c .before .before .before .before .before .before .before .before .before .before .pre in let f = holder-none (a .axes) (now (a .key)) (getD (c .before .before .before .before .before .before .loop .codes) (c .before .before .before .before .before .before .loop .row) 0) (sym (c .before .before .holder-of .ensures) ∙ c .enum-told .given .1) in (look-failed (a .axes) (now (a .key)) (a .n) (now (a .codes)) (p .1) (c .before .before .before .before .before .before .loop .row) (c .before .before .before .before .before .before .loop .steps) (c .before .before .before .before .before .before .loop .codes) (c .before .before .before .before .before .before .loop .inv) (c .before .before .before .before .before .loop-test .taken) f, (c .before .before .before .before .before .before .loop .inv .kept, λ q. absurd (look-short (a .axes) (now (a .key)) (a .n) (now (a .codes)) (p .1) (c .before .before .before .before .before .before .loop .row) (c .before .before .before .before .before .before .loop .steps) (c .before .before .before .before .before .before .loop .codes) (c .before .before .before .before .before .before .loop .inv) (c .before .before .before .before .before .loop-test .taken) f q)))
 
 add-row : tie.Need-add-row Inv-loop μ-loop
 add-row c = omega (arith, c .before .before .before .before .before .before .before .before .before .before .before .pre .2, c .before .before .before .before .before .before .loop-test .taken)
@@ -68,7 +68,7 @@ loop-less : tie.Need-loop-less Inv-loop μ-loop
 loop-less c = search needs
 
 loop-again : tie.Need-loop-again Inv-loop μ-loop
-loop-again c = let a = c .before .before .before .before .before .before .before .before .before .before .before .args in let p = c .before .before .before .before .before .before .before .before .before .before .before .pre in let few = depth-le (a .axes) (now (a .key)) (p .0) 0 in let f = climb-leaf (a .axes) (now (a .key)) (getD (c .before .before .before .before .before .before .before .loop .codes) (c .before .before .before .before .before .before .before .loop .row) 0) _ _ (sym (c .before .before .before .climb-by .ensures) ∙ c .before .climb .given .1) in look-more (a .axes) (now (a .key)) (a .n) (now (a .codes)) (p .1) (c .before .before .before .before .before .before .before .loop .row) (c .before .before .before .before .before .before .before .loop .steps) (c .before .before .before .before .before .before .before .loop .codes) (c .before .before .before .before .before .before .before .loop .inv) (c .before .before .before .before .before .before .loop-test .taken) _ few _ (f .0) (f .1) (f .2)
+loop-again c = let a = c .before .before .before .before .before .before .before .before .before .before .before .args in let p = c .before .before .before .before .before .before .before .before .before .before .before .pre in let few = depth-le (a .axes) (now (a .key)) (tree-of (a .axes) (now (a .key)) (p .0)) in let f = holder-leaf (a .axes) (now (a .key)) (getD (c .before .before .before .before .before .before .before .loop .codes) (c .before .before .before .before .before .before .before .loop .row) 0) _ _ (sym (c .before .before .before .holder-of .ensures) ∙ c .before .holder .given .1) in look-more (a .axes) (now (a .key)) (a .n) (now (a .codes)) (p .1) (c .before .before .before .before .before .before .before .loop .row) (c .before .before .before .before .before .before .before .loop .steps) (c .before .before .before .before .before .before .before .loop .codes) (c .before .before .before .before .before .before .before .loop .inv) (c .before .before .before .before .before .before .loop-test .taken) _ few _ (f .0) (f .1) (f .2)
 
 same-length-2 : tie.Need-same-length-2 Inv-loop μ-loop
 same-length-2 c = c .before .loop .inv .kept
@@ -78,4 +78,4 @@ returns-2 c = let a = c .before .before .before .before .before .args in let p =
 
 pub leaves-by-spec : {M : Type 1} → statement M
 leaves-by-spec =
-    tie.close (tie.spec Inv-loop μ-loop depth-of-requires loop-holds mul-code slice-read-code hint-of-requires climb-by-requires enum-known-climb mul-codes slice-write-codes add-steps enum-told same-length returns add-row loop-less loop-again same-length-2 returns-2)
+    tie.close (tie.spec Inv-loop μ-loop depth-of-requires loop-holds mul-code slice-read-code hint-of-requires holder-of-requires enum-known-holder mul-codes slice-write-codes add-steps enum-told same-length returns add-row loop-less loop-again same-length-2 returns-2)

@@ -5,7 +5,7 @@ use Rattle.lookup.proofs.leaves_of.Statement.{statement}
 use Rattle.lookup.proofs.leaves_of.Tie as tie
 use Rattle.lookup.proofs.leaves_of.Reads as reads
 use Rattle.lookup.proofs.leaves_of.Lts as lts
-use Rattle.lookup.proofs.hints.prepare.Reads as prepare-reads
+use Rattle.hints.proofs.prepare.Reads as prepare-reads
 use Rattle.lookup.proofs.leaves_by.Reads as leaves-by-reads
 
 prepare-requires : tie.Need-prepare-requires

@@ -1,11 +1,7 @@
 -- `lookup::tree_outcome` meets its contract.
-use mathlib.Core.Path.{refl, sym, _∙_}
 use mathlib.Core.Bool.{true, false}
 use denote.Ref.{now}
 use borrow.Author.Tests.{not-true, not-false}
-use Rattle.morton.proofs.Checks.{axes-known}
-use Rattle.space.proofs.Refusals.{fine}
-use Rattle.lookup.proofs.TreeRule.{by-rule}
 use Rattle.lookup.proofs.Single.{box-stops, tree-tested}
 use borrow.Author.Needs.{needs}
 use Rattle.lookup.proofs.tree_outcome.Statement.{statement}
@@ -22,7 +18,7 @@ enum-known-boxed : tie.Need-enum-known-boxed
 enum-known-boxed c = search needs
 
 returns : tie.Need-returns
-returns c = let a = c .before .before .before .before .before .before .before .before .args in box-stops (a .b) (now (a .key)) (now (a .own)) (now (a .begin)) (now (a .total)) _ (sym (c .before .before .before .box-outcome .ensures) ∙ c .before .boxed .given .1)
+returns c = let a = c .before .before .before .before .before .before .before .before .args in box-stops (a .b) (now (a .key)) (now (a .own)) (now (a .begin)) (now (a .total)) (c .before .before .before .box-outcome .result) (c .before .before .before .box-outcome .ensures) _ (c .before .boxed .given .1)
 
 enum-told : tie.Need-enum-told
 enum-told c = search needs
@@ -31,10 +27,10 @@ is-well-formed-requires : tie.Need-is-well-formed-requires
 is-well-formed-requires c κs = search needs
 
 returns-2 : tie.Need-returns-2
-returns-2 c = let a = c .before .before .before .before .before .before .before .before .before .args in let o = sym (c .before .before .before .before .box-outcome .ensures) ∙ c .before .before .enum-told .given .1 in let f = fine (a .b) o in let t = by-rule (a .b .axes) (now (a .key)) (now (a .own)) (now (a .begin)) (now (a .total)) (axes-known (a .b .axes) (f .least) (f .most)) _ refl ∙ sym (c .before .is-well-formed .ensures) ∙ not-true _ (c .if1 .taken) in tree-tested (a .b) (now (a .key)) (now (a .own)) (now (a .begin)) (now (a .total)) false o t
+returns-2 c = let a = c .before .before .before .before .before .before .before .before .before .args in tree-tested (a .b) (now (a .key)) (now (a .own)) (now (a .begin)) (now (a .total)) (c .before .before .before .before .box-outcome .result) (c .before .before .before .before .box-outcome .ensures) (c .before .before .enum-told .given .1) (c .before .is-well-formed .result) (c .before .is-well-formed .ensures) false (not-true _ (c .if1 .taken))
 
 returns-3 : tie.Need-returns-3
-returns-3 c = let a = c .before .before .before .before .before .before .before .before .before .args in let o = sym (c .before .before .before .before .box-outcome .ensures) ∙ c .before .before .enum-told .given .1 in let f = fine (a .b) o in let t = by-rule (a .b .axes) (now (a .key)) (now (a .own)) (now (a .begin)) (now (a .total)) (axes-known (a .b .axes) (f .least) (f .most)) _ refl ∙ sym (c .before .is-well-formed .ensures) ∙ not-false _ (c .if1 .left) in tree-tested (a .b) (now (a .key)) (now (a .own)) (now (a .begin)) (now (a .total)) true o t
+returns-3 c = let a = c .before .before .before .before .before .before .before .before .before .args in tree-tested (a .b) (now (a .key)) (now (a .own)) (now (a .begin)) (now (a .total)) (c .before .before .before .before .box-outcome .result) (c .before .before .before .before .box-outcome .ensures) (c .before .before .enum-told .given .1) (c .before .is-well-formed .result) (c .before .is-well-formed .ensures) true (not-false _ (c .if1 .left))
 
 pub tree-outcome-spec : {M : Type 1} → statement M
 tree-outcome-spec =
