@@ -1,43 +1,47 @@
 //! The calls on the tree of a survey, beside the customer's Rust and plain Rust: identical answers, then times.
 use crate::clock::{least_of_two, lower, rounds};
-use crate::plain::{self, READINGS};
+use crate::plain::{self, READINGS, Reading};
 use crate::report::{Named, Report};
 use crate::slices::{Lent, Room};
 use crate::words::Words;
 use crate::{customer, shapes};
 use ferreus_bbfmm::bbfmm::TreeLists;
 use lohandema::lent::{self, Asked};
-use lohandema::trees::{Lists, Tree};
+use lohandema::trees::Tree;
 use std::collections::{HashMap, HashSet};
 
-/// The times of our list call and of each plain reading, in turn. All write where there is room already.
-pub fn list_times(tree: &Tree, ours: &Lists, runs: usize) -> [f64; 4] {
-    let (mut slices, mut rows) = (Lent::new(ours), ours.clone());
-    let mut plain = |reading| plain::lists(reading, tree.axes(), &tree.key, &tree.own, &mut rows);
-    let mut least = [f64::INFINITY; 4];
+type Readings<'a> = &'a [(&'a str, Reading)];
+
+/// The times of our list call and of plain readings, in turn. The rows of all are compared before; all write where there is
+/// room already.
+pub fn list_times(tree: &Tree, readings: Readings, runs: usize) -> (f64, Vec<f64>) {
+    let ours = tree.get_interaction_lists().expect("room enough");
+    let (mut slices, mut rows) = (Lent::new(&ours), ours.clone());
+    let plain =
+        |reading, rows: &mut _| plain::lists(reading, tree.axes(), &tree.key, &tree.own, rows);
+    for (name, reading) in readings {
+        plain(*reading, &mut rows);
+        assert!(rows == ours, "{name}");
+    }
+    let (mut time, mut times) = (f64::INFINITY, vec![f64::INFINITY; readings.len()]);
     for _ in rounds(runs) {
-        lower(&mut least[0], || slices.fill(tree));
-        for (time, (_, reading)) in least[1..].iter_mut().zip(READINGS) {
-            lower(time, || plain(reading));
+        lower(&mut time, || slices.fill(tree));
+        for (time, (_, reading)) in times.iter_mut().zip(readings) {
+            lower(time, || plain(*reading, &mut rows));
         }
     }
-    least
+    (time, times)
 }
 
-/// The rows of each plain reading are ours.
-pub fn same_plain_rows(tree: &Tree, ours: &Lists) {
-    for (name, reading) in READINGS {
-        let mut rows = Lists::default();
-        plain::lists(reading, tree.axes(), &tree.key, &tree.own, &mut rows);
-        assert!(rows == *ours, "{name}");
+/// The list call beside each plain reading; answers our time.
+pub fn lists(report: &Report, named: Named, tree: &Tree, runs: usize) -> f64 {
+    let (ours, times) = list_times(tree, &READINGS, runs);
+    let mut most: f64 = 0.0;
+    for ((name, _), time) in READINGS.iter().zip(times) {
+        most = most.max(report.beside("lists", name, named, [ours, time]));
     }
-}
-
-/// Prints the times of our list call and of each plain reading.
-pub fn report_lists(report: &Report, named: Named, times: [f64; 4]) {
-    for ((name, _), time) in READINGS.into_iter().zip(&times[1..]) {
-        report.beside("lists", name, named, [times[0], *time]);
-    }
+    report.judge("lists", named, most);
+    ours
 }
 
 /// The lookup of points, beside the customer's Rust.
@@ -50,7 +54,8 @@ pub fn look_up(report: &Report, named: Named, tree: &Tree, points: &[f64], runs:
     let theirs = || customer::look_up(b, &leaves, depth, points);
     assert!(theirs() == output);
     let ours = || lent::points_to_keys(b, columns, points, &mut output);
-    report.beside("lookup", "rust", named, least_of_two(runs, ours, theirs));
+    let share = report.beside("lookup", "rust", named, least_of_two(runs, ours, theirs));
+    report.judge("lookup", named, share);
 }
 
 /// A shape's tree as the Rust builds it, and the same in columns.
@@ -90,11 +95,13 @@ impl Survey<'_> {
             || customer::build_alone(self.asked),
         );
         let times = least_of_two(runs, ours, theirs);
-        self.report.beside("build", "rust", self.named, times);
+        let share = self.report.beside("build", "rust", self.named, times);
+        self.report.judge("build", self.named, share);
     }
 
     /// The rows of the Rust are ours.
-    fn same_rows(&self, rows: &Lists) {
+    fn same_rows(&self) {
+        let rows = self.tree.get_interaction_lists().expect("room enough");
         for (node, k) in self.tree.key.iter().enumerate() {
             let row = |map: &HashMap<u64, Vec<u64>>| map.get(k).cloned().unwrap_or_default();
             assert_eq!(rows.u.row(node), row(&self.built.u_lists));
@@ -102,19 +109,16 @@ impl Survey<'_> {
         }
     }
 
-    /// The lists, beside the Rust's and beside each plain reading.
+    /// The lists, beside each plain reading and beside the Rust's.
     fn lists(&self, runs: usize) {
-        let rows = self.tree.get_interaction_lists().expect("room enough");
-        self.same_rows(&rows);
-        same_plain_rows(&self.tree, &rows);
-        let times = list_times(&self.tree, &rows, runs);
-        report_lists(self.report, self.named, times);
+        self.same_rows();
+        let ours = lists(self.report, self.named, &self.tree, runs);
         let mut rust = f64::INFINITY;
         for _ in rounds(3) {
             lower(&mut rust, || customer::lists(shapes::bounds(), &self.built));
         }
         self.report
-            .beside("lists", "rust", self.named, [times[0], rust]);
+            .beside("lists", "rust", self.named, [ours, rust]);
     }
 
     /// The calls that are wanted.

@@ -5,7 +5,7 @@ use crate::plain_build;
 use crate::report::{Named, Report};
 use crate::shapes::{self, Random};
 use crate::slices::Room;
-use crate::survey::{list_times, look_up, report_lists, same_plain_rows};
+use crate::survey;
 use crate::words::Words;
 use lohandema::lent::Asked;
 use lohandema::trees::Tree;
@@ -158,16 +158,6 @@ impl Given<'_> {
         let times = least_of_two(runs, ours, plain);
         self.report.beside("build", "sorted", self.named, times);
     }
-
-    /// The lists, beside each plain reading: identical rows, then times.
-    fn lists(&self, runs: usize) {
-        let ours = self.tree.get_interaction_lists().expect("room enough");
-        let (u, v) = (ours.u.keys.len(), ours.v.keys.len());
-        println!("  {u} keys of U, {v} of V");
-        same_plain_rows(&self.tree, &ours);
-        let times = list_times(&self.tree, &ours, runs);
-        report_lists(self.report, self.named, times);
-    }
 }
 
 /// The calls of a case that are wanted.
@@ -189,12 +179,12 @@ fn measure_case(words: &Words, report: &Report, case: &Case, keep: bool) {
         given.build(runs);
     }
     if wants("lists") {
-        given.lists(runs);
+        survey::lists(report, given.named, &given.tree, runs);
     }
     if wants("lookup") {
         let points = (case.points)();
         let points = if points.is_empty() { &sources } else { &points };
-        look_up(report, given.named, &given.tree, points, runs);
+        survey::look_up(report, given.named, &given.tree, points, runs);
     }
 }
 
