@@ -38,17 +38,22 @@ impl Report {
         println!("time {call} {side} {} {time:.3}", named.words());
     }
 
-    /// How often a figure of ours has another side's in it.
+    /// A figure of ours over another side's.
     pub fn ratio(&self, call: &str, beside: &str, named: Named, value: f64) {
         println!("ratio {call} {beside} {} {value:.3}", named.words());
     }
 
-    /// The times of both sides and their ratio, which is answered.
-    pub fn beside(&self, call: &str, side: &str, named: Named, [ours, theirs]: [f64; 2]) -> f64 {
-        self.time(call, "ours", named, ours);
+    /// The time of another side, and ours over it, which is answered.
+    pub fn share(&self, call: &str, side: &str, named: Named, [ours, theirs]: [f64; 2]) -> f64 {
         self.time(call, side, named, theirs);
         self.ratio(call, side, named, ours / theirs);
         ours / theirs
+    }
+
+    /// The same with our own time.
+    pub fn beside(&self, call: &str, side: &str, named: Named, times: [f64; 2]) -> f64 {
+        self.time(call, "ours", named, times[0]);
+        self.share(call, side, named, times)
     }
 
     /// Remembers a ratio that is over what is to be reached.

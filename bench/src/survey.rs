@@ -36,9 +36,10 @@ pub fn list_times(tree: &Tree, readings: Readings, runs: usize) -> (f64, Vec<f64
 /// The list call beside each plain reading; answers our time.
 pub fn lists(report: &Report, named: Named, tree: &Tree, runs: usize) -> f64 {
     let (ours, times) = list_times(tree, &READINGS, runs);
+    report.time("lists", "ours", named, ours);
     let mut most: f64 = 0.0;
     for ((name, _), time) in READINGS.iter().zip(times) {
-        most = most.max(report.beside("lists", name, named, [ours, time]));
+        most = most.max(report.share("lists", name, named, [ours, time]));
     }
     report.judge("lists", named, most);
     ours
@@ -117,8 +118,7 @@ impl Survey<'_> {
         for _ in rounds(3) {
             lower(&mut rust, || customer::lists(shapes::bounds(), &self.built));
         }
-        self.report
-            .beside("lists", "rust", self.named, [ours, rust]);
+        self.report.share("lists", "rust", self.named, [ours, rust]);
     }
 
     /// The calls that are wanted.
