@@ -189,7 +189,8 @@ fn measure_case(words: &Words, report: &Report, case: &Case, keep: bool) {
 }
 
 pub fn measure(words: &Words, report: &Report) {
-    for case in &CASES {
+    let wanted = |case: &&Case| case.calls.iter().any(|call| words.wants(call));
+    for case in CASES.iter().filter(wanted) {
         for keep in case.keeps {
             measure_case(words, report, case, *keep);
         }
