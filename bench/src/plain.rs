@@ -179,7 +179,7 @@ impl Levels {
     }
 }
 
-/// A node among whose keys both rows of a node are looked for.
+/// A node that leads to one of the rows of a node of its level.
 #[derive(Clone, Copy)]
 struct Candidate {
     key: u64,
@@ -280,6 +280,7 @@ fn each_searched(tree: &Plain, lists: &mut Lists) {
 }
 
 /// What is held for each node on the way down to the one whose rows are made.
+#[derive(Default)]
 struct Held {
     /// For the children of the node at each level, their candidates.
     candidates: [Vec<Candidate>; 17],
@@ -304,14 +305,9 @@ impl Held {
 /// Siblings share what lies around their parent; it is searched, or is what was near the parent when its own rows were made.
 fn by_siblings(tree: &Plain, search: bool, lists: &mut Lists) {
     let levels = search.then(|| Levels::new(tree));
-    let mut near: Vec<u32> = (0..1)
-        .filter(|root| tree.is_sourced(*root as usize))
-        .collect();
-    let mut held = Held {
-        candidates: Default::default(),
-        coarser: vec![],
-        counts: [0; 17],
-    };
+    // the root is around itself, if it has sources
+    let mut near = vec![0; usize::from(tree.is_sourced(0))];
+    let mut held = Held::default();
     held.go_below(tree, 0, &near);
     start(lists);
     for node in 1..tree.key.len() {
@@ -319,11 +315,9 @@ fn by_siblings(tree: &Plain, search: bool, lists: &mut Lists) {
         let from = lists.u.keys.len();
         tree.part(node, &held.candidates[above], &mut near, &mut lists.v.keys);
         if tree.is_leaf(node) {
-            lists
-                .u
-                .keys
-                .extend_from_slice(&held.coarser[..held.counts[above]]);
-            tree.end_u_row(from, &near, &mut lists.u.keys);
+            let (u, coarser) = (&mut lists.u.keys, &held.coarser[..held.counts[above]]);
+            u.extend_from_slice(coarser);
+            tree.end_u_row(from, &near, u);
         } else {
             if let Some(levels) = &levels {
                 levels.around(tree, node, &mut near);
