@@ -30,6 +30,21 @@ pub fn build(asked: Asked) -> (TreeLists, u64) {
     (lists, depth)
 }
 
+/// The same build without its lists.
+pub fn build_alone(asked: Asked) -> build_alone::bbfmm::TreeLists {
+    build_alone::linear_tree::build_tree(
+        matrix(asked.sources),
+        &asked.bounds.centre.to_vec(),
+        asked.bounds.radius,
+        asked.limit,
+        asked.keep_empty,
+        &mut 0,
+        build_alone::bbfmm::Dimensions::Three,
+        ORDER,
+        None,
+    )
+}
+
 /// How many sources lie in each node's cell and all below it. Children stand behind their parents.
 fn totals(key: &[u64], own: &[usize]) -> Vec<usize> {
     let number: HashMap<u64, usize> = key.iter().enumerate().map(|(i, k)| (*k, i)).collect();

@@ -1,4 +1,5 @@
 //! The surveys that are measured: 3 axes, centre 0, radius 1000.
+use lohandema::lent::Asked;
 use lohandema::points::Bounds;
 
 pub const SHAPES: [&str; 3] = ["uniform", "lines", "cluster"];
@@ -11,6 +12,13 @@ static BOUNDS: Bounds = Bounds {
 
 pub fn bounds() -> &'static Bounds {
     &BOUNDS
+}
+
+/// What a build of these points is asked.
+pub fn asked(points: &[f64], limit: usize, keep: bool) -> Asked<'_> {
+    let mut asked = Asked::new(bounds(), points, limit);
+    asked.keep_empty = keep;
+    asked
 }
 
 /// Numbers that are the same in every run.

@@ -2,7 +2,7 @@
 use lohandema::lent::{self, Asked};
 use lohandema::trees::{Lists, Tree};
 
-/// The slices of a list call, as long as the answer needs.
+/// The slices of a list call, as long as the answer needs or longer.
 pub struct Lent {
     u_starts: Vec<usize>,
     u_keys: Vec<u64>,
@@ -12,11 +12,17 @@ pub struct Lent {
 
 impl Lent {
     pub fn new(lists: &Lists) -> Lent {
+        Lent::with_keys(lists, 0)
+    }
+
+    /// The same with at least so many keys of each list. All entries are written, so that no later call is the first to touch
+    /// a page of them.
+    pub fn with_keys(lists: &Lists, least: usize) -> Lent {
         Lent {
-            u_starts: vec![0; lists.u.starts.len()],
-            u_keys: vec![0; lists.u.keys.len()],
-            v_starts: vec![0; lists.v.starts.len()],
-            v_keys: vec![0; lists.v.keys.len()],
+            u_starts: vec![1; lists.u.starts.len()],
+            u_keys: vec![1; lists.u.keys.len().max(least)],
+            v_starts: vec![1; lists.v.starts.len()],
+            v_keys: vec![1; lists.v.keys.len().max(least)],
         }
     }
 

@@ -1,16 +1,17 @@
 //! The words after `bench/run`.
 use std::env;
 use std::process::exit;
+use std::slice;
 
-const CALLS: [&str; 5] = ["build", "lookup", "lists", "coding", "growth"];
+const CALLS: [&str; 6] = ["build", "lookup", "lists", "coding", "growth", "clearing"];
 
 pub struct Words {
     /// Fewer runs.
     pub short: bool,
-    /// The worst cases, in place of the usual shapes.
+    /// The worst cases alone.
     pub worst: bool,
-    /// A cell with more sources splits.
-    pub limit: usize,
+    /// The usual shapes alone, with this limit of a cell: one with more sources splits.
+    pub limit: Option<usize>,
     only: Option<String>,
 }
 
@@ -28,7 +29,7 @@ impl Words {
         let mut w = Words {
             short: false,
             worst: false,
-            limit: 64,
+            limit: None,
             only: None,
         };
         let mut words = env::args().skip(1);
@@ -37,7 +38,7 @@ impl Words {
             match word.as_str() {
                 "--short" => w.short = true,
                 "--worst" => w.worst = true,
-                "--limit" => w.limit = number(&next()),
+                "--limit" => w.limit = Some(number(&next())),
                 "--only" => w.only = Some(call(next())),
                 _ => usage(&word),
             }
@@ -48,6 +49,11 @@ impl Words {
     /// Whether a call is to be measured: all are, or the one after `--only`.
     pub fn wants(&self, call: &str) -> bool {
         self.only.as_ref().is_none_or(|only| only == call)
+    }
+
+    /// The limits with which the usual shapes are measured.
+    pub fn limits(&self) -> &[usize] {
+        self.limit.as_ref().map_or(&[64, 16], slice::from_ref)
     }
 
     pub fn runs(&self) -> usize {

@@ -1,14 +1,14 @@
 //! The worst cases: deep trees, long rows, all points in one place, and points that end in empty cells. 3 axes, in the box of
 //! the usual shapes.
-use crate::clock::least;
+use crate::clock::least_of_two;
 use crate::plain_build;
+use crate::report::{Named, Report};
 use crate::shapes::{self, Random};
-use crate::slices::{Lent, Room};
+use crate::slices::Room;
+use crate::survey;
 use crate::words::Words;
-use crate::{asked, customer, plain_lists, ratio};
-use lohandema::lent::{self, Asked};
-use lohandema::trees::{Lists, Tree};
-use std::collections::HashSet;
+use lohandema::lent::Asked;
+use lohandema::trees::Tree;
 
 const MOST: usize = 1_048_576;
 
@@ -81,7 +81,7 @@ const CASES: [Case; 10] = [
         points: Vec::new,
     },
     Case {
-        name: "cluster-most-16",
+        name: "cluster-most",
         limit: 16,
         keeps: &[false],
         calls: &["build", "lookup"],
@@ -140,89 +140,59 @@ fn wall() -> Vec<f64> {
     (0..MOST).flat_map(|_| [0.0, place(), place()]).collect()
 }
 
-/// A case with its points, with empties or without.
+/// A case's tree, with empties or without.
 struct Given<'a> {
-    case: &'a Case,
+    report: &'a Report,
+    named: Named<'a>,
     asked: Asked<'a>,
     tree: Tree,
 }
 
 impl Given<'_> {
-    fn ratio(&self, call: &str, beside: &str, ours: f64, theirs: f64) {
-        let keep = self.asked.keep_empty;
-        ratio(call, beside, self.case.name, keep, ours, theirs);
-    }
-
     /// The build, beside the plain one: identical trees, then times.
     fn build(&self, runs: usize) {
         let mut room = Room::new(self.tree.order.len(), self.tree.key.len());
         room.build(self.asked);
         assert!(room.holds(&self.tree));
-        let ours = least(runs, || room.build(self.asked));
-        let plain = least(runs, || plain_build::build(self.asked));
-        self.ratio("build", "sorted", ours, plain);
-    }
-
-    /// The lists, beside plain Rust that keeps its neighbours: identical rows, then times.
-    fn lists(&self, runs: usize) {
-        let ours = self.tree.get_interaction_lists();
-        let ours = ours.unwrap_or_else(|refusal| panic!("{}: {refusal}", self.case.name));
-        let (u, v) = (ours.u.keys.len(), ours.v.keys.len());
-        let mut rows = Lists::default();
-        plain_lists(&self.tree, true, &mut rows);
-        assert!(rows == ours);
-        println!("  {u} keys of U, {v} of V");
-        let mut slices = Lent::new(&ours);
-        let time = least(runs, || slices.fill(&self.tree));
-        let kept = least(runs, || plain_lists(&self.tree, true, &mut rows));
-        self.ratio("lists", "kept", time, kept);
-    }
-
-    /// The lookup, beside the customer's Rust: identical leaves, then times.
-    fn lookup(&self, points: &[f64], runs: usize) {
-        let (b, columns) = (shapes::bounds(), self.tree.columns());
-        let mut output = vec![0; points.len() / 3];
-        let mut ours = || lent::points_to_keys(b, columns, points, &mut output);
-        ours().expect("stored");
-        let time = least(runs, &mut ours);
-        let leaves = self.tree.leaves().expect("a tree").map(|leaf| leaf.key);
-        let (leaves, depth): (HashSet<u64>, u64) = (leaves.collect(), self.tree.depth());
-        let theirs = || customer::look_up(b, &leaves, depth, points);
-        assert!(theirs() == output);
-        self.ratio("lookup", "rust", time, least(runs, theirs));
+        let (ours, plain) = (|| room.build(self.asked), || plain_build::build(self.asked));
+        let times = least_of_two(runs, ours, plain);
+        self.report.beside("build", "sorted", self.named, times);
     }
 }
 
 /// The calls of a case that are wanted.
-fn measure_case(w: &Words, case: &Case, keep: bool) {
+fn measure_case(words: &Words, report: &Report, case: &Case, keep: bool) {
     let sources = (case.sources)();
-    let asked = asked(&sources, case.limit, keep);
-    let tree = plain_build::build(asked);
-    let (count, nodes, depth) = (tree.order.len(), tree.key.len(), tree.depth());
-    println!(
-        "{}, limit {}, keep-empty {keep}: {count} sources, {nodes} nodes, depth {depth}",
-        case.name, case.limit
-    );
-    let given = Given { case, asked, tree };
-    let wants = |call: &str| case.calls.contains(&call) && w.wants(call);
-    let runs = w.runs().min(9);
+    let asked = shapes::asked(&sources, case.limit, keep);
+    let (shape, limit) = (case.name, case.limit);
+    let given = Given {
+        report,
+        named: Named { shape, limit, keep },
+        asked,
+        tree: plain_build::build(asked),
+    };
+    let (count, nodes) = (given.tree.order.len(), given.tree.key.len());
+    println!("{shape}, limit {limit}, keep-empty {keep}: {count} sources, {nodes} nodes");
+    let wants = |call: &str| case.calls.contains(&call) && words.wants(call);
+    let runs = words.runs().min(9);
     if wants("build") {
         given.build(runs);
     }
     if wants("lists") {
-        given.lists(runs);
+        survey::lists(report, given.named, &given.tree, runs);
     }
     if wants("lookup") {
         let points = (case.points)();
         let points = if points.is_empty() { &sources } else { &points };
-        given.lookup(points, runs);
+        survey::look_up(report, given.named, &given.tree, points, runs);
     }
 }
 
-pub fn measure(w: &Words) {
-    for case in &CASES {
+pub fn measure(words: &Words, report: &Report) {
+    let wanted = |case: &&Case| case.calls.iter().any(|call| words.wants(call));
+    for case in CASES.iter().filter(wanted) {
         for keep in case.keeps {
-            measure_case(w, case, *keep);
+            measure_case(words, report, case, *keep);
         }
     }
 }
