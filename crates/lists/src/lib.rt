@@ -1,8 +1,8 @@
 // Both lists of a tree in Z order: the U and V rows of all nodes, written whole in one pass.
 mod starts; // starts.rt: the starts of both lists in one column
 
-use around::AROUND_ROOM;
-use around::NEAR_ROOM;
+use node_rows::HELD_ROOM;
+use node_rows::STACK_ROOM;
 pub use node_rows::Sizes;
 use starts::HALF;
 ghost use mathlib.Core.Path.{_≡_};
@@ -17,46 +17,29 @@ ghost use Rattle.node_rows.specs.Rows.{listRow};
 ghost use Rattle.lists.specs.Written.{WritesList};
 ghost use Rattle.links.specs.Links.{LinkedTree};
 ghost use Rattle.lists.specs.Halves.{RowsRoom, WritesLists, WritesBoth};
-ghost use Rattle.node_rows.specs.Stack.{FramesRoom};
+ghost use Rattle.node_rows.specs.Stack.{Ready};
 
 pub const MOST_KEYS: usize = 16777216;
 
-// Writes both rows of each node, one after the other, and where each begins and the last one ends; it stops where U has no room.
+// Writes both rows of each node but the root, which has none, one after the other, and where each begins and the last one ends; it stops where U has no room.
 fn fill_rows(
     axes: usize,
     key: &[u64],
     own: &[usize],
     total: &[usize],
     links: &[usize],
-    nodes: &mut [usize],
-    places: &mut [u64],
-    masks: &mut [u64],
-    counts: &mut [usize],
+    stack: &mut [usize],
     held: &mut [u64],
-    upto: &mut [usize],
     starts: &mut [usize],
     u_keys: &mut [u64],
     v_keys: &mut [u64],
 ) -> Sizes
-    requires { ⌜ LinkedTree axes (now key) (now own) (now total) (now links) × FramesRoom (now nodes) (now places) (now masks) ⌝ }
-    requires { ⌜ (16 ≤ length (now counts)) × (16 ≤ length (now upto)) × (432 ≤ length (now held)) ⌝ }
+    requires { ⌜ LinkedTree axes (now key) (now own) (now total) (now links) × Ready axes (now key) (now own) 1 (now stack) (now held) ⌝ }
     requires { ⌜ RowsRoom (now key) (now starts) (now «u_keys») (now «v_keys») ⌝ }
     ensures { λ r. ⌜ WritesLists axes (now (key .entry)) (now (own .entry)) (now (starts .exit)) (now («u_keys» .exit)) (now («v_keys» .exit)) (r .u) (r .v) ⌝ }
 {
     starts[0] = 0;
     starts[1] = 0;
-    node_rows::begin(
-        axes,
-        key,
-        own,
-        total,
-        links,
-        nodes,
-        places,
-        masks,
-        counts,
-        upto,
-    );
     let mut sizes = Sizes { u: 0, v: 0 };
     let mut i: usize = 1;
     while i < key.len() {
@@ -68,12 +51,8 @@ fn fill_rows(
             links,
             i,
             sizes,
-            nodes,
-            places,
-            masks,
-            counts,
+            stack,
             held,
-            upto,
             u_keys,
             v_keys,
         );
@@ -100,24 +79,17 @@ pub fn write_rows(
     requires { ⌜ LinkedTree axes (now key) (now own) (now total) (now links) × RowsRoom (now key) (now starts) (now «u_keys») (now «v_keys») ⌝ }
     ensures { λ r. ⌜ WritesLists axes (now (key .entry)) (now (own .entry)) (now (starts .exit)) (now («u_keys» .exit)) (now («v_keys» .exit)) (r .u) (r .v) ⌝ }
 {
-    let mut nodes = [0usize; 16 * AROUND_ROOM];
-    let mut places = [0u64; 16 * AROUND_ROOM];
-    let mut masks = [0u64; 16 * AROUND_ROOM];
-    let mut counts = [0usize; 16];
-    let mut held = [0u64; 16 * NEAR_ROOM];
-    let mut upto = [0usize; 16];
+    let mut stack = [0usize; STACK_ROOM];
+    let mut held = [0u64; HELD_ROOM];
+    node_rows::begin(axes, key, own, total, links, &mut stack);
     fill_rows(
         axes,
         key,
         own,
         total,
         links,
-        &mut nodes,
-        &mut places,
-        &mut masks,
-        &mut counts,
+        &mut stack,
         &mut held,
-        &mut upto,
         starts,
         u_keys,
         v_keys,
