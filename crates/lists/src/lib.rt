@@ -13,10 +13,9 @@ ghost use Rattle.tree.specs.WellFormed.{totalsRight};
 ghost use Rattle.tree.specs.WellFormed.{SoundTree};
 ghost use Rattle.rows.specs.Lists.{uRow};
 ghost use Rattle.rows.specs.Written.{keysRoom};
-ghost use Rattle.node_rows.specs.Rows.{listRow};
 ghost use Rattle.lists.specs.Written.{WritesList};
 ghost use Rattle.links.specs.Links.{LinkedTree};
-ghost use Rattle.lists.specs.Halves.{RowsRoom, WritesLists, WritesBoth};
+ghost use Rattle.lists.specs.Halves.{RowsRoom, WritesLists, WritesTree, EndsOf};
 ghost use Rattle.node_rows.specs.Stack.{Ready};
 
 pub const MOST_KEYS: usize = 16777216;
@@ -106,7 +105,43 @@ fn room_of(len: usize) -> usize
     MOST_KEYS
 }
 
-// Writes both lists whole, with 0 in the unused rests, and answers 0; or says which slice of keys is short: 6 U's, 7 V's.
+// What is kept of the starts and of each list's keys, and which slice of keys is short: 6 U's, 7 V's, or 0.
+struct Ends {
+    short: u64,
+    starts: usize,
+    u: usize,
+    v: usize,
+}
+
+// All is kept where both lists have room, else nothing.
+fn ends_of(starts: usize, u_room: usize, v_room: usize, sizes: Sizes) -> Ends
+    ensures { λ r. ⌜ EndsOf «u_room» «v_room» (sizes .u) (sizes .v) starts (r .short) (r .starts) (r .u) (r .v) ⌝ }
+{
+    if u_room < sizes.u {
+        return Ends {
+            short: 6,
+            starts: 0,
+            u: 0,
+            v: 0,
+        };
+    }
+    if v_room < sizes.v {
+        return Ends {
+            short: 7,
+            starts: 0,
+            u: 0,
+            v: 0,
+        };
+    }
+    Ends {
+        short: 0,
+        starts: starts,
+        u: sizes.u,
+        v: sizes.v,
+    }
+}
+
+// Writes both lists whole, with 0 in the unused rests, and answers 0; or says which slice of keys is short, 6 U's, 7 V's, and leaves 0 throughout.
 // V's starts hold the links until both lists stand.
 pub fn write_lists(
     axes: usize,
@@ -119,7 +154,8 @@ pub fn write_lists(
     v_keys: &mut [u64],
 ) -> u64
     requires { ⌜ SoundTree axes (now key) (now own) × (length (now key) < length (now «u_starts»)) × (length (now key) < length (now «v_starts»)) × (totalsRight axes (now key) (now own) (now total) ≡ true) ⌝ }
-    ensures { λ r. ⌜ WritesBoth (listRow axes (now (key .entry)) (now (own .entry)) false) (listRow axes (now (key .entry)) (now (own .entry)) true) (now (key .entry)) (length (now («u_starts» .entry))) (length (now («u_keys» .entry))) (length (now («v_starts» .entry))) (length (now («v_keys» .entry))) (now («u_starts» .exit)) (now («u_keys» .exit)) (now («v_starts» .exit)) (now («v_keys» .exit)) r ⌝ }
+    ensures { λ r. ⌜ WritesTree axes (now (key .entry)) (now (own .entry)) (now («u_starts» .entry)) (now («u_keys» .entry)) (now («v_starts» .entry)) (now («v_keys» .entry))
+        (now («u_starts» .exit)) (now («u_keys» .exit)) (now («v_starts» .exit)) (now («v_keys» .exit)) r ⌝ }
 {
     links::link_nodes(key, total, v_starts);
     let u_room = room_of(u_keys.len());
@@ -134,22 +170,17 @@ pub fn write_lists(
         &mut u_keys[..u_room],
         &mut v_keys[..v_room],
     );
-    if u_room < sizes.u {
-        return 6;
-    }
-    if v_room < sizes.v {
-        return 7;
-    }
+    let ends = ends_of(key.len() + 1, u_room, v_room, sizes);
     starts::finish(
         u_starts,
         u_keys,
         v_starts,
         v_keys,
-        key.len() + 1,
-        sizes.u,
-        sizes.v,
+        ends.starts,
+        ends.u,
+        ends.v,
     );
-    0
+    ends.short
 }
 
 // Writes U's list alone, whole, with 0 in the unused rests; or answers false, where its keys have no room. It is lent no column for links.
