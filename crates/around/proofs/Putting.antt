@@ -7,8 +7,8 @@ use native.Mathlib.Omega.{arith}
 use native.Mathlib.Numerals.{add-one}
 use native.Mathlib.Decide.{decLt}
 use lib.Dec.{ltb, eqb}
-use lib.ListN.{length, getD, take, set, length-set, length-append}
-use lib.Seq.{getD-set-same, getD-set-other, getD-take, take-suc-set, take-all, length-take-le}
+use lib.ListN.{length, getD, take, drop, set, length-set, length-append, length-drop}
+use lib.Seq.{getD-set-same, getD-set-other, getD-take, take-suc-set, take-set-le, take-set-lt, drop-set-lt, drop-set-add, take-all, length-take-le}
 use lib.Pow.{pow-mono}
 use borrow.Author.Tests.{eqb-true}
 use Rattle.slices.specs.Lists.{filter, range, concatMap, Mem}
@@ -25,7 +25,7 @@ use Rattle.links.proofs.Children.{tree-formed, tree-linked, Walked, walked-star
 use Rattle.places.specs.Places.{stepOf, placeAt, placeOf, beside}
 use Rattle.places.proofs.Laws.{first, second, third, place-small, place-more, beside-near}
 use Rattle.around.specs.Masks.{bitOf, Beneath, MaskOf}
-use Rattle.around.specs.Around.{nearTo, aroundNodes, Entries, Frame, NearListed, Beside}
+use Rattle.around.specs.Around.{nearTo, aroundNodes, Entries, Frame, nodesIn, placesIn, masksIn, NearListed, Beside}
 use Rattle.around.proofs.Lists.{filter-longer, concat-longer, concat-more}
 use Rattle.around.proofs.Nodes.{child-level, node-valid}
 use Rattle.around.proofs.Gathered.{around-joined}
@@ -70,6 +70,38 @@ entries-more d keys spot cells nodes places masks n e room j place mask at m = r
         let z : n ≡ i = omega arith in
         subst (λ k. bitOf (getD (set masks n mask) k 0) s ≡ beside (placeOf d (getD keys (getD (set nodes n j) k 0) 0)) (stepOf s + 2 * spot) 0) z
         (ap (λ k. bitOf k s) (getD-set-same masks n mask 0 (omega (arith, e .masksRoom))) ∙ m s q ∙ ap (λ k. beside k (stepOf s + 2 * spot) 0) (at ∙ ap (λ k. placeOf d (getD keys k 0)) (sym (getD-set-same nodes n j 0 room))))
+
+-- ---- one more entry of a frame in one slice
+pub parts-length : (frame : List ℕ) → 648 ≤ length frame → (length (nodesIn frame) ≡ 216) × (length (placesIn frame) ≡ 216) × (length (masksIn frame) ≡ 216)
+parts-length frame h = (length-take-le 216 frame (omega arith), length-take-le 216 (drop 216 frame) (omega (arith, length-drop 216 frame)), length-take-le 216 (drop 432 frame) (omega (arith, length-drop 432 frame)))
+
+-- a number written before a part of a slice, in it, and after it
+before : (b : ℕ) (xs : List ℕ) (k x : ℕ) → k < b → take 216 (drop b (set xs k x)) ≡ take 216 (drop b xs)
+before b xs k x h = ap (take 216) (drop-set-lt b xs k x h)
+
+within : (b : ℕ) (xs : List ℕ) (i x : ℕ) → i < 216 → take 216 (drop b (set xs (b + i) x)) ≡ set (take 216 (drop b xs)) i x
+within b xs i x h = ap (take 216) (drop-set-add b xs i x) ∙ take-set-lt 216 (drop b xs) i x h
+
+after : (b : ℕ) (xs : List ℕ) (i x : ℕ) → 216 ≤ i → take 216 (drop b (set xs (b + i) x)) ≡ take 216 (drop b xs)
+after b xs i x h = ap (take 216) (drop-set-add b xs i x) ∙ take-set-le 216 (drop b xs) i x h
+
+module _ (frame : List ℕ) (n j place mask : ℕ) (h : n < 216) where
+  abbrev pub entryPut : List ℕ
+  entryPut = set (set (set frame n j) (216 + n) place) (432 + n) mask
+
+  nodes-put : nodesIn entryPut ≡ set (nodesIn frame) n j
+  nodes-put = take-set-le 216 (set (set frame n j) (216 + n) place) (432 + n) mask (omega arith) ∙ take-set-le 216 (set frame n j) (216 + n) place (omega arith) ∙ take-set-lt 216 frame n j h
+
+  places-put : placesIn entryPut ≡ set (placesIn frame) n place
+  places-put =
+      let e : 432 + n ≡ 216 + (216 + n) = omega arith in
+      ap (λ (k : ℕ). placesIn (set (set (set frame n j) (216 + n) place) k mask)) e ∙ after 216 (set (set frame n j) (216 + n) place) (216 + n) mask (omega arith)
+      ∙ within 216 (set frame n j) n place h ∙ ap (λ (xs : List ℕ). set xs n place) (before 216 frame n j h)
+
+  masks-put : masksIn entryPut ≡ set (masksIn frame) n mask
+  masks-put =
+      within 432 (set (set frame n j) (216 + n) place) n mask h
+      ∙ ap (λ (xs : List ℕ). set xs n mask) (before 432 (set frame n j) (216 + n) place (omega arith) ∙ before 432 frame n j (omega arith))
 
 -- ---- a child of a node that is near a cell
 -- an axis of a place is far from its 20 bits' end
@@ -175,6 +207,15 @@ module _ {d : ℕ} {keys own total links : List ℕ} (t : LinkedTree d keys own 
     pub put-all : end ≤ j → Entries d keys spot (take n₀ nodes₀ ++ sourcedChildren d keys own node) nodes places masks n
     put-all h = subst (λ ms. Entries d keys spot (take n₀ nodes₀ ++ ms) nodes places masks n) (walked-all d keys own (t .tree .begin) total (tree-formed t) node (b .inside) j (w .met) (w .walked) (omega (arith, w .ending))) (w .entries)
 
+  -- one more in a frame, which has room for it
+  pub put-room : {nodes₀ : List ℕ} {n₀ end j : ℕ} (frame : List ℕ) {n : ℕ} → 648 ≤ length frame → ChildrenPut nodes₀ n₀ end j (nodesIn frame) (placesIn frame) (masksIn frame) n → j < end → n < 216
+  put-room frame big w more = omega (arith, put-fits w more, parts-length frame big .0)
+
+  pub put-entry : {nodes₀ : List ℕ} {n₀ end j : ℕ} (frame : List ℕ) {n : ℕ} (w : ChildrenPut nodes₀ n₀ end j (nodesIn frame) (placesIn frame) (masksIn frame) n) (more : j < end) (h : n < 216) (place mask : ℕ)
+      → place ≡ stepOf (codeOf (getD keys j 0) % 2 ^ d) + 2 * up → MaskOf place spot mask → (c : ℕ) → c ≡ nextOf keys total j
+      → ChildrenPut nodes₀ n₀ end c (nodesIn (entryPut frame n j place mask h)) (placesIn (entryPut frame n j place mask h)) (masksIn (entryPut frame n j place mask h)) (n + 1)
+  put-entry frame {n} w more h place mask at m c z = rw (nodes-put frame n _ place mask h, places-put frame n _ place mask h, masks-put frame n _ place mask h) (put-more w more place mask at m c z)
+
 -- ---- the loop along the near nodes with children: those of the first i were put
 pub record AroundPut (d : ℕ) (keys own : List ℕ) (spot : ℕ) (listed : List ℕ) (c i : ℕ) (nodes places masks : List ℕ) (m : ℕ) : Type 0 where
   pub upto : i ≤ c
@@ -224,8 +265,8 @@ module _ {d : ℕ} {keys own total links : List ℕ} (t : LinkedTree d keys own 
       pub around-more : (nodes₁ places₁ masks₁ : List ℕ) (m₁ : ℕ) → Entries d keys spot (take m nodes ++ sourcedChildren d keys own (getD listed i 0)) nodes₁ places₁ masks₁ m₁ → AroundPut d keys own spot listed c (i + 1) nodes₁ places₁ masks₁ m₁
       around-more nodes₁ places₁ masks₁ m₁ e = record { upto = omega arith; entries = subst (λ cells. Entries d keys spot cells nodes₁ places₁ masks₁ m₁) grown e }
 
-      pub around-room : 216 ≤ length nodes → m + length (sourcedChildren d keys own (getD listed i 0)) ≤ length nodes
-      around-room big = omega (
+      pub around-room : m + length (sourcedChildren d keys own (getD listed i 0)) ≤ 216
+      around-room = omega (
         arith,
         sym (length-append (take m nodes) (sourcedChildren d keys own (getD listed i 0))) ∙ ap length grown,
         length-take-le m nodes (w .entries .fits),

@@ -1,10 +1,10 @@
 -- What lies around a cell: the nodes one level below it whose parents are near it, gathered once for all its children.
 use mathlib.Core.Path.{_≡_}
 use mathlib.Core.Bool.{Bool, true, _&&_}
-use mathlib.Core.List.{List, _++_}
+use mathlib.Core.List.{List}
 use Prim.Native.Nat.{ℕ, suc, _+_, _*_, _/_, _^_, _≤_, _<_}
 use lib.Dec.{ltb, eqb}
-use lib.ListN.{length, getD, take}
+use lib.ListN.{length, getD, take, drop}
 use Rattle.slices.specs.Lists.{count, filter, range}
 use Rattle.morton.specs.Keys.{levelOf, codeOf, ValidKey}
 use Rattle.morton.specs.Anchors.{near, close}
@@ -50,14 +50,27 @@ pub record Entries (d : ℕ) (keys : List ℕ) (spot : ℕ) (cells nodes places 
   pub placed : (i : ℕ) → i < n → getD places i 0 ≡ placeOf d (getD keys (getD nodes i 0) 0)
   pub masked : (i s : ℕ) → i < n → s < 8 → bitOf (getD masks i 0) s ≡ touches d keys (stepOf s + 2 * spot) (getD nodes i 0)
 
--- after the first n entries those of a node's sourced children were put
-abbrev pub PutsChildren : ℕ → List ℕ → List ℕ → ℕ → ℕ → List ℕ → ℕ → List ℕ → List ℕ → List ℕ → ℕ → Type 0
-PutsChildren d keys own node spot nodes n nodes' places' masks' n' = Entries d keys spot (take n nodes ++ sourcedChildren d keys own node) nodes' places' masks' n'
-
 -- the entries of all that is around p
 pub record Frame (d : ℕ) (keys own : List ℕ) (p : ℕ) (nodes places masks : List ℕ) (c : ℕ) : Type 0 where
   pub entries : Entries d keys (placeOf d p) (aroundNodes d keys own p) nodes places masks c
   pub few : c ≤ 216
+
+-- the parts of a frame in one slice: the numbers of 216 nodes, their places, and their masks
+abbrev pub nodesIn : List ℕ → List ℕ
+nodesIn frame = take 216 frame
+
+abbrev pub placesIn : List ℕ → List ℕ
+placesIn frame = take 216 (drop 216 frame)
+
+abbrev pub masksIn : List ℕ → List ℕ
+masksIn frame = take 216 (drop 432 frame)
+
+-- entries in it, and all of them
+abbrev pub EntriesIn : ℕ → List ℕ → ℕ → List ℕ → List ℕ → ℕ → Type 0
+EntriesIn d keys spot cells frame n = Entries d keys spot cells (nodesIn frame) (placesIn frame) (masksIn frame) n
+
+abbrev pub FrameIn : ℕ → List ℕ → List ℕ → ℕ → List ℕ → ℕ → Type 0
+FrameIn d keys own p frame c = Frame d keys own p (nodesIn frame) (placesIn frame) (masksIn frame) c
 
 -- the nodes near p that have children, by number, and beside them their places
 pub record NearListed (d : ℕ) (keys own : List ℕ) (p : ℕ) (listed spots : List ℕ) (c : ℕ) : Type 0 where

@@ -2,13 +2,14 @@
 use axes::Three;
 ghost use mathlib.Core.Path.{_≡_};
 ghost use mathlib.Core.Bool.{true};
+ghost use mathlib.Core.List.{_++_};
 ghost use Prim.Native.Nat.{_+_, _≤_, _<_};
 ghost use lib.ListN.{length, take};
 ghost use Rattle.morton.specs.Keys.{ValidKey};
 ghost use Rattle.links.specs.Links.{inner, sourcedChildren, LinkedTree};
 ghost use Rattle.places.specs.Places.{placeOf};
 ghost use Rattle.around.specs.Masks.{Beneath, MaskOf};
-ghost use Rattle.around.specs.Around.{Entries, PutsChildren, Frame, NearListed, Beside};
+ghost use Rattle.around.specs.Around.{nodesIn, EntriesIn, FrameIn, NearListed, Beside};
 ghost use Rattle.around.specs.Parting.{Parting, Parts, Positions, Splits};
 
 // The most nodes near a cell, itself among them.
@@ -16,6 +17,13 @@ pub const NEAR_ROOM: usize = Three::NEIGHBOURS + 1;
 
 // The most nodes around a cell: near one of its children, or in that child's V row.
 pub const AROUND_ROOM: usize = Three::V_ROOM + NEAR_ROOM;
+
+// A frame is one slice: after the numbers of so many nodes stand their places, then their masks.
+pub const PLACES: usize = AROUND_ROOM;
+
+pub const MASKS: usize = 2 * AROUND_ROOM;
+
+pub const FRAME_ROOM: usize = 3 * AROUND_ROOM;
 
 const AXIS: u64 = 1048576;
 
@@ -53,24 +61,22 @@ pub fn put_children(
     node: usize,
     up: u64,
     spot: u64,
-    nodes: &mut [usize],
-    places: &mut [u64],
-    masks: &mut [u64],
+    frame: &mut [usize],
     n: usize,
 ) -> usize
     requires { ⌜ LinkedTree axes (now key) (now own) (now total) (now links) × Beside axes (now key) node up spot × (inner (now key) node ≡ true) ⌝ }
-    requires { ⌜ Entries axes (now key) spot (take n (now nodes)) (now nodes) (now places) (now masks) n ⌝ }
-    requires { ⌜ n + length (sourcedChildren axes (now key) (now own) node) ≤ length (now nodes) ⌝ }
-    ensures { λ r. ⌜ PutsChildren axes (now (key .entry)) (now (own .entry)) node spot (now (nodes .entry)) n (now (nodes .exit)) (now (places .exit)) (now (masks .exit)) r ⌝ }
+    requires { ⌜ EntriesIn axes (now key) spot (take n (nodesIn (now frame))) (now frame) n ⌝ }
+    requires { ⌜ (648 ≤ length (now frame)) × (n + length (sourcedChildren axes (now key) (now own) node) ≤ 216) ⌝ }
+    ensures { λ r. ⌜ EntriesIn axes (now (key .entry)) spot (take n (nodesIn (now (frame .entry))) ++ sourcedChildren axes (now (key .entry)) (now (own .entry)) node) (now (frame .exit)) r ⌝ }
 {
     let end = links::next_of(axes, key, total, links, node);
     let mut m = n;
     let mut j = links::first_sourced_child(axes, key, total, links, node);
     while j < end {
         let place = places::place_below(axes, up, key[j] / 32768);
-        nodes[m] = j;
-        places[m] = place;
-        masks[m] = touch_mask(place, spot);
+        frame[m] = j;
+        frame[PLACES + m] = place as usize;
+        frame[MASKS + m] = touch_mask(place, spot) as usize;
         m += 1;
         j = links::next_of(axes, key, total, links, j);
     }
@@ -89,13 +95,11 @@ pub fn around_of(
     listed: &[usize],
     spots: &[u64],
     c: usize,
-    nodes: &mut [usize],
-    places: &mut [u64],
-    masks: &mut [u64],
+    frame: &mut [usize],
 ) -> usize
     requires { ⌜ LinkedTree axes (now key) (now own) (now total) (now links) × ValidKey axes p × (spot ≡ placeOf axes p) × NearListed axes (now key) (now own) p (now listed) (now spots) c ⌝ }
-    requires { ⌜ (216 ≤ length (now nodes)) × (length (now places) ≡ length (now nodes)) × (length (now masks) ≡ length (now nodes)) ⌝ }
-    ensures { λ r. ⌜ Frame axes (now (key .entry)) (now (own .entry)) p (now (nodes .exit)) (now (places .exit)) (now (masks .exit)) r ⌝ }
+    requires { ⌜ 648 ≤ length (now frame) ⌝ }
+    ensures { λ r. ⌜ FrameIn axes (now (key .entry)) (now (own .entry)) p (now (frame .exit)) r ⌝ }
 {
     let mut m: usize = 0;
     let mut i: usize = 0;
@@ -109,9 +113,7 @@ pub fn around_of(
             listed[i],
             spots[i],
             spot,
-            nodes,
-            places,
-            masks,
+            frame,
             m,
         );
         i += 1;
@@ -129,7 +131,7 @@ pub struct Parted {
 fn store_parts(
     key: &[u64],
     nodes: &[usize],
-    masks: &[u64],
+    masks: &[usize],
     c: usize,
     s: u64,
     far: &mut [u64],
@@ -143,7 +145,7 @@ fn store_parts(
     let mut t: usize = 0;
     let mut j: usize = 0;
     while j < c {
-        let bit = ((masks[j] >> s) % 2) as usize;
+        let bit = (masks[j] >> s) % 2;
         far[m] = key[nodes[j]];
         near[t] = j;
         m += 1 - bit;
@@ -157,7 +159,7 @@ fn store_parts(
 fn try_parts(
     key: &[u64],
     nodes: &[usize],
-    masks: &[u64],
+    masks: &[usize],
     c: usize,
     s: u64,
     far: &mut [u64],
@@ -187,7 +189,7 @@ fn try_parts(
 pub fn part(
     key: &[u64],
     nodes: &[usize],
-    masks: &[u64],
+    masks: &[usize],
     c: usize,
     s: u64,
     far: &mut [u64],
@@ -215,7 +217,7 @@ pub struct Split {
 pub fn split_near(
     key: &[u64],
     nodes: &[usize],
-    places: &[u64],
+    places: &[usize],
     near: &[usize],
     t: usize,
     owners: &mut [u64],
@@ -235,7 +237,7 @@ pub fn split_near(
         let node = nodes[at];
         if links::has_children(key, node) {
             inner[k] = node;
-            spots[k] = places[at];
+            spots[k] = places[at] as u64;
             k += 1;
             i += 1;
         } else {

@@ -19,7 +19,6 @@ use Rattle.sourced.specs.Answers.{treeCheck}
 use Rattle.tree.specs.WellFormed.{SoundTree}
 use Rattle.sourced.proofs.Checks.{passed}
 use Rattle.rows.specs.Written.{keysRoom}
-use Rattle.lists.specs.Halves.{hasRoom, WritesBoth}
 use Rattle.interaction.specs.declared.ListsAnswer.the-variants as lists
 use Rattle.interaction.specs.Answers.{keysOf, startsCheck, listsCheck, listsOr, listsAnswer}
 
@@ -109,33 +108,3 @@ module _ (d : ℕ) (keys own begin total : List ℕ) (us uk vs vk : ℕ) where
   listed-tree a b e =
       let p = both-done (startsCheck d (columns keys own begin total) us vs then ask uFits (Room 6)) (ask vFits (Room 7)) (told-listed a b e) .0 in
       ready d keys own begin total us vs (both-done (startsCheck d (columns keys own begin total) us vs) (ask uFits (Room 6)) p .0) .tree
-
-  -- such a tree is sound, as the workers over it ask
-  pub listed-sound : (a b : ℕ) → lists.Listed a b ≡ listsAnswer d (columns keys own begin total) us uk vs vk → SoundTree d keys own
-  listed-sound a b e = passed d keys own begin total (listed-tree a b e)
-
--- ---- what the writer of both lists tells
-module _ (u v : ℕ → List ℕ) (keys : List ℕ) (up ul vp vl : ℕ) (us uk vs vk : List ℕ) (r : ℕ) (w : WritesBoth u v keys up ul vp vl us uk vs vk r) where
-  u-cases : (s t : Bool) → hasRoom u keys ul ≡ s → hasRoom v keys vl ≡ t → r ≡ 6 → hasRoom u keys ul ≡ false
-  u-cases false t a b e = a
-  u-cases true false a b e = absurd (omega (arith, w .v-short a b))
-  u-cases true true a b e = absurd (omega (arith, w .written a b .0))
-
-  pub u-told : r ≡ 6 → hasRoom u keys ul ≡ false
-  u-told = u-cases _ _ refl refl
-
-  v-cases : (s t : Bool) → hasRoom u keys ul ≡ s → hasRoom v keys vl ≡ t → r ≡ 7 → (hasRoom u keys ul ≡ true) × (hasRoom v keys vl ≡ false)
-  v-cases false t a b e = absurd (omega (arith, w .u-short a))
-  v-cases true false a b e = (a, b)
-  v-cases true true a b e = absurd (omega (arith, w .written a b .0))
-
-  pub v-told : r ≡ 7 → (hasRoom u keys ul ≡ true) × (hasRoom v keys vl ≡ false)
-  v-told = v-cases _ _ refl refl
-
-  both-cases : (s t : Bool) → hasRoom u keys ul ≡ s → hasRoom v keys vl ≡ t → (r ≡ 6 → ⊥) → (r ≡ 7 → ⊥) → (hasRoom u keys ul ≡ true) × (hasRoom v keys vl ≡ true)
-  both-cases false t a b e f = absurd (e (w .u-short a))
-  both-cases true false a b e f = absurd (f (w .v-short a b))
-  both-cases true true a b e f = (a, b)
-
-  pub both-told : (r ≡ 6 → ⊥) → (r ≡ 7 → ⊥) → (hasRoom u keys ul ≡ true) × (hasRoom v keys vl ≡ true)
-  both-told = both-cases _ _ refl refl

@@ -1,4 +1,5 @@
 -- What the list call answers for a tree over d axes, and what it leaves in the lent slices: U and V starts of us and vs entries, U and V keys of uk and vk.
+use mathlib.Core.Path.{_≡_}
 use mathlib.Core.Bool.{Bool, true, false}
 use mathlib.Core.List.{List}
 use Prim.Native.Nat.{ℕ}
@@ -29,6 +30,12 @@ listsOr (Refused r) u v = lists.Refused r
 abbrev pub isListed : ListsAnswer → Bool
 isListed (lists.Listed u v) = true
 isListed (lists.Refused r) = false
+
+-- what is told of the writer's number: U's keys are short (6), V's (7), or both lists stand, with so many keys
+pub record Told (short u v : ℕ) (r : ListsAnswer) : Type 0 where
+  pub u-short : short ≡ 6 → r ≡ lists.Refused (Room 6)
+  pub v-short : short ≡ 7 → r ≡ lists.Refused (Room 7)
+  pub listed : short ≡ 0 → r ≡ lists.Listed u v
 
 module _ (d : ℕ) (t : Columns) where
   -- 1, 13, then 8: starts need one entry for each node and one more

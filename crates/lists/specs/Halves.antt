@@ -42,9 +42,24 @@ firstOf n xs = take n xs ++ replicate (length xs - n) 0
 abbrev pub hasRoom : (ℕ → List ℕ) → List ℕ → ℕ → Bool
 hasRoom row keys len = leb (length (rowKeys row keys)) (keysRoom len)
 
--- both lists: written whole where both have room (0); else which one has none, U's keys (6) before V's (7)
+-- 0 throughout the four slices
+abbrev pub Cleared : (uPlaces uLen vPlaces vLen : ℕ) (us uk vs vk : List ℕ) → Type 0
+Cleared uPlaces uLen vPlaces vLen us uk vs vk = (us ≡ replicate uPlaces 0) × (uk ≡ replicate uLen 0) × (vs ≡ replicate vPlaces 0) × (vk ≡ replicate vLen 0)
+
+-- both lists: written whole where both have room (0); else which one has none, U's keys (6) before V's (7), and 0 throughout
 pub record WritesBoth (u v : ℕ → List ℕ) (keys : List ℕ) (uPlaces uLen vPlaces vLen : ℕ) (us uk vs vk : List ℕ) (r : ℕ) : Type 0 where
-  pub u-short : hasRoom u keys uLen ≡ false → r ≡ 6
-  pub v-short : hasRoom u keys uLen ≡ true → hasRoom v keys vLen ≡ false → r ≡ 7
+  pub u-short : hasRoom u keys uLen ≡ false → (_≡_ {A = ℕ} r 6) × Cleared uPlaces uLen vPlaces vLen us uk vs vk
+  pub v-short : hasRoom u keys uLen ≡ true → hasRoom v keys vLen ≡ false → (_≡_ {A = ℕ} r 7) × Cleared uPlaces uLen vPlaces vLen us uk vs vk
   pub written : hasRoom u keys uLen ≡ true → hasRoom v keys vLen ≡ true
       → (_≡_ {A = ℕ} r 0) × WritesList u keys uPlaces uLen us uk true × WritesList v keys vPlaces vLen vs vk true
+
+-- U's list and V's of a tree, in four slices
+abbrev pub WritesTree : ℕ → (keys own us uk vs vk us' uk' vs' vk' : List ℕ) → ℕ → Type 0
+WritesTree d keys own us uk vs vk us' uk' vs' vk' r = WritesBoth (listRow d keys own false) (listRow d keys own true) keys (length us) (length uk) (length vs) (length vk) us' uk' vs' vk' r
+
+-- of n starts, u keys and v keys, where U's keys and V's have so much room: all are kept, or none, and which slice is short
+pub record EndsOf (ur vr u v n short n' u' v' : ℕ) : Type 0 where
+  pub u-short : ur < u → (short ≡ 6) × (n' ≡ 0) × (u' ≡ 0) × (v' ≡ 0)
+  pub v-short : u ≤ ur → vr < v → (short ≡ 7) × (n' ≡ 0) × (u' ≡ 0) × (v' ≡ 0)
+  pub whole : u ≤ ur → v ≤ vr → (short ≡ 0) × (n' ≡ n) × (u' ≡ u) × (v' ≡ v)
+  pub few : n' ≤ n

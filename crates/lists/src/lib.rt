@@ -1,8 +1,8 @@
 // Both lists of a tree in Z order: the U and V rows of all nodes, written whole in one pass.
 mod starts; // starts.rt: the starts of both lists in one column
 
-use around::AROUND_ROOM;
-use around::NEAR_ROOM;
+use node_rows::HELD_ROOM;
+use node_rows::STACK_ROOM;
 pub use node_rows::Sizes;
 use starts::HALF;
 ghost use mathlib.Core.Path.{_≡_};
@@ -13,50 +13,32 @@ ghost use Rattle.tree.specs.WellFormed.{totalsRight};
 ghost use Rattle.tree.specs.WellFormed.{SoundTree};
 ghost use Rattle.rows.specs.Lists.{uRow};
 ghost use Rattle.rows.specs.Written.{keysRoom};
-ghost use Rattle.node_rows.specs.Rows.{listRow};
 ghost use Rattle.lists.specs.Written.{WritesList};
 ghost use Rattle.links.specs.Links.{LinkedTree};
-ghost use Rattle.lists.specs.Halves.{RowsRoom, WritesLists, WritesBoth};
-ghost use Rattle.node_rows.specs.Stack.{FramesRoom};
+ghost use Rattle.lists.specs.Halves.{RowsRoom, WritesLists, WritesTree, EndsOf};
+ghost use Rattle.node_rows.specs.Stack.{Ready};
 
 pub const MOST_KEYS: usize = 16777216;
 
-// Writes both rows of each node, one after the other, and where each begins and the last one ends; it stops where U has no room.
+// Writes both rows of each node but the root, which has none, one after the other, and where each begins and the last one ends; it stops where U has no room.
 fn fill_rows(
     axes: usize,
     key: &[u64],
     own: &[usize],
     total: &[usize],
     links: &[usize],
-    nodes: &mut [usize],
-    places: &mut [u64],
-    masks: &mut [u64],
-    counts: &mut [usize],
+    stack: &mut [usize],
     held: &mut [u64],
-    upto: &mut [usize],
     starts: &mut [usize],
     u_keys: &mut [u64],
     v_keys: &mut [u64],
 ) -> Sizes
-    requires { ⌜ LinkedTree axes (now key) (now own) (now total) (now links) × FramesRoom (now nodes) (now places) (now masks) ⌝ }
-    requires { ⌜ (16 ≤ length (now counts)) × (16 ≤ length (now upto)) × (432 ≤ length (now held)) ⌝ }
+    requires { ⌜ LinkedTree axes (now key) (now own) (now total) (now links) × Ready axes (now key) (now own) 1 (now stack) (now held) ⌝ }
     requires { ⌜ RowsRoom (now key) (now starts) (now «u_keys») (now «v_keys») ⌝ }
     ensures { λ r. ⌜ WritesLists axes (now (key .entry)) (now (own .entry)) (now (starts .exit)) (now («u_keys» .exit)) (now («v_keys» .exit)) (r .u) (r .v) ⌝ }
 {
     starts[0] = 0;
     starts[1] = 0;
-    node_rows::begin(
-        axes,
-        key,
-        own,
-        total,
-        links,
-        nodes,
-        places,
-        masks,
-        counts,
-        upto,
-    );
     let mut sizes = Sizes { u: 0, v: 0 };
     let mut i: usize = 1;
     while i < key.len() {
@@ -68,12 +50,8 @@ fn fill_rows(
             links,
             i,
             sizes,
-            nodes,
-            places,
-            masks,
-            counts,
+            stack,
             held,
-            upto,
             u_keys,
             v_keys,
         );
@@ -100,24 +78,17 @@ pub fn write_rows(
     requires { ⌜ LinkedTree axes (now key) (now own) (now total) (now links) × RowsRoom (now key) (now starts) (now «u_keys») (now «v_keys») ⌝ }
     ensures { λ r. ⌜ WritesLists axes (now (key .entry)) (now (own .entry)) (now (starts .exit)) (now («u_keys» .exit)) (now («v_keys» .exit)) (r .u) (r .v) ⌝ }
 {
-    let mut nodes = [0usize; 16 * AROUND_ROOM];
-    let mut places = [0u64; 16 * AROUND_ROOM];
-    let mut masks = [0u64; 16 * AROUND_ROOM];
-    let mut counts = [0usize; 16];
-    let mut held = [0u64; 16 * NEAR_ROOM];
-    let mut upto = [0usize; 16];
+    let mut stack = [0usize; STACK_ROOM];
+    let mut held = [0u64; HELD_ROOM];
+    node_rows::begin(axes, key, own, total, links, &mut stack);
     fill_rows(
         axes,
         key,
         own,
         total,
         links,
-        &mut nodes,
-        &mut places,
-        &mut masks,
-        &mut counts,
+        &mut stack,
         &mut held,
-        &mut upto,
         starts,
         u_keys,
         v_keys,
@@ -134,7 +105,43 @@ fn room_of(len: usize) -> usize
     MOST_KEYS
 }
 
-// Writes both lists whole, with 0 in the unused rests, and answers 0; or says which slice of keys is short: 6 U's, 7 V's.
+// What is kept of the starts and of each list's keys, and which slice of keys is short: 6 U's, 7 V's, or 0.
+struct Ends {
+    short: u64,
+    starts: usize,
+    u: usize,
+    v: usize,
+}
+
+// All is kept where both lists have room, else nothing.
+fn ends_of(starts: usize, u_room: usize, v_room: usize, sizes: Sizes) -> Ends
+    ensures { λ r. ⌜ EndsOf «u_room» «v_room» (sizes .u) (sizes .v) starts (r .short) (r .starts) (r .u) (r .v) ⌝ }
+{
+    if u_room < sizes.u {
+        return Ends {
+            short: 6,
+            starts: 0,
+            u: 0,
+            v: 0,
+        };
+    }
+    if v_room < sizes.v {
+        return Ends {
+            short: 7,
+            starts: 0,
+            u: 0,
+            v: 0,
+        };
+    }
+    Ends {
+        short: 0,
+        starts: starts,
+        u: sizes.u,
+        v: sizes.v,
+    }
+}
+
+// Writes both lists whole, with 0 in the unused rests, and answers 0; or says which slice of keys is short, 6 U's, 7 V's, and leaves 0 throughout.
 // V's starts hold the links until both lists stand.
 pub fn write_lists(
     axes: usize,
@@ -147,7 +154,8 @@ pub fn write_lists(
     v_keys: &mut [u64],
 ) -> u64
     requires { ⌜ SoundTree axes (now key) (now own) × (length (now key) < length (now «u_starts»)) × (length (now key) < length (now «v_starts»)) × (totalsRight axes (now key) (now own) (now total) ≡ true) ⌝ }
-    ensures { λ r. ⌜ WritesBoth (listRow axes (now (key .entry)) (now (own .entry)) false) (listRow axes (now (key .entry)) (now (own .entry)) true) (now (key .entry)) (length (now («u_starts» .entry))) (length (now («u_keys» .entry))) (length (now («v_starts» .entry))) (length (now («v_keys» .entry))) (now («u_starts» .exit)) (now («u_keys» .exit)) (now («v_starts» .exit)) (now («v_keys» .exit)) r ⌝ }
+    ensures { λ r. ⌜ WritesTree axes (now (key .entry)) (now (own .entry)) (now («u_starts» .entry)) (now («u_keys» .entry)) (now («v_starts» .entry)) (now («v_keys» .entry))
+        (now («u_starts» .exit)) (now («u_keys» .exit)) (now («v_starts» .exit)) (now («v_keys» .exit)) r ⌝ }
 {
     links::link_nodes(key, total, v_starts);
     let u_room = room_of(u_keys.len());
@@ -162,22 +170,17 @@ pub fn write_lists(
         &mut u_keys[..u_room],
         &mut v_keys[..v_room],
     );
-    if u_room < sizes.u {
-        return 6;
-    }
-    if v_room < sizes.v {
-        return 7;
-    }
+    let ends = ends_of(key.len() + 1, u_room, v_room, sizes);
     starts::finish(
         u_starts,
         u_keys,
         v_starts,
         v_keys,
-        key.len() + 1,
-        sizes.u,
-        sizes.v,
+        ends.starts,
+        ends.u,
+        ends.v,
     );
-    0
+    ends.short
 }
 
 // Writes U's list alone, whole, with 0 in the unused rests; or answers false, where its keys have no room. It is lent no column for links.
