@@ -22,7 +22,8 @@ use Rattle.space.specs.declared.Rows.{Rows}
 use Rattle.space.specs.declared.Rows.the-variants.{Outside}
 use Rattle.space.specs.Domain.{boxOutcome}
 use Rattle.space.specs.Cells.{frameOf}
-use Rattle.space.specs.Rows.{insideRows, orInside, firstOutside, coded, rowsOf, rowsInside, mostPoints}
+use Rattle.space.specs.Rows.{insideRows, orInside, rowWall, firstOutside, coded, rowsOf, rowsInside, wallOf, mostPoints}
+use Rattle.space.proofs.Walls.{wall-index}
 use Rattle.space.proofs.Batches.{codes-length, rows-le}
 use Rattle.space.proofs.Refusals.{Fine, fine}
 use Rattle.morton.proofs.Checks.{axes-known}
@@ -35,7 +36,7 @@ use Rattle.lookup.specs.declared.Climbs.the-variants.{Ended, Failed}
 use Rattle.lookup.specs.declared.LookedUp.{LookedUp}
 use Rattle.lookup.specs.declared.LookedUp.the-variants.{Found, Refused as NotFound}
 use Rattle.tree.specs.Leaves.{leafKey}
-use Rattle.lookup.specs.Batch.{heldBefore, leafKeys, stepsSum, endedOr, climbsOf, insideOf, codesInside, callOutcome, pointsOutcome, lookupOutcome, foundOr}
+use Rattle.lookup.specs.Batch.{heldBefore, leafKeys, stepsSum, endedOr, climbsOf, insideOf, foundIn, codesInside, callOutcome, pointsOutcome, lookupOutcome, foundOr}
 
 -- ---- the end of the climbs
 module _ (d : ℕ) (keys codes : List ℕ) where
@@ -59,8 +60,8 @@ module _ (d : ℕ) (keys codes : List ℕ) where
 first-inside : (n : ℕ) (f : Frame) (xs : List Float) → insideOf (firstOutside n f xs) n ≡ insideRows n f xs
 first-inside n f xs = go (ltb (insideRows n f xs) n) refl
   where
-    go : (t : Bool) → ltb (insideRows n f xs) n ≡ t → insideOf (orInside t (Outside (insideRows n f xs))) n ≡ insideRows n f xs
-    go true e = refl
+    go : (t : Bool) → ltb (insideRows n f xs) n ≡ t → insideOf (orInside t (Outside (rowWall f xs (insideRows n f xs)))) n ≡ insideRows n f xs
+    go true e = wall-index (insideRows n f xs) f (drop (insideRows n f xs * f .axes) xs)
     go false e = omega (arith, ltb-false (insideRows n f xs) n e, rows-le n f xs)
 
 module _ (b : Box) (keys : List ℕ) (xs : List Float) (old out : List ℕ) (rows : Rows) (first : ℕ)
@@ -99,17 +100,15 @@ module _ (b : Box) (keys : List ℕ) (xs : List Float) (old out : List ℕ) (row
       held-all : heldBefore (b .axes) keys (codesInside b xs) ≡ rowsInside b xs
       held-all = climbs-ended (b .axes) keys (codesInside b xs) steps (sym told ∙ f) .0 ∙ size ∙ first-is
 
-      pub look-outside : (first ≡ rowsOf b xs → ⊥) → NotFound (Point first) ≡ foundOr (pointsOutcome b keys xs) (stepsSum (b .axes) keys (codesInside b xs))
+      pub look-ended : foundIn rows steps ≡ foundOr (pointsOutcome b keys xs) (stepsSum (b .axes) keys (codesInside b xs))
       unfolding pointsOutcome
-      look-outside n =
-          ap (λ (i : ℕ). NotFound (Point i)) first-is
-          ∙ rw (eq-eqb (heldBefore (b .axes) keys (codesInside b xs)) (rowsInside b xs) held-all, ne-eqb (rowsInside b xs) (rowsOf b xs) (λ q. n (first-is ∙ q)))
-
-      pub look-found : first ≡ rowsOf b xs → Found steps ≡ foundOr (pointsOutcome b keys xs) (stepsSum (b .axes) keys (codesInside b xs))
-      unfolding pointsOutcome
-      look-found q =
-          ap Found (climbs-ended (b .axes) keys (codesInside b xs) steps (sym told ∙ f) .1)
-          ∙ rw (eq-eqb (heldBefore (b .axes) keys (codesInside b xs)) (rowsInside b xs) held-all, eq-eqb (rowsInside b xs) (rowsOf b xs) (sym first-is ∙ q))
+      look-ended = ap (λ q. foundIn q steps) r ∙ go (ltb (rowsInside b xs) (rowsOf b xs)) refl
+        where
+          go : (t : Bool) → ltb (rowsInside b xs) (rowsOf b xs) ≡ t → foundIn (orInside t (Outside (wallOf b xs))) steps ≡ foundOr (pointsOutcome b keys xs) (stepsSum (b .axes) keys (codesInside b xs))
+          go true l = rw (eq-eqb (heldBefore (b .axes) keys (codesInside b xs)) (rowsInside b xs) held-all, ne-eqb (rowsInside b xs) (rowsOf b xs) (λ q. omega (arith, q, ltb-true (rowsInside b xs) (rowsOf b xs) l)))
+          go false l =
+              ap Found (climbs-ended (b .axes) keys (codesInside b xs) steps (sym told ∙ f) .1)
+              ∙ rw (eq-eqb (heldBefore (b .axes) keys (codesInside b xs)) (rowsInside b xs) held-all, eq-eqb (rowsInside b xs) (rowsOf b xs) (omega (arith, rows-le (rowsOf b xs) (frameOf b) xs, ltb-false (rowsInside b xs) (rowsOf b xs) l)))
 
   -- the output, where nothing is refused
   pub look-keys : (final : List ℕ) → (heldBefore (b .axes) keys (take first out) ≡ first → final ≡ leafKeys (b .axes) keys (take first out) ++ drop first out)
@@ -227,8 +226,8 @@ module _ (b : Box) (keys own begin total : List ℕ) (xs : List Float) (room : �
       all-inside : rowsInside b xs ≡ rowsOf b xs
       unfolding pointsOutcome
       all-inside =
-          let p = both-done (ask (eqb (heldBefore (b .axes) keys (codesInside b xs)) (rowsInside b xs)) (Unstored (heldBefore (b .axes) keys (codesInside b xs)))) (ask (eqb (rowsInside b xs) (rowsOf b xs)) (Point (rowsInside b xs))) fine-points in
-          eqb-true (rowsInside b xs) (rowsOf b xs) (asked (eqb (rowsInside b xs) (rowsOf b xs)) (Point (rowsInside b xs)) (p .1))
+          let p = both-done (ask (eqb (heldBefore (b .axes) keys (codesInside b xs)) (rowsInside b xs)) (Unstored (heldBefore (b .axes) keys (codesInside b xs)))) (ask (eqb (rowsInside b xs) (rowsOf b xs)) (Point (wallOf b xs))) fine-points in
+          eqb-true (rowsInside b xs) (rowsOf b xs) (asked (eqb (rowsInside b xs) (rowsOf b xs)) (Point (wallOf b xs)) (p .1))
 
       size-is : length output ≡ rowsOf b xs
       size-is = length-map (codesInside b xs) (leafKey (b .axes) keys) ∙ codes-length (rowsInside b xs) (frameOf b) xs ∙ all-inside

@@ -13,6 +13,7 @@ use Rattle.refusal.proofs.Chain.{asked, both-done, after-done, after-refused}
 use Rattle.space.specs.declared.Box.{Box}
 use Rattle.space.specs.Domain.{boxOutcome, levelOutcome}
 use Rattle.space.specs.Cells.{frameOf, inside, code16}
+use Rattle.space.specs.Walls.{firstWall}
 use Rattle.morton.proofs.Cells.{above-zero}
 use Rattle.tree.specs.Columns.{columns}
 use Rattle.tree.specs.WellFormed.{wellFormed}
@@ -51,7 +52,7 @@ module _ (b : Box) (keys own begin total : List ℕ) where
   module _ (xs : List Float) where
     pub tree-stops : (r : Refusal) → treeOutcome b (columns keys own begin total) ≡ Refused r → NoLeaf r ≡ pointToLeaf b (columns keys own begin total) xs
     tree-stops r e =
-        sym (ap (λ o. leafOrRefusal ((o then ask (inside (frameOf b) xs) (Point 0)) then ask (held (b .axes) keys (code16 (frameOf b) xs)) (Unstored 0)) (leafKey (b .axes) keys (code16 (frameOf b) xs)) (stepsTo (b .axes) keys (code16 (frameOf b) xs))) e)
+        sym (ap (λ o. leafOrRefusal ((o then ask (inside (frameOf b) xs) (Point (firstWall 0 (frameOf b) xs))) then ask (held (b .axes) keys (code16 (frameOf b) xs)) (Unstored 0)) (leafKey (b .axes) keys (code16 (frameOf b) xs)) (stepsTo (b .axes) keys (code16 (frameOf b) xs))) e)
 
     module _ (e : treeOutcome b (columns keys own begin total) ≡ Done) where
       pub tree-fine : (boxOutcome b ≡ Done) × (wellFormed (b .axes) keys own begin total ≡ true)
@@ -61,9 +62,9 @@ module _ (b : Box) (keys own begin total : List ℕ) where
       level-done = sym (level-fine b 16 (tree-fine .0) (omega arith))
 
       after-tree : (t : Bool) → inside (frameOf b) xs ≡ t
-          → pointToLeaf b (columns keys own begin total) xs ≡ leafOrRefusal (ask t (Point 0) then ask (held (b .axes) keys (code16 (frameOf b) xs)) (Unstored 0)) (leafKey (b .axes) keys (code16 (frameOf b) xs)) (stepsTo (b .axes) keys (code16 (frameOf b) xs))
+          → pointToLeaf b (columns keys own begin total) xs ≡ leafOrRefusal (ask t (Point (firstWall 0 (frameOf b) xs)) then ask (held (b .axes) keys (code16 (frameOf b) xs)) (Unstored 0)) (leafKey (b .axes) keys (code16 (frameOf b) xs)) (stepsTo (b .axes) keys (code16 (frameOf b) xs))
       after-tree t i =
-          ap₂ (λ o s. leafOrRefusal ((o then ask s (Point 0)) then ask (held (b .axes) keys (code16 (frameOf b) xs)) (Unstored 0)) (leafKey (b .axes) keys (code16 (frameOf b) xs)) (stepsTo (b .axes) keys (code16 (frameOf b) xs))) e i
+          ap₂ (λ o s. leafOrRefusal ((o then ask s (Point (firstWall 0 (frameOf b) xs))) then ask (held (b .axes) keys (code16 (frameOf b) xs)) (Unstored 0)) (leafKey (b .axes) keys (code16 (frameOf b) xs)) (stepsTo (b .axes) keys (code16 (frameOf b) xs))) e i
 
       module _ (r : PointKey) (q : r ≡ pointToKey b xs 16) where
         pub cell-code : (k : ℕ) → r ≡ Cell k → (inside (frameOf b) xs ≡ true) × (k / 32768 ≡ code16 (frameOf b) xs)
@@ -77,7 +78,7 @@ module _ (b : Box) (keys own begin total : List ℕ) where
                 let n : c / 2 ^ (b .axes * (16 - 16)) * 32768 + 16 ≡ k = cc in
                 (i, omega (arith, n, above-zero (b .axes) c))
             go false i =
-                let same : NoCell (Point 0) ≡ Cell k = refused-key b xs 16 (Point 0) (point-out b xs 16 level-done i) ∙ sym q ∙ f in
+                let same : NoCell (Point (firstWall 0 (frameOf b) xs)) ≡ Cell k = refused-key b xs 16 _ (point-out b xs 16 (Point (firstWall 0 (frameOf b) xs)) refl level-done i) ∙ sym q ∙ f in
                 let z : _≡_ {A = ℕ} 0 1 = cc in
                 absurd (omega arith)
 
@@ -93,6 +94,6 @@ module _ (b : Box) (keys own begin total : List ℕ) where
                 let z : _≡_ {A = ℕ} 0 1 = cc in
                 absurd (omega arith)
             go false i =
-                let same : NoCell (Point 0) ≡ NoCell x = refused-key b xs 16 (Point 0) (point-out b xs 16 level-done i) ∙ sym q ∙ f in
-                let p : x ≡ Point 0 = cc in
+                let same : NoCell (Point (firstWall 0 (frameOf b) xs)) ≡ NoCell x = refused-key b xs 16 _ (point-out b xs 16 (Point (firstWall 0 (frameOf b) xs)) refl level-done i) ∙ sym q ∙ f in
+                let p : x ≡ Point (firstWall 0 (frameOf b) xs) = cc in
                 ap NoLeaf p ∙ sym (after-tree false i)
