@@ -77,5 +77,5 @@ pub mod trees;
 
 pub use lent::{Asked, Columns};
 pub use points::Bounds;
-pub use refusal::Refusal;
+pub use refusal::{Reason, Refusal, Wall};
 pub use trees::{Groups, Leaf, Lists, Rows, Tree};

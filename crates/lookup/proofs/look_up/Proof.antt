@@ -2,15 +2,10 @@
 use mathlib.Core.Path.{_∙_}
 use native.Mathlib.Omega.{arith}
 use denote.Ref.{now}
-use Rattle.lookup.proofs.Calls.{first-le, codes-room, look-unstored, look-outside, look-found, look-keys}
+use Rattle.lookup.proofs.Calls.{first-le, codes-room, look-unstored, look-ended, look-keys}
 use borrow.Author.Needs.{needs}
 use Rattle.lookup.proofs.look_up.Statement.{statement}
 use Rattle.lookup.proofs.look_up.Tie as tie
-use Rattle.lookup.proofs.look_up.Reads as reads
-use Rattle.lookup.proofs.look_up.Lts as lts
-use Rattle.lookup.proofs.inside_of.Reads as inside-of-reads
-use Rattle.lookup.proofs.leaves_of.Reads as leaves-of-reads
-use Rattle.space.proofs.points_to_codes.Reads as points-to-codes-reads
 
 div-all : tie.Need-div-all
 div-all c = search needs
@@ -27,27 +22,24 @@ leaves-of-requires c κs = let a = c .before .before .before .before .before .be
 enum-known-climbs : tie.Need-enum-known-climbs
 enum-known-climbs c = search needs
 
+same-length : tie.Need-same-length
+same-length c = let a = c .before .before .before .before .before .before .before .before .before .before .before .before .before .before .before .args in c .before .before .before .before .before .leaves-of .ensures .1 .0 ∙ codes-room (a .b) (now (a .key)) (now (a .points)) (now (a .output)) _ (c .before .before .before .before .before .before .before .before .before .before .points-to-codes .result) (c .before .before .before .before .before .before .before .inside-of .result) (c .before .before .before .before .before .before .before .before .before .before .points-to-codes .ensures .0) (c .before .before .before .before .before .before .before .before .before .before .points-to-codes .ensures .1) (c .before .before .before .before .before .before .before .inside-of .ensures) (c .before .before .before .before .before .before .before .before .before .before .before .before .before .before .before .pre .3)
+
+returns : tie.Need-returns
+returns c = let a = c .before .before .before .before .before .before .before .before .before .before .before .before .before .before .before .args in (look-unstored (a .b) (now (a .key)) (now (a .points)) (now (a .output)) _ (c .before .before .before .before .before .before .before .before .before .before .points-to-codes .result) (c .before .before .before .before .before .before .before .inside-of .result) (c .before .before .before .before .before .before .before .before .before .before .points-to-codes .ensures .0) (c .before .before .before .before .before .before .before .before .before .before .points-to-codes .ensures .1) (c .before .before .before .before .before .before .before .inside-of .ensures) (c .before .before .before .before .before .leaves-of .result) (c .before .before .before .before .before .leaves-of .ensures .0) _ (c .before .climbs .given .1), (c .before .before .before .before .before .leaves-of .ensures .1 .0 ∙ codes-room (a .b) (now (a .key)) (now (a .points)) (now (a .output)) _ (c .before .before .before .before .before .before .before .before .before .before .points-to-codes .result) (c .before .before .before .before .before .before .before .inside-of .result) (c .before .before .before .before .before .before .before .before .before .before .points-to-codes .ensures .0) (c .before .before .before .before .before .before .before .before .before .before .points-to-codes .ensures .1) (c .before .before .before .before .before .before .before .inside-of .ensures) (c .before .before .before .before .before .before .before .before .before .before .before .before .before .before .before .pre .3), look-keys (a .b) (now (a .key)) (now (a .points)) (now (a .output)) _ (c .before .before .before .before .before .before .before .before .before .before .points-to-codes .result) (c .before .before .before .before .before .before .before .inside-of .result) (c .before .before .before .before .before .before .before .before .before .before .points-to-codes .ensures .0) (c .before .before .before .before .before .before .before .before .before .before .points-to-codes .ensures .1) (c .before .before .before .before .before .before .before .inside-of .ensures) _ (c .before .before .before .before .before .leaves-of .ensures .1 .1)))
+
 enum-known-climbs-2 : tie.Need-enum-known-climbs-2
 enum-known-climbs-2 c = search needs
 
-same-length : tie.Need-same-length
-same-length c = let a = c .before .before .before .before .before .before .before .before .before .before .before .before .before .before .before .before .args in c .before .before .before .before .before .before .leaves-of .ensures .1 .0 ∙ codes-room (a .b) (now (a .key)) (now (a .points)) (now (a .output)) _ (c .before .before .before .before .before .before .before .before .before .before .before .points-to-codes .result) (c .before .before .before .before .before .before .before .before .inside-of .result) (c .before .before .before .before .before .before .before .before .before .before .before .points-to-codes .ensures .0) (c .before .before .before .before .before .before .before .before .before .before .before .points-to-codes .ensures .1) (c .before .before .before .before .before .before .before .before .inside-of .ensures) (c .before .before .before .before .before .before .before .before .before .before .before .before .before .before .before .before .pre .3)
-
-returns : tie.Need-returns
-returns c = let a = c .before .before .before .before .before .before .before .before .before .before .before .before .before .before .before .before .args in (look-outside (a .b) (now (a .key)) (now (a .points)) (now (a .output)) _ (c .before .before .before .before .before .before .before .before .before .before .before .points-to-codes .result) (c .before .before .before .before .before .before .before .before .inside-of .result) (c .before .before .before .before .before .before .before .before .before .before .before .points-to-codes .ensures .0) (c .before .before .before .before .before .before .before .before .before .before .before .points-to-codes .ensures .1) (c .before .before .before .before .before .before .before .before .inside-of .ensures) (c .before .before .before .before .before .before .leaves-of .result) (c .before .before .before .before .before .before .leaves-of .ensures .0) _ (c .before .before .climbs2 .given .1) (c .if1 .taken), (c .before .before .before .before .before .before .leaves-of .ensures .1 .0 ∙ codes-room (a .b) (now (a .key)) (now (a .points)) (now (a .output)) _ (c .before .before .before .before .before .before .before .before .before .before .before .points-to-codes .result) (c .before .before .before .before .before .before .before .before .inside-of .result) (c .before .before .before .before .before .before .before .before .before .before .before .points-to-codes .ensures .0) (c .before .before .before .before .before .before .before .before .before .before .before .points-to-codes .ensures .1) (c .before .before .before .before .before .before .before .before .inside-of .ensures) (c .before .before .before .before .before .before .before .before .before .before .before .before .before .before .before .before .pre .3), look-keys (a .b) (now (a .key)) (now (a .points)) (now (a .output)) _ (c .before .before .before .before .before .before .before .before .before .before .before .points-to-codes .result) (c .before .before .before .before .before .before .before .before .inside-of .result) (c .before .before .before .before .before .before .before .before .before .before .before .points-to-codes .ensures .0) (c .before .before .before .before .before .before .before .before .before .before .before .points-to-codes .ensures .1) (c .before .before .before .before .before .before .before .before .inside-of .ensures) _ (c .before .before .before .before .before .before .leaves-of .ensures .1 .1)))
+found-of-requires : tie.Need-found-of-requires
+found-of-requires c κs = search needs
 
 same-length-2 : tie.Need-same-length-2
-same-length-2 c = let a = c .before .before .before .before .before .before .before .before .before .before .before .before .before .before .before .args in c .before .before .before .before .before .leaves-of .ensures .1 .0 ∙ codes-room (a .b) (now (a .key)) (now (a .points)) (now (a .output)) _ (c .before .before .before .before .before .before .before .before .before .before .points-to-codes .result) (c .before .before .before .before .before .before .before .inside-of .result) (c .before .before .before .before .before .before .before .before .before .before .points-to-codes .ensures .0) (c .before .before .before .before .before .before .before .before .before .before .points-to-codes .ensures .1) (c .before .before .before .before .before .before .before .inside-of .ensures) (c .before .before .before .before .before .before .before .before .before .before .before .before .before .before .before .pre .3)
+same-length-2 c = let a = c .before .before .before .before .before .before .before .before .before .before .before .before .before .before .before .before .args in c .before .before .before .before .before .before .leaves-of .ensures .1 .0 ∙ codes-room (a .b) (now (a .key)) (now (a .points)) (now (a .output)) _ (c .before .before .before .before .before .before .before .before .before .before .before .points-to-codes .result) (c .before .before .before .before .before .before .before .before .inside-of .result) (c .before .before .before .before .before .before .before .before .before .before .before .points-to-codes .ensures .0) (c .before .before .before .before .before .before .before .before .before .before .before .points-to-codes .ensures .1) (c .before .before .before .before .before .before .before .before .inside-of .ensures) (c .before .before .before .before .before .before .before .before .before .before .before .before .before .before .before .before .pre .3)
 
 returns-2 : tie.Need-returns-2
-returns-2 c = let a = c .before .before .before .before .before .before .before .before .before .before .before .before .before .before .before .args in (look-unstored (a .b) (now (a .key)) (now (a .points)) (now (a .output)) _ (c .before .before .before .before .before .before .before .before .before .before .points-to-codes .result) (c .before .before .before .before .before .before .before .inside-of .result) (c .before .before .before .before .before .before .before .before .before .before .points-to-codes .ensures .0) (c .before .before .before .before .before .before .before .before .before .before .points-to-codes .ensures .1) (c .before .before .before .before .before .before .before .inside-of .ensures) (c .before .before .before .before .before .leaves-of .result) (c .before .before .before .before .before .leaves-of .ensures .0) _ (c .before .climbs .given .1), (c .before .before .before .before .before .leaves-of .ensures .1 .0 ∙ codes-room (a .b) (now (a .key)) (now (a .points)) (now (a .output)) _ (c .before .before .before .before .before .before .before .before .before .before .points-to-codes .result) (c .before .before .before .before .before .before .before .inside-of .result) (c .before .before .before .before .before .before .before .before .before .before .points-to-codes .ensures .0) (c .before .before .before .before .before .before .before .before .before .before .points-to-codes .ensures .1) (c .before .before .before .before .before .before .before .inside-of .ensures) (c .before .before .before .before .before .before .before .before .before .before .before .before .before .before .before .pre .3), look-keys (a .b) (now (a .key)) (now (a .points)) (now (a .output)) _ (c .before .before .before .before .before .before .before .before .before .before .points-to-codes .result) (c .before .before .before .before .before .before .before .inside-of .result) (c .before .before .before .before .before .before .before .before .before .before .points-to-codes .ensures .0) (c .before .before .before .before .before .before .before .before .before .before .points-to-codes .ensures .1) (c .before .before .before .before .before .before .before .inside-of .ensures) _ (c .before .before .before .before .before .leaves-of .ensures .1 .1)))
-
-same-length-3 : tie.Need-same-length-3
-same-length-3 c = let a = c .before .before .before .before .before .before .before .before .before .before .before .before .before .before .before .before .args in c .before .before .before .before .before .before .leaves-of .ensures .1 .0 ∙ codes-room (a .b) (now (a .key)) (now (a .points)) (now (a .output)) _ (c .before .before .before .before .before .before .before .before .before .before .before .points-to-codes .result) (c .before .before .before .before .before .before .before .before .inside-of .result) (c .before .before .before .before .before .before .before .before .before .before .before .points-to-codes .ensures .0) (c .before .before .before .before .before .before .before .before .before .before .before .points-to-codes .ensures .1) (c .before .before .before .before .before .before .before .before .inside-of .ensures) (c .before .before .before .before .before .before .before .before .before .before .before .before .before .before .before .before .pre .3)
-
-returns-3 : tie.Need-returns-3
-returns-3 c = let a = c .before .before .before .before .before .before .before .before .before .before .before .before .before .before .before .before .args in (look-found (a .b) (now (a .key)) (now (a .points)) (now (a .output)) _ (c .before .before .before .before .before .before .before .before .before .before .before .points-to-codes .result) (c .before .before .before .before .before .before .before .before .inside-of .result) (c .before .before .before .before .before .before .before .before .before .before .before .points-to-codes .ensures .0) (c .before .before .before .before .before .before .before .before .before .before .before .points-to-codes .ensures .1) (c .before .before .before .before .before .before .before .before .inside-of .ensures) (c .before .before .before .before .before .before .leaves-of .result) (c .before .before .before .before .before .before .leaves-of .ensures .0) _ (c .before .before .climbs2 .given .1) (c .if1 .left), (c .before .before .before .before .before .before .leaves-of .ensures .1 .0 ∙ codes-room (a .b) (now (a .key)) (now (a .points)) (now (a .output)) _ (c .before .before .before .before .before .before .before .before .before .before .before .points-to-codes .result) (c .before .before .before .before .before .before .before .before .inside-of .result) (c .before .before .before .before .before .before .before .before .before .before .before .points-to-codes .ensures .0) (c .before .before .before .before .before .before .before .before .before .before .before .points-to-codes .ensures .1) (c .before .before .before .before .before .before .before .before .inside-of .ensures) (c .before .before .before .before .before .before .before .before .before .before .before .before .before .before .before .before .pre .3), look-keys (a .b) (now (a .key)) (now (a .points)) (now (a .output)) _ (c .before .before .before .before .before .before .before .before .before .before .before .points-to-codes .result) (c .before .before .before .before .before .before .before .before .inside-of .result) (c .before .before .before .before .before .before .before .before .before .before .before .points-to-codes .ensures .0) (c .before .before .before .before .before .before .before .before .before .before .before .points-to-codes .ensures .1) (c .before .before .before .before .before .before .before .before .inside-of .ensures) _ (c .before .before .before .before .before .before .leaves-of .ensures .1 .1)))
+returns-2 c = let a = c .before .before .before .before .before .before .before .before .before .before .before .before .before .before .before .before .args in (c .found-of .ensures ∙ look-ended (a .b) (now (a .key)) (now (a .points)) (now (a .output)) _ (c .before .before .before .before .before .before .before .before .before .before .before .points-to-codes .result) (c .before .before .before .before .before .before .before .before .inside-of .result) (c .before .before .before .before .before .before .before .before .before .before .before .points-to-codes .ensures .0) (c .before .before .before .before .before .before .before .before .before .before .before .points-to-codes .ensures .1) (c .before .before .before .before .before .before .before .before .inside-of .ensures) (c .before .before .before .before .before .before .leaves-of .result) (c .before .before .before .before .before .before .leaves-of .ensures .0) _ (c .before .before .climbs2 .given .1), (c .before .before .before .before .before .before .leaves-of .ensures .1 .0 ∙ codes-room (a .b) (now (a .key)) (now (a .points)) (now (a .output)) _ (c .before .before .before .before .before .before .before .before .before .before .before .points-to-codes .result) (c .before .before .before .before .before .before .before .before .inside-of .result) (c .before .before .before .before .before .before .before .before .before .before .before .points-to-codes .ensures .0) (c .before .before .before .before .before .before .before .before .before .before .before .points-to-codes .ensures .1) (c .before .before .before .before .before .before .before .before .inside-of .ensures) (c .before .before .before .before .before .before .before .before .before .before .before .before .before .before .before .before .pre .3), look-keys (a .b) (now (a .key)) (now (a .points)) (now (a .output)) _ (c .before .before .before .before .before .before .before .before .before .before .before .points-to-codes .result) (c .before .before .before .before .before .before .before .before .inside-of .result) (c .before .before .before .before .before .before .before .before .before .before .before .points-to-codes .ensures .0) (c .before .before .before .before .before .before .before .before .before .before .before .points-to-codes .ensures .1) (c .before .before .before .before .before .before .before .before .inside-of .ensures) _ (c .before .before .before .before .before .before .leaves-of .ensures .1 .1)))
 
 pub look-up-spec : {M : Type 1} → statement M
 look-up-spec =
-    tie.close (tie.spec div-all points-to-codes-requires inside-of-requires leaves-of-requires enum-known-climbs enum-known-climbs-2 same-length returns same-length-2 returns-2 same-length-3 returns-3)
+    tie.close (tie.spec div-all points-to-codes-requires inside-of-requires leaves-of-requires enum-known-climbs enum-known-climbs-2 found-of-requires same-length returns same-length-2 returns-2)
