@@ -48,9 +48,9 @@ extern "C" {
 #endif
 
 /* The version of this header and of the archive that was made with it. */
-#define LOHANDEMA_VERSION "0.3.0"
+#define LOHANDEMA_VERSION "0.4.0"
 #define LOHANDEMA_VERSION_MAJOR 0
-#define LOHANDEMA_VERSION_MINOR 3
+#define LOHANDEMA_VERSION_MINOR 4
 #define LOHANDEMA_VERSION_PATCH 0
 
 /* Limits. */
