@@ -39,7 +39,7 @@ static void stop_if_refused(lohandema_ended ended)
 {
     if (ended.number == LOHANDEMA_DONE)
         return;
-    fprintf(stderr, "example: refused %" PRIu64 " %s, value %zu: %s\n", ended.number, lohandema_refusal_name(ended.number),
+    fprintf(stderr, "example: refused %" PRIu32 " %s, value %zu: %s\n", ended.number, lohandema_refusal_name(ended.number),
             ended.value, lohandema_refusal_sentence(ended.number));
     exit(1);
 }

@@ -17,8 +17,12 @@ void expect(bool holds, const char *what, const char *file, int line)
 
 void expect_ended(lohandema_ended ended, uint64_t number, size_t value, const char *what, const char *file, int line)
 {
+    /* a wall goes with 6 and 7, and with no other number */
+    const bool outside = number == LOHANDEMA_SOURCE || number == LOHANDEMA_POINT;
+    const bool wall = outside ? ended.axis < LOHANDEMA_MOST_AXES && ended.reason >= 1 && ended.reason <= 3
+                              : ended.axis == 0 && ended.reason == 0;
     made++;
-    if (ended.number != number || ended.value != value) {
+    if (ended.number != number || ended.value != value || !wall) {
         failed++;
         fprintf(stderr, "%s:%d: ended %s %zu, not %s %zu: %s\n", file, line, lohandema_refusal_name(ended.number),
                 ended.value, lohandema_refusal_name(number), value, what);
@@ -65,9 +69,12 @@ void test_names(void)
     for (uint64_t number = 0; number < 18; number++)
         EXPECT(strlen(lohandema_refusal_sentence(number)) > 20);
     EXPECT(strstr(lohandema_refusal_sentence(LOHANDEMA_TREE), "well-formed") != NULL);
-    EXPECT(strstr(lohandema_refusal_sentence(LOHANDEMA_SOURCE), "or is not a number") != NULL);
+    EXPECT(strstr(lohandema_refusal_sentence(LOHANDEMA_SOURCE), "or is not a finite number") != NULL);
+    EXPECT(strcmp(lohandema_reason_name(LOHANDEMA_BELOW), "lies below the box") == 0);
+    EXPECT(strcmp(lohandema_reason_name(0), "") == 0 && strcmp(lohandema_reason_name(4), "") == 0);
+    EXPECT(sizeof(lohandema_ended) == 16);
     EXPECT(strstr(lohandema_refusal_sentence(LOHANDEMA_POINT), "target or looked-up point") != NULL);
-    EXPECT(strstr(lohandema_refusal_sentence(LOHANDEMA_POINT), "or is not a number") != NULL);
+    EXPECT(strstr(lohandema_refusal_sentence(LOHANDEMA_POINT), "or is not a finite number") != NULL);
     EXPECT(strstr(lohandema_refusal_sentence(LOHANDEMA_ROOM), "where the most was lent, raise the limit") != NULL);
 }
 

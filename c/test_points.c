@@ -18,6 +18,26 @@ static long anchor_of(double x)
     return -1;
 }
 
+/* Which wall a point of the box about (4, 4) with radius 4 is behind: 10 * axis + reason. */
+static int wall_of(double x, double y)
+{
+    const double centre[3] = {4.0, 4.0, NAN}, point[3] = {x, y, NAN};
+    uint64_t key = 7;
+    lohandema_ended ended = lohandema_point_to_key(centre, 4.0, 2, point, 16, &key);
+    EXPECT(ended.number == LOHANDEMA_POINT && ended.value == 0 && key == 0);
+    return 10 * ended.axis + ended.reason;
+}
+
+static void known_walls(void)
+{
+    EXPECT(wall_of(NAN, 4.0) == LOHANDEMA_NOT_FINITE && wall_of(4.0, INFINITY) == 10 + LOHANDEMA_NOT_FINITE);
+    EXPECT(wall_of(-INFINITY, NAN) == LOHANDEMA_NOT_FINITE);
+    EXPECT(wall_of(9.0, NAN) == LOHANDEMA_ABOVE && wall_of(4.0, -1.0) == 10 + LOHANDEMA_BELOW);
+    EXPECT(wall_of(-5e-324, 4.0) == LOHANDEMA_BELOW && wall_of(8.0, 4.0) == LOHANDEMA_ABOVE);
+    /* finite numbers whose quotients are infinite */
+    EXPECT(wall_of(4.0, 1.7e308) == 10 + LOHANDEMA_ABOVE && wall_of(-1.7e308, 4.0) == LOHANDEMA_BELOW);
+}
+
 static void known_cells(void)
 {
     const double point[3] = {6.5, NAN, NAN};
@@ -133,6 +153,7 @@ static void refused_extents(void)
 void test_points(void)
 {
     known_cells();
+    known_walls();
     known_lengths();
     known_extents();
     refused_boxes();

@@ -48,9 +48,9 @@ extern "C" {
 #endif
 
 /* The version of this header and of the archive that was made with it. */
-#define LOHANDEMA_VERSION "0.3.0"
+#define LOHANDEMA_VERSION "0.4.0"
 #define LOHANDEMA_VERSION_MAJOR 0
-#define LOHANDEMA_VERSION_MINOR 3
+#define LOHANDEMA_VERSION_MINOR 4
 #define LOHANDEMA_VERSION_PATCH 0
 
 /* Limits. */
@@ -71,11 +71,15 @@ extern "C" {
 #define LOHANDEMA_STACK_POINTS_TO_KEYS 131072
 #define LOHANDEMA_STACK 131072
 
-/* How a call ended: 0 and 0, or the number and value of a refusal.
+/* How a call ended: 0 throughout, or the number and values of a refusal.
  * The value of 6, 7, 12 and 14 is the lowest index that fails (0 where the call takes a single point), counted in points and
- * not in coordinates; that of 8 says which lent slice is short (enum below); that of every other number is 0. */
+ * not in coordinates; that of 8 says which lent slice is short (enum below); that of every other number is 0.
+ * The axis and the reason are those of 6 and 7: the first axis, from 0, on which that point is outside the box, and why (enum
+ * below). With every other number both are 0. */
 typedef struct {
-    uint64_t number;
+    uint32_t number;
+    uint16_t axis;
+    uint16_t reason;
     size_t value;
 } lohandema_ended;
 
@@ -97,6 +101,13 @@ enum {
     LOHANDEMA_TREE = 13,
     LOHANDEMA_NOTLEAF = 14,
     LOHANDEMA_FILE = 15
+};
+
+/* The reasons of 6 and 7, asked in this order on each axis. The first is of the coordinate itself, NaN or infinite. */
+enum {
+    LOHANDEMA_NOT_FINITE = 1,
+    LOHANDEMA_BELOW = 2,
+    LOHANDEMA_ABOVE = 3
 };
 
 /* The values of 8 ROOM; the lowest that is short is told. */
@@ -130,9 +141,10 @@ static inline const char *lohandema_refusal_sentence(uint64_t number)
         "the coordinates are not whole points: pass as many for each point as there are axes",
         "there are more than 1048576 points or keys: pass fewer",
         "the order is not from 1 to 64: pass such an order, or no targets",
-        "a source lies outside the box or is not a number, and the value is its index: enlarge the box or remove the source",
-        "a target or looked-up point lies outside the box or is not a number, and the value is its index: enlarge the box or "
-        "remove the point",
+        "a source lies outside the box or is not a finite number, and value, axis and reason say which, where and why: "
+        "enlarge the box or remove the source",
+        "a target or looked-up point lies outside the box or is not a finite number, and value, axis and reason say which, "
+        "where and why: enlarge the box or remove the point",
         "a lent slice is short, and the value says which: lend a longer one, or, where the most was lent, raise the limit",
         "a key or level is not valid, or an anchor lies off its level: pass a level of at most 16 and what belongs to it",
         "the root has no parent and no siblings: ask of a key of level 1 or more",
@@ -143,6 +155,13 @@ static inline const char *lohandema_refusal_sentence(uint64_t number)
         "a key to group is not the key of a leaf, and the value is its index: pass keys that the lookup in this tree answered",
         "the survey file breaks its rules: write it anew as docs/RULES.md says"};
     return number < 16 ? sentences[number] : "this version knows no refusal with this number";
+}
+
+/* What the reason of 6 and 7 says of a point; empty for other numbers. Never NULL. */
+static inline const char *lohandema_reason_name(uint16_t reason)
+{
+    static const char *const reasons[4] = {"", "is not a finite number", "lies below the box", "lies above the box"};
+    return reason < 4 ? reasons[reason] : "";
 }
 
 /* Which slice the value of 8 ROOM names; "unknown" for other values. Never NULL. */

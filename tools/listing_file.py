@@ -12,7 +12,7 @@ REFUSALS = os.path.join(os.path.dirname(os.path.realpath(__file__)), "refusals.t
 # no number of a listing has more than 20 digits
 ONE = "([0-9]{1,20})"
 ROW = "((?: [0-9]{1,20})*)"
-REFUSED = re.compile("refused %s %s" % (ONE, ONE))
+REFUSED = re.compile("refused %s %s(?: %s %s)?" % (ONE, ONE, ONE, ONE))
 TREE = re.compile("tree" + (" " + ONE) * 5)
 NODE = re.compile(" ".join([ONE] * 3) + " U" + ROW + " V" + ROW)
 
@@ -123,12 +123,13 @@ def read_first(path, text, survey, survey_name):
     return figures
 
 
-def meaning(number, value):
+def meaning(number, value, axis, reason):
     """What a refusal says, and its cure: the first line of refusals.txt that fits, as ./listing tells it."""
+    told = "r" + reason if reason else value
     for _, line in house.read_lines(REFUSALS):
         fields = line.split(" ", 2)
-        if fields[0] == number and fields[1] in (value, "*"):
-            return fields[2].replace("%V", value)
+        if fields[0] == number and fields[1] in (told, "*"):
+            return fields[2].replace("%V", value).replace("%A", axis or "")
     return "docs/REFUSALS.md says why"
 
 

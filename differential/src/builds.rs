@@ -1,7 +1,6 @@
 //! The build: columns, order and depth against the Rust's, the totals against the sums over its leaves; refusals and end
 //! contents against document 01.
 use crate::inputs;
-use crate::keys::refused;
 use crate::oracle::{self, Survey};
 use crate::points::in_domain;
 use crate::random::Random;
@@ -64,9 +63,11 @@ pub fn build(t: &mut Tally, r: &mut Random, _case: u64) {
     compare(t, &s, refine);
 }
 
-/// Where the first row that is outside stands.
-fn first_outside(b: &Bounds, points: &[f64]) -> Option<usize> {
-    points.chunks(b.axes).position(|p| !oracle::inside(b, p))
+/// Refused with this number where a row is outside: the first such, and its wall.
+fn all_inside(number: u64, b: &Bounds, points: &[f64]) -> Result<(), Refusal> {
+    let mut rows = points.chunks(b.axes).enumerate();
+    let outside = rows.find(|(_, p)| !oracle::inside(b, p));
+    outside.map_or(Ok(()), |(row, p)| oracle::refused_at(number, row, b, p))
 }
 
 /// The checks 1 to 7 of document 01, in order.
@@ -79,8 +80,8 @@ fn checked(s: &Survey, used: &[f64]) -> Result<(), Refusal> {
     asked(s.sources.len() / b.axes <= 1_048_576, (4, 0))?;
     asked(used.len() / b.axes <= 1_048_576, (4, 0))?;
     asked(used.is_empty() || (1..=64).contains(&s.order), (5, 0))?;
-    first_outside(b, &s.sources).map_or(Ok(()), |row| refused(6, row))?;
-    first_outside(b, used).map_or(Ok(()), |row| refused(7, row))
+    all_inside(6, b, &s.sources)?;
+    all_inside(7, b, used)
 }
 
 /// A survey in which something is changed, so that a build may refuse it.

@@ -1,12 +1,13 @@
 //! Calls of the C face that the Rust crate does not let through: a centre and a point that have something past the axes,
 //! all places of a list, and where a cell's run starts. Each array held something before the call.
-use crate::keys::refused;
 use lohandema::points::Bounds;
-use lohandema::{Columns, Refusal, Tree};
+use lohandema::{Columns, Reason, Refusal, Tree};
 
 #[repr(C)]
 struct Ended {
-    number: u64,
+    number: u32,
+    axis: u16,
+    reason: u16,
     value: usize,
 }
 
@@ -63,9 +64,15 @@ unsafe extern "C" {
 
 /// The answer. A refusal that has not written 0 is taken as one too, and differs from what is right.
 fn answer<T: PartialEq + Default>(ended: Ended, written: T) -> Result<T, Refusal> {
-    match ended {
-        Ended { number, value } if number != 0 && written == T::default() => refused(number, value),
-        _ => Ok(written),
+    if ended.number == 0 || written != T::default() {
+        return Ok(written);
+    }
+    let refusal = Refusal::new(u64::from(ended.number), ended.value);
+    match Reason::numbered(ended.reason) {
+        Some(reason) => Err(refusal.behind(usize::from(ended.axis), reason)),
+        // an axis without a reason is told by no call
+        None if ended.axis == 0 => Err(refusal),
+        None => Ok(written),
     }
 }
 

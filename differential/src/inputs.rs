@@ -4,7 +4,7 @@ use crate::random::Random;
 use lohandema::points::Bounds;
 
 /// The next float away from or towards zero by so many steps of its bits.
-fn beside(x: f64, steps: i64) -> f64 {
+pub fn beside(x: f64, steps: i64) -> f64 {
     if x == 0.0 {
         return if steps < 0 {
             -f64::from_bits((-steps) as u64)

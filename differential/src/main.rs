@@ -15,6 +15,7 @@ mod runs;
 mod tally;
 mod totals;
 mod trees;
+mod walls;
 
 use apart::Slate;
 use std::env;
@@ -60,6 +61,7 @@ const KINDS: &[Kind] = &[
     ("extents", 500_000, points::extents),
     ("boxes", 200_000, points::boxes),
     ("anchors", 200_000, points::anchors),
+    ("walls", 5_000, walls::walls),
     ("cells", 300_000, points::cells),
     ("reference-depth", 1, points::depths),
     ("build", 3_000, builds::build),

@@ -5,6 +5,7 @@ use ferreus_bbfmm::bbfmm::{Dimensions, TreeLists};
 use ferreus_bbfmm::{linear_tree, morton};
 use lohandema::points::Bounds;
 use lohandema::trees::Tree;
+use lohandema::{Reason, Refusal, Wall};
 use std::collections::HashMap;
 use std::iter::successors;
 
@@ -55,6 +56,27 @@ pub fn inside(b: &Bounds, point: &[f64]) -> bool {
         && floors(b, point, 16)
             .iter()
             .all(|q| *q >= 0.0 && *q <= 65535.0)
+}
+
+/// Request 5's rule, by the Rust's own floors at level 16: axis by axis, whether the coordinate itself is not finite, and then
+/// on which side of the cells its floor lies.
+pub fn wall(b: &Bounds, point: &[f64]) -> Option<Wall> {
+    let floors = floors(b, point, 16);
+    (0..b.axes).find_map(|axis| {
+        let reason = match floors[axis] {
+            _ if !point[axis].is_finite() => Reason::NotFinite,
+            floor if floor < 0.0 => Reason::Below,
+            floor if floor > 65535.0 => Reason::Above,
+            _ => return None,
+        };
+        Some(Wall { axis, reason })
+    })
+}
+
+/// The refusal with this number of a point that is outside.
+pub fn refused_at<T>(number: u64, row: usize, b: &Bounds, point: &[f64]) -> Result<T, Refusal> {
+    let refusal = Refusal::new(number, row);
+    Err(wall(b, point).map_or(refusal, |w| refusal.behind(w.axis, w.reason)))
 }
 
 /// The Rust's anchors of a point at a level.

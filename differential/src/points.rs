@@ -121,6 +121,21 @@ pub fn boxes(t: &mut Tally, r: &mut Random, _case: u64) {
     }
 }
 
+/// A point that is outside, with its wall, by both faces.
+fn outside(t: &mut Tally, b: &Bounds, whole: &[f64; 3], level: u64, turn: usize) {
+    let (p, odd) = (&whole[..b.axes], face::odd_box(b, turn));
+    let input = || format!("{odd:?} point {whole:?} level {level}");
+    let anchor = b.point_to_anchor(p, level);
+    t.same("anchor", anchor, oracle::refused_at(7, 0, b, p), input);
+    let key = b.point_to_key(p, level);
+    t.same("key", key, oracle::refused_at(7, 0, b, p), input);
+    let anchor = face::point_to_anchor(&odd, whole, level);
+    let right = oracle::refused_at(7, 0, b, p);
+    t.same("anchor, C face", anchor, right, input);
+    let key = face::point_to_key(&odd, whole, level);
+    t.same("key, C face", key, oracle::refused_at(7, 0, b, p), input);
+}
+
 /// A point's anchors and key at every level; by the C face too, where centre and point have something past the axes.
 pub fn anchors(t: &mut Tally, r: &mut Random, _case: u64) {
     let axes = 1 + r.index(3);
@@ -132,15 +147,9 @@ pub fn anchors(t: &mut Tally, r: &mut Random, _case: u64) {
         if !oracle::inside(&b, p) {
             t.refusal();
             let level = r.below(17);
-            let (anchor, key) = (b.point_to_anchor(p, level), b.point_to_key(p, level));
-            t.same("anchor", anchor, refused(7, 0), input);
-            t.same("key", key, refused(7, 0), input);
             let deep = b.point_to_key(p, 17);
             t.same("key, bad level", deep, refused(9, 0), input);
-            let anchor = face::point_to_anchor(&odd, &whole, level);
-            t.same("anchor, C face", anchor, refused(7, 0), input);
-            let key = face::point_to_key(&odd, &whole, level);
-            t.same("key, C face", key, refused(7, 0), input);
+            outside(t, &b, &whole, level, turn);
             continue;
         }
         for level in 0..=16 {

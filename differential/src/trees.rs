@@ -47,7 +47,7 @@ pub fn looked_up(
     let (mut keys, mut steps) = (vec![], 0);
     for (row, point) in points.chunks(s.bounds.axes).enumerate() {
         if !oracle::inside(&s.bounds, point) {
-            return refused(7, row);
+            return oracle::refused_at(7, row, &s.bounds, point);
         }
         let Some(key) = leaf_of(s, leaves, depth, point) else {
             return refused(12, row);

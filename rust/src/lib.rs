@@ -35,7 +35,7 @@
 //! # What is refused
 //!
 //! Every call takes every argument value, and none panics. What cannot be answered is a [`Refusal`] with a number and a
-//! value; its text is a sentence with the cure. Nothing is padded or cut: a point has one coordinate for each axis of the
+//! value, and for a point that is outside a [`Wall`]; its text is a sentence with the cure. Nothing is padded or cut: a point has one coordinate for each axis of the
 //! box, or is refused ([`Refusal::SHAPE`]). Of several causes the first in this order is named: axes, box, shape, count,
 //! tree, order, source, point, room. `docs/REFUSALS.md` of the repository lists the numbers, `docs/RULES.md` the rules.
 //!
@@ -77,5 +77,5 @@ pub mod trees;
 
 pub use lent::{Asked, Columns};
 pub use points::Bounds;
-pub use refusal::Refusal;
+pub use refusal::{Reason, Refusal, Wall};
 pub use trees::{Groups, Leaf, Lists, Rows, Tree};

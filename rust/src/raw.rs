@@ -1,10 +1,12 @@
 //! The C face as it is declared in `include/lohandema.h`. The rest of the crate covers it.
 
-/// How a call ended: 0 and 0, or the number and value of a refusal.
+/// How a call ended: 0 throughout, or the number and values of a refusal.
 #[repr(C)]
 #[derive(Clone, Copy, Debug, PartialEq, Eq)]
 pub struct Ended {
-    pub number: u64,
+    pub number: u32,
+    pub axis: u16,
+    pub reason: u16,
     pub value: usize,
 }
 

@@ -2,16 +2,56 @@ use crate::raw::Ended;
 use std::error::Error;
 use std::fmt;
 
-/// Why a call was refused: a number, and for some numbers a value. Its text is a sentence with the cure.
+/// Why a coordinate is at no cell of the box, in the order in which it is asked.
+#[derive(Clone, Copy, Debug, PartialEq, Eq, Hash)]
+pub enum Reason {
+    /// The coordinate itself is a NaN or an infinity.
+    NotFinite = 1,
+    /// It is finite, and below the box.
+    Below = 2,
+    /// It is finite, and above the box.
+    Above = 3,
+}
+
+impl Reason {
+    /// The reason with this number, if it is one of 1, 2 and 3.
+    #[must_use]
+    pub const fn numbered(number: u16) -> Option<Reason> {
+        match number {
+            1 => Some(Reason::NotFinite),
+            2 => Some(Reason::Below),
+            3 => Some(Reason::Above),
+            _ => None,
+        }
+    }
+
+    /// Its number, as the C face and the listing tell it.
+    #[must_use]
+    pub const fn number(self) -> u16 {
+        self as u16
+    }
+}
+
+/// Which wall of the box a point is behind: the first axis on which it is at no cell, and why.
+#[derive(Clone, Copy, Debug, PartialEq, Eq, Hash)]
+pub struct Wall {
+    /// The axis, from 0.
+    pub axis: usize,
+    /// Why the point is outside there.
+    pub reason: Reason,
+}
+
+/// Why a call was refused: a number, for some numbers a value, and for 6 and 7 a wall. Its text is a sentence with the cure.
 ///
 /// ```
-/// use lohandema::{Bounds, Refusal, Tree, Asked};
+/// use lohandema::{Asked, Bounds, Reason, Refusal, Tree, Wall};
 /// let bounds = Bounds::new(&[4.0], 4.0);
 /// let refusal = Tree::build(Asked::new(&bounds, &[0.5, 9.0], 1)).unwrap_err();
 /// assert_eq!((refusal.number, refusal.value), (Refusal::SOURCE, 1));
+/// assert_eq!(refusal.wall, Some(Wall { axis: 0, reason: Reason::Above }));
 /// assert_eq!(
 ///     refusal.to_string(),
-///     "source 1 lies outside the box or is not a number: enlarge the box or remove the source (refused 6 SOURCE)"
+///     "source 1 lies above the box on axis 0: enlarge the box or remove the source (refused 6 SOURCE)"
 /// );
 /// ```
 #[derive(Clone, Copy, Debug, PartialEq, Eq, Hash)]
@@ -21,6 +61,8 @@ pub struct Refusal {
     pub number: u64,
     /// The index of the lowest point or key that fails, or which slice is short; for other numbers 0.
     pub value: usize,
+    /// The wall of that point, for [`SOURCE`](Refusal::SOURCE) and [`POINT`](Refusal::POINT) alone.
+    pub wall: Option<Wall>,
 }
 
 const NAMES: [&str; 16] = [
@@ -39,10 +81,10 @@ impl Refusal {
     pub const COUNT: u64 = 4;
     /// The order is not 1 to 64, and targets are used.
     pub const ORDER: u64 = 5;
-    /// A source is outside the box or not a number; the value is the lowest index of such.
+    /// A source is outside the box or not finite; the value is the lowest index of such, and the wall says where and why.
     pub const SOURCE: u64 = 6;
-    /// A target or a looked-up point is outside the box or not a number; the value is the lowest index of such, 0 for a
-    /// single point.
+    /// A target or a looked-up point is outside the box or not finite; the value is the lowest index of such, 0 for a
+    /// single point, and the wall says where and why.
     pub const POINT: u64 = 7;
     /// A lent slice is short. The value says which: 1 work, 2 order, 3 a node column, 4 U starts, 5 V starts, 6 U keys,
     /// 7 V keys, 8 the output of a lookup or the starts or indices of a grouping, 9 sourced cells.
@@ -62,10 +104,22 @@ impl Refusal {
     /// A survey file breaks its rules. No call of this crate reads one.
     pub const FILE: u64 = 15;
 
-    /// The refusal with this number and value.
+    /// The refusal with this number and value, and no wall.
     #[must_use]
     pub const fn new(number: u64, value: usize) -> Refusal {
-        Refusal { number, value }
+        let wall = None;
+        Refusal {
+            number,
+            value,
+            wall,
+        }
+    }
+
+    /// The same with a wall.
+    #[must_use]
+    pub const fn behind(self, axis: usize, reason: Reason) -> Refusal {
+        let wall = Some(Wall { axis, reason });
+        Refusal { wall, ..self }
     }
 
     /// The name of the number, as the constants have it; empty for a number that has none.
@@ -138,18 +192,58 @@ impl Refusal {
     }
 }
 
+impl fmt::Display for Wall {
+    fn fmt(&self, f: &mut fmt::Formatter<'_>) -> fmt::Result {
+        let axis = self.axis;
+        match self.reason {
+            Reason::NotFinite => write!(f, "is not a finite number on axis {axis}"),
+            Reason::Below => write!(f, "lies below the box on axis {axis}"),
+            Reason::Above => write!(f, "lies above the box on axis {axis}"),
+        }
+    }
+}
+
+impl Refusal {
+    /// A point that is outside, with its cure: the first where it is not finite.
+    fn write_outside(
+        &self,
+        f: &mut fmt::Formatter<'_>,
+        point: &str,
+        cures: [&str; 2],
+    ) -> fmt::Result {
+        let value = self.value;
+        match self.wall {
+            Some(wall) => {
+                let finite = wall.reason != Reason::NotFinite;
+                write!(f, "{point} {value} {wall}: {}", cures[usize::from(finite)])
+            }
+            None => write!(
+                f,
+                "{point} {value} lies outside the box or is not a finite number: {}",
+                cures[1]
+            ),
+        }
+    }
+}
+
 impl fmt::Display for Refusal {
     fn fmt(&self, f: &mut fmt::Formatter<'_>) -> fmt::Result {
         let value = self.value;
         match self.number {
-            Refusal::SOURCE => write!(
-                f,
-                "source {value} lies outside the box or is not a number: enlarge the box or remove the source"
-            ),
-            Refusal::POINT => write!(
-                f,
-                "target or looked-up point {value} lies outside the box or is not a number: enlarge the box or remove the point"
-            ),
+            Refusal::SOURCE => {
+                let cures = [
+                    "mend or remove the source",
+                    "enlarge the box or remove the source",
+                ];
+                self.write_outside(f, "source", cures)
+            }
+            Refusal::POINT => {
+                let cures = [
+                    "mend or remove the point",
+                    "enlarge the box or remove the point",
+                ];
+                self.write_outside(f, "target or looked-up point", cures)
+            }
             Refusal::UNSTORED => write!(
                 f,
                 "no leaf holds point {value}: build the tree with empty cells kept or remove the point"
@@ -171,8 +265,12 @@ impl Error for Refusal {}
 
 /// The answer of a call that ended so.
 pub(crate) fn answered<T>(ended: Ended, answer: T) -> Result<T, Refusal> {
-    match ended {
-        Ended { number: 0, .. } => Ok(answer),
-        Ended { number, value } => Err(Refusal { number, value }),
+    if ended.number == 0 {
+        return Ok(answer);
+    }
+    let refusal = Refusal::new(u64::from(ended.number), ended.value);
+    match Reason::numbered(ended.reason) {
+        Some(reason) => Err(refusal.behind(usize::from(ended.axis), reason)),
+        None => Err(refusal),
     }
 }

@@ -1,6 +1,6 @@
 //! Every number has a name and a sentence with its cure.
 
-use lohandema::{Asked, Bounds, Refusal, Tree};
+use lohandema::{Asked, Bounds, Reason, Refusal, Tree, Wall};
 
 const NAMED: [(u64, &str); 15] = [
     (Refusal::DIMS, "DIMS"),
@@ -53,8 +53,54 @@ fn an_index_is_told() {
         assert!(sentence(Refusal::new(number, 17)).0.contains(" 17"));
     }
     let text = Refusal::new(Refusal::SOURCE, 17).to_string();
-    let right = "source 17 lies outside the box or is not a number: enlarge the box or remove the source (refused 6 SOURCE)";
+    let right = "source 17 lies outside the box or is not a finite number: enlarge the box or remove the source (refused 6 SOURCE)";
     assert_eq!(text, right);
+}
+
+/// The wall, in words: which axis, and why; a coordinate that is not finite is not cured by a larger box.
+#[test]
+fn a_wall_is_told_in_words() {
+    let source = Refusal::new(Refusal::SOURCE, 17);
+    let right = "source 17 lies below the box on axis 1: enlarge the box or remove the source (refused 6 SOURCE)";
+    assert_eq!(source.behind(1, Reason::Below).to_string(), right);
+    let point = Refusal::new(Refusal::POINT, 0);
+    let right = "target or looked-up point 0 lies above the box on axis 2: enlarge the box or remove the point (refused 7 POINT)";
+    assert_eq!(point.behind(2, Reason::Above).to_string(), right);
+    let right =
+        "source 17 is not a finite number on axis 0: mend or remove the source (refused 6 SOURCE)";
+    assert_eq!(source.behind(0, Reason::NotFinite).to_string(), right);
+}
+
+/// Reasons have the numbers of the C face and the listing.
+#[test]
+fn reasons_have_their_numbers() {
+    for number in 1..=3 {
+        assert_eq!(Reason::numbered(number).unwrap().number(), number);
+    }
+    assert_eq!([0, 4, u16::MAX].map(Reason::numbered), [None; 3]);
+}
+
+/// The calls pass the wall on: the first axis that has one decides, and on it the coordinate before its place.
+#[test]
+fn calls_name_the_wall() {
+    let bounds = Bounds::new(&[4.0, 4.0], 4.0);
+    for (point, axis, reason) in [
+        ([9.0, f64::NAN], 0, Reason::Above),
+        ([4.0, -1.0], 1, Reason::Below),
+        ([f64::INFINITY, 4.0], 0, Reason::NotFinite),
+        ([4.0, f64::NEG_INFINITY], 1, Reason::NotFinite),
+        ([-1.7e308, 9.0], 0, Reason::Below),
+        ([4.0, 1.7e308], 1, Reason::Above),
+    ] {
+        let wall = Some(Wall { axis, reason });
+        assert_eq!(bounds.point_to_key(&point, 16).unwrap_err().wall, wall);
+        assert_eq!(bounds.point_to_anchor(&point, 0).unwrap_err().wall, wall);
+        let sources = [4.0, 4.0, point[0], point[1]];
+        let refusal = Tree::build(Asked::new(&bounds, &sources, 1)).unwrap_err();
+        assert_eq!(refusal.value, 1);
+        assert_eq!(refusal.wall, wall);
+    }
+    assert_eq!(Bounds::new(&[4.0], 0.0).check().unwrap_err().wall, None);
 }
 
 /// A NaN is refused by the numbers of what lies outside, so their sentences fit it; and 7 fits a target of a build.
@@ -68,13 +114,13 @@ fn a_nan_is_told_in_a_sentence_that_fits() {
     for refusal in [source, point] {
         let (cause, _) = sentence(refusal);
         assert!(
-            cause.ends_with("lies outside the box or is not a number"),
+            cause.ends_with("is not a finite number on axis 0"),
             "{cause}"
         );
     }
     let (cause, cure) = sentence(point);
     assert!(cause.starts_with("target or looked-up point 0 "), "{cause}");
-    assert_eq!(cure, "enlarge the box or remove the point");
+    assert_eq!(cure, "mend or remove the point");
 }
 
 /// The cures of a short slice whose length is not known before: a longer one, or a larger limit.

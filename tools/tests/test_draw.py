@@ -200,6 +200,7 @@ class Draw(ToolTest):
         bad = {
             "": "in: empty",
             "refused 6\n": "in: line 1: not 'tree' and five numbers",
+            "refused 6 1 0\n": "in: line 1: not 'tree' and five numbers",
             "tree 1 9 3 4\n": "in: line 1: not 'tree' and five numbers",
             text.replace("tree 1", "tree 2"): "in: line 1: 2 axes, but example.survey has 1",
             text.replace("3 4 8", "3 5 8"): "in: line 1: 5 sources, but example.survey has 4",
@@ -226,7 +227,9 @@ class Draw(ToolTest):
     def test_refused_listing(self):
         """A listing that is a refusal: what the refusal means, from refusals.txt, and not that it be made anew."""
         means = {
-            "6 3": "source 3, counted from 0, is outside the box or is not a number; ",
+            "6 3 0 2": "source 3, counted from 0, lies below the box on axis 0, counted from 0; ",
+            "7 3 2 1": "target 3, counted from 0, is not a finite number on axis 2, counted from 0; ",
+            "6 3": "source 3, counted from 0, is outside the box or is not a finite number; ",
             "8 3": "the tree has more than 2048 nodes, which is all that the program has room for; make the file anew with ",
             "8 77": "the program has too little room for the answer; ",
             "99 0": "docs/REFUSALS.md says why",

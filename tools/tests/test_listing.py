@@ -85,7 +85,9 @@ cp ../program target/bin/listing
     def test_refused(self):
         """The program's line stays, and a sentence follows on standard error."""
         room = " keys, which is all that the program has room for; make the file anew with a larger --limit"
-        starts = {"15 0": "this is no survey file:", "6 7": "source 7, counted from 0, is outside", "7 12": "target 12,",
+        starts = {"15 0": "this is no survey file:", "6 7 1 2": "source 7, counted from 0, lies below the box on axis 1, counted from 0; make",
+                  "6 7 0 1": "source 7, counted from 0, is not a finite number on axis 0, counted from 0; mend",
+                  "7 12 2 3": "target 12, counted from 0, lies above the box on axis 2,",
                   "1 0": "the file says a number of axes", "2 0": "the box is outside",
                   "5 0": "targets are used, and the order is not",
                   "8 3": "the tree has more than 2048 nodes", "8 6": "the U rows have more than 8192" + room,
@@ -101,7 +103,7 @@ cp ../program target/bin/listing
         """Every refusal has a sentence for any value, with its cure behind a semicolon."""
         lines = [line for line in self.read("house/tools/refusals.txt").decode().splitlines() if not line.startswith("#")]
         for line in lines:
-            self.assertRegex(line, r"^[0-9]+ ([0-9]+|\*) [^;]+; [^;]+\.$")
+            self.assertRegex(line, r"^[0-9]+ ([0-9]+|r[123]|\*) [^;]+; [^;]+\.$")
         self.assertEqual([int(line.split()[0]) for line in lines if line.split()[1] == "*"], list(range(1, 16)))
 
     def test_first_run(self):

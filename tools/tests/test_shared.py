@@ -26,13 +26,17 @@ class Shared(unittest.TestCase):
         """The sentences of 6, 7 and 8 have the same cures in C, in Rust and for the listing."""
         cures = {
             "include/lohandema.h": ["enlarge the box or remove the source", "target or looked-up point lies outside the box or "
-                                    "is not a number", "where the most was lent, raise the limit"],
+                                    "is not a finite number", "is not a finite number", "lies below the box",
+                                    "lies above the box", "where the most was lent, raise the limit"],
             "rust/src/refusal.rs": ["enlarge the box or remove the source", "enlarge the box or remove the point",
-                                    "target or looked-up point {value} lies outside the box or is not a number",
+                                    "mend or remove the source", "mend or remove the point",
+                                    "is not a finite number on axis", "lies below the box on axis", "lies above the box on axis",
                                     "where the most was lent, raise the limit"],
-            "tools/refusals.txt": ["6 * source %V, counted from 0, is outside the box or is not a number; take that reading",
-                                   "7 * target %V, counted from 0, is outside the box or is not a number; take that target",
-                                   "or make the file anew with a larger box", "make the file anew with a larger --limit"],
+            "tools/refusals.txt": ["6 * source %V, counted from 0, is outside the box or is not a finite number; take",
+                                   "7 * target %V, counted from 0, is outside the box or is not a finite number; take",
+                                   "is not a finite number on axis %A", "lies below the box on axis %A",
+                                   "lies above the box on axis %A",
+                                   "make the file anew with a larger box", "make the file anew with a larger --limit"],
         }
         for name, parts in cures.items():
             with open(os.path.join(ROOT, name), encoding="utf-8") as file:

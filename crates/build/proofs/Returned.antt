@@ -38,7 +38,7 @@ use Rattle.growth.proofs.CellPlaces.{place-holds, source-placed}
 use Rattle.growth.proofs.Found.{source-found}
 use Rattle.growth.proofs.Runs.{leaf-part}
 use Rattle.growth.proofs.Meets.{meets-once, meets-near}
-use Rattle.space.specs.Rows.{rowsOf, rowsInside}
+use Rattle.space.specs.Rows.{rowsOf, rowsInside, wallOf}
 use Rattle.laying.specs.Points.{codesOf}
 use Rattle.laying.specs.Outcomes.{askedOutcome, insideOutcome, workOutcome}
 use Rattle.laying.proofs.Prepared.{Passed, passed}
@@ -106,7 +106,7 @@ module _ (a : Asked) (work order nodes : ℕ) (done : buildOutcome a work order 
   built-inside x h =
       let second = both-done (askedOutcome (a .box) (a .sources) (a .targets) (a .order) then insideOutcome (a .box) (a .sources) (a .targets)) _ points-done in
       let inner = both-done (askedOutcome (a .box) (a .sources) (a .targets) (a .order)) (insideOutcome (a .box) (a .sources) (a .targets)) (second .0) .1 in
-      let first = both-done (ask (eqb (rowsInside (a .box) (a .sources)) (count a)) (Source (rowsInside (a .box) (a .sources)))) _ inner .0 in
+      let first = both-done (ask (eqb (rowsInside (a .box) (a .sources)) (count a)) (Source (wallOf (a .box) (a .sources)))) _ inner .0 in
       let all : rowsInside (a .box) (a .sources) ≡ count a = eqb-true (rowsInside (a .box) (a .sources)) (count a) (asked _ _ first) in
       row-inside (count a) x (frameOf (a .box)) (a .sources) (omega (arith, all))
 

@@ -10,19 +10,32 @@ ghost use Rattle.anchors.specs.Answers.{decodeAnswer, encodeAnswer, touchingAns
 ghost use Rattle.neighbours.specs.Answer.{neighboursAnswer};
 ghost use Rattle.exports_keys.specs.Told.{told, numberEnd, numberIn, touchEnd, touchIn};
 
-// How a call ended: the number and value of its refusal, 0 and 0 where there is none.
+// How a call ended: the number and values of its refusal, 0 throughout where there is none. The axis and the reason are those of
+// 6 and 7, and 0 with every other number.
 #[repr(C)]
 pub struct Ended {
-    pub number: u64,
+    pub number: u32,
+    pub axis: u16,
+    pub reason: u16,
     pub value: usize,
 }
 
 pub fn end_of(outcome: Outcome) -> Ended
     ensures { λ r. ⌜ r ≡ told outcome ⌝ }
 {
-    Ended {
-        number: refusal::outcome_number(outcome),
-        value: refusal::outcome_value(outcome),
+    match outcome {
+        Outcome::Done => Ended {
+            number: 0,
+            axis: 0,
+            reason: 0,
+            value: 0,
+        },
+        Outcome::Refused(refusal) => Ended {
+            number: refusal::number(refusal) as u32,
+            axis: refusal::axis(refusal),
+            reason: refusal::reason(refusal),
+            value: refusal::value(refusal),
+        },
     }
 }
 

@@ -6,7 +6,7 @@ use Prim.Native.Nat.{ℕ, _+_, _/_, _≤_, _<_}
 use native.Mathlib.Numerals.{add-one}
 use native.Mathlib.Omega.{arith}
 use lib.Dec.{eqb}
-use lib.Ieee.{Float, nan, inf, binary64, ofBits, round, add, sub, div, lt, ne}
+use lib.Ieee.{Float, nan, inf, binary64, ofBits, round, add, sub, div, lt}
 use lib.ListN.{length, getD, drop}
 use lib.Seq.{drop-cons, drop-length}
 use borrow.Author.Tests.{lt-ltb, le-ltb, eq-eqb, ne-eqb}
@@ -18,7 +18,7 @@ use Rattle.space.specs.declared.Box.{Box}
 use Rattle.refusal.specs.Chain.{ask, _then_}
 use Rattle.space.specs.Domain.{boxOutcome}
 use Rattle.space.proofs.Literals.{zero-is}
-use Rattle.extents.specs.Floors.{isFinite}
+use Rattle.space.specs.Floats.{isFinite}
 use Rattle.extents.specs.Extents.{lengthKnown, allFinite, two, margin, low, high, middle, halfWidth, larger, largest, boxFrom, extentsOutcome, noBox, boxOr, treeBox}
 
 -- ---- literals
@@ -36,9 +36,6 @@ unfolding ofBits
 least-is = refl
 
 -- ---- finite numbers
-pub nan-not-finite : (x : Float) → ne x x ≡ true → false ≡ isFinite x
-nan-not-finite x h = sym (ap isFinite (lib.Ieee.Compare.differs-from-itself x (subst lib.Dec.T (sym h) tt)))
-
 module _ (xs : List Float) where
   rest : (i : ℕ) → i < length xs → allFinite (drop i xs) ≡ (isFinite (getD xs i nan) && allFinite (drop (i + 1) xs))
   unfolding allFinite

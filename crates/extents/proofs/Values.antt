@@ -15,7 +15,7 @@ use lib.Ieee.Back.{whole-unique}
 use lib.Ieee.Nearest.{div-same}
 use borrow.Author.Tests.{le-leb, lt-leb}
 use Rattle.space.proofs.Patterns.{ofBits-is, not-top, with-lead}
-use Rattle.extents.specs.Floors.{isFinite, quotientDown, quotientUp, floorOf, unitsIn, unitsOf, wholeUnder, wholeOver}
+use Rattle.extents.specs.Floors.{quotientDown, quotientUp, floorOf, unitsIn, unitsOf, wholeUnder, wholeOver}
 use Rattle.extents.proofs.Wholes.{under-whole, over-whole, over-same}
 
 -- ---- the sign of a rounded number
@@ -68,20 +68,6 @@ top-floor false b s v h = absurd (true≢false (sym h))
 top-fields : (s : Bool) (t : ℕ) → ofFields binary64 s 2047 t ≡ floorOf (ofFields binary64 s 2047 t)
 unfolding ofFields
 top-fields s t = top-floor true (eqb t 0) s (odd 53 s (2 ^ 52 + t) 2046 1074) refl
-
-top-finite : (a b s : Bool) (v : Float) → a ≡ true → isFinite (cond a (cond b (inf s) nan) v) ≡ false
-top-finite true true s v h = refl
-top-finite true false s v h = refl
-top-finite false b s v h = absurd (true≢false (sym h))
-
-top-not-finite : (s : Bool) (t : ℕ) → isFinite (ofFields binary64 s 2047 t) ≡ false
-unfolding ofFields
-top-not-finite s t = top-finite true (eqb t 0) s (odd 53 s (2 ^ 52 + t) 2046 1074) refl
-
-value-finite : (x : Float) (s : Bool) (g c : ℕ) → HasValue x s g c → isFinite x ≡ true
-value-finite nan s g c h = absurd h
-value-finite (inf t) s g c h = absurd h
-value-finite (fin t m e) s g c h = refl
 
 -- ---- from 2 ^ 52 on every number is whole
 whole-value : (x : Float) (s : Bool) (g c k : ℕ) → 0 < c → g ≡ k * c → HasValue x s g c → HasValue x s k 1
@@ -169,18 +155,6 @@ module _ (x : Float) (F : T (fits binary64 x)) where
       neg-round binary64 false k 1
       ∙ ap (λ n. round binary64 true n 1) e
       ∙ sym (floor-value x true (unitsOf size) (2 ^ 1074) (pow-pos 1074) (subst (λ b. HasValue x b (unitsOf size) (2 ^ 1074)) s (value-is (small-field (size / 2 ^ 52) h))))
-
-  -- whether it is finite
-  pub finite-under : size / 2 ^ 52 < 2047 → isFinite x ≡ true
-  finite-under h = value-finite x sign (unitsOf size) (2 ^ 1074) (value-is h)
-
-  pub finite-top : 2047 ≤ size / 2 ^ 52 → isFinite x ≡ false
-  finite-top h =
-      let e : size / 2 ^ 52 ≡ 2047 = only (size / 2 ^ 52) h (field-under bits) in
-      ap isFinite (fields-are ∙ ap (λ k. ofFields binary64 sign k (size % 2 ^ 52)) e) ∙ top-not-finite sign (size % 2 ^ 52)
-    where
-      only : (e : ℕ) → 2047 ≤ e → e ≤ 2047 → e ≡ 2047
-      only e g h = omega arith
 
 pub floor-nan : (x : Float) → ne x x ≡ true → x ≡ floorOf x
 unfolding floorOf

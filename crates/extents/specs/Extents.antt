@@ -12,11 +12,11 @@ use Rattle.refusal.specs.declared.Outcome.{Outcome}
 use Rattle.refusal.specs.declared.Outcome.the-variants.{Done, Refused}
 use Rattle.space.specs.declared.Box.{Box}
 use Rattle.refusal.specs.Chain.{ask, _then_}
-use Rattle.space.specs.Floats.{nought}
+use Rattle.space.specs.Floats.{isFinite, nought}
 use Rattle.space.specs.Domain.{boxOutcome}
 use Rattle.space.specs.Cells.{onAxis}
 use Rattle.extents.specs.declared.TreeBox.{TreeBox}
-use Rattle.extents.specs.Floors.{isFinite, floorOf, ceilOf}
+use Rattle.extents.specs.Floors.{floorOf, ceilOf}
 
 -- 2, 4 or 6 numbers
 abbrev pub lengthKnown : ℕ → Bool

@@ -3,11 +3,6 @@ use mathlib.Core.Bool.{Bool, true, false}
 use Prim.Native.Nat.{ℕ, zero, suc, _+_, _-_, _*_, _/_, _%_, _^_}
 use lib.Ieee.{Float, nan, inf, fin, binary64, up, down, round, neg}
 
-abbrev pub isFinite : Float → Bool
-isFinite nan = false
-isFinite (inf s) = false
-isFinite (fin s m e) = true
-
 -- n / d rounded down, and rounded up, for a d above 0
 abbrev pub quotientDown : ℕ → ℕ → ℕ
 quotientDown n d = n / d

@@ -5,7 +5,7 @@ use space::Box;
 ghost use mathlib.Core.Path.{_≡_};
 ghost use Prim.Native.Nat.{_+_, _/_, _^_, _≤_, _<_};
 ghost use lib.ListN.{length};
-ghost use Rattle.extents.specs.Floors.{isFinite, floorOf, ceilOf, wholeUnder, wholeOver};
+ghost use Rattle.extents.specs.Floors.{floorOf, ceilOf, wholeUnder, wholeOver};
 ghost use Rattle.extents.specs.Extents.{lengthKnown, allFinite, middle, halfWidth, larger, largest, boxFrom, noBox, treeBox};
 
 // The whole number under a size that is given by its bits, the sign off.
@@ -63,22 +63,12 @@ fn ceil_of(x: f64) -> f64
     -floor_of(-x)
 }
 
-fn is_finite(x: f64) -> bool
-    ensures { λ r. ⌜ r ≡ isFinite x ⌝ }
-{
-    if x != x {
-        return false;
-    }
-    let bits: u64 = f64::to_bits(x);
-    bits % 0x8000_0000_0000_0000 / 0x10_0000_0000_0000 < 2047
-}
-
 fn all_finite(extents: &[f64]) -> bool
     ensures { λ r. ⌜ r ≡ allFinite (now (extents .entry)) ⌝ }
 {
     let mut i = 0;
     while i < extents.len() {
-        if !is_finite(extents[i]) {
+        if !space::is_finite(extents[i]) {
             return false;
         }
         i += 1;

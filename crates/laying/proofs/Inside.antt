@@ -10,10 +10,12 @@ use lib.ListN.{length, set, drop, replicate, length-replicate}
 use borrow.Author.Tests.{eq-eqb, ne-eqb}
 use Rattle.refusal.specs.declared.Refusal.the-variants.{Source, Point}
 use Rattle.refusal.specs.declared.Outcome.the-variants.{Done, Refused}
+use Rattle.refusal.specs.declared.Wall.{Wall}
 use Rattle.space.specs.declared.Box.{Box}
 use Rattle.space.specs.declared.Frame.{Frame}
 use Rattle.space.specs.declared.Rows.the-variants.{Inside, Outside}
 use Rattle.space.specs.Cells.{frameOf, inside, code16}
+use Rattle.space.specs.Walls.{firstWall}
 use Rattle.space.specs.Rows.{codes16, firstOutside, coded, rowsOf, rowsInside}
 use Rattle.space.proofs.Batches.{Written, written-none, row-there, written-more, written-stop, written-all, all-inside, one-outside}
 use Rattle.laying.specs.Points.{codesOf}
@@ -38,26 +40,26 @@ module _ (n : ℕ) (f : Frame) (xs : List Float) where
       as-written = written-more n f xs (replicate n 0) (s .codes) row at (s .as-written) (code16 f (drop at xs)) next l (le-of-eq (sym (length-replicate {A = ℕ} n 0))) i refl e;
     }
 
-    pub tested-stop : inside f (drop at xs) ≡ false → row < n → Outside row ≡ firstOutside n f xs
-    tested-stop i l = written-stop n f xs (replicate n 0) (s .codes) row at (s .as-written) i l .0
+    pub tested-stop : (wall : Wall) → wall ≡ firstWall row f (drop at xs) → inside f (drop at xs) ≡ false → row < n → Outside wall ≡ firstOutside n f xs
+    tested-stop wall e i l = written-stop n f xs (replicate n 0) (s .codes) row at (s .as-written) wall e i l .0
 
     pub tested-all : n ≤ row → Inside ≡ firstOutside n f xs
     tested-all l = written-all n f xs (replicate n 0) (s .codes) row at (s .as-written) l .0
 
 -- ---- the two checks
 module _ (b : Box) (s t : List Float) where
-  pub source-outside : (row : ℕ) → firstOutside (rowsOf b s) (frameOf b) s ≡ Outside row → insideOutcome b s t ≡ Refused (Source row)
+  pub source-outside : (wall : Wall) → firstOutside (rowsOf b s) (frameOf b) s ≡ Outside wall → insideOutcome b s t ≡ Refused (Source wall)
   unfolding insideOutcome
-  source-outside row e =
-      let o = one-outside (rowsOf b s) row (frameOf b) s e in
-      rw (ne-eqb (rowsInside b s) (rowsOf b s) (λ q. omega (arith, o, q)), o .0)
+  source-outside wall e =
+      let o = one-outside (rowsOf b s) wall (frameOf b) s e in
+      rw (ne-eqb (rowsInside b s) (rowsOf b s) (λ q. omega (arith, o .1, q)), o .0)
 
   module _ (all : firstOutside (rowsOf b s) (frameOf b) s ≡ Inside) where
-    pub target-outside : (row : ℕ) → firstOutside (rowsOf b t) (frameOf b) t ≡ Outside row → insideOutcome b s t ≡ Refused (Point row)
+    pub target-outside : (wall : Wall) → firstOutside (rowsOf b t) (frameOf b) t ≡ Outside wall → insideOutcome b s t ≡ Refused (Point wall)
     unfolding insideOutcome
-    target-outside row e =
-        let o = one-outside (rowsOf b t) row (frameOf b) t e in
-        rw (eq-eqb (rowsInside b s) (rowsOf b s) (all-inside (rowsOf b s) (frameOf b) s all), ne-eqb (rowsInside b t) (rowsOf b t) (λ q. omega (arith, o, q)), o .0)
+    target-outside wall e =
+        let o = one-outside (rowsOf b t) wall (frameOf b) t e in
+        rw (eq-eqb (rowsInside b s) (rowsOf b s) (all-inside (rowsOf b s) (frameOf b) s all), ne-eqb (rowsInside b t) (rowsOf b t) (λ q. omega (arith, o .1, q)), o .0)
 
     pub none-outside : firstOutside (rowsOf b t) (frameOf b) t ≡ Inside → insideOutcome b s t ≡ Done
     unfolding insideOutcome

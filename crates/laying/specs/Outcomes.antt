@@ -11,7 +11,7 @@ use Rattle.refusal.specs.declared.Outcome.{Outcome}
 use Rattle.refusal.specs.Chain.{ask, _then_}
 use Rattle.space.specs.declared.Box.{Box}
 use Rattle.space.specs.Domain.{boxOutcome}
-use Rattle.space.specs.Rows.{mostPoints, rowsOf, rowsInside}
+use Rattle.space.specs.Rows.{mostPoints, rowsOf, rowsInside, wallOf}
 
 -- from 1 to 64, where targets are used
 abbrev pub orderFits : ℕ → List Float → Bool
@@ -27,11 +27,11 @@ askedOutcome b sources targets order =
     then ask (leb (rowsOf b targets) mostPoints) Count
     then ask (orderFits order targets) Order
 
--- 6 SOURCE, 7 POINT: the lowest row that is outside
+-- 6 SOURCE, 7 POINT: the wall of the lowest row that is outside
 unfoldable pub insideOutcome : Box → List Float → List Float → Outcome
 insideOutcome b sources targets =
-    ask (eqb (rowsInside b sources) (rowsOf b sources)) (Source (rowsInside b sources))
-    then ask (eqb (rowsInside b targets) (rowsOf b targets)) (Point (rowsInside b targets))
+    ask (eqb (rowsInside b sources) (rowsOf b sources)) (Source (wallOf b sources))
+    then ask (eqb (rowsInside b targets) (rowsOf b targets)) (Point (wallOf b targets))
 
 -- 8 ROOM: 1 the work, two u64 a source and one a used target
 abbrev pub workNeed : Box → List Float → List Float → ℕ

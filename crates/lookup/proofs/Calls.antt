@@ -1,16 +1,17 @@
 -- The calls on a batch of points, check by check.
 use mathlib.Core.Path.{_≡_, refl, sym, ap, ap₂, _∙_}
-use mathlib.Core.Bool.{Bool, true, false, _&&_}
+use mathlib.Core.Bool.{Bool, true, false, _&&_, not}
 use mathlib.Core.List.{List, _++_}
-use Prim.Native.Nat.{ℕ, _-_, _/_, _%_, _≤_, _<_}
+use Prim.Native.Nat.{ℕ, _-_, _*_, _/_, _%_, _≤_, _<_}
 use native.Mathlib.Omega.{arith}
 use lib.Dec.{leb, ltb, eqb}
 use lib.Ieee.{Float}
 use lib.ListN.{length, take, drop, replicate, length-append, length-drop, length-map}
 use lib.Seq.{take-at, drop-at}
-use borrow.Author.Tests.{eq-eqb, ne-eqb, eqb-true, le-leb, lt-leb, leb-true, ltb-false}
+use borrow.Author.Tests.{eq-eqb, ne-eqb, eqb-true, le-leb, lt-leb, leb-true, ltb-false, ltb-true}
 use Rattle.refusal.specs.declared.Refusal.{Refusal}
 use Rattle.refusal.specs.declared.Refusal.the-variants.{Shape, Count, Room, Tree, Point, Unstored}
+use Rattle.refusal.specs.declared.Wall.{Wall}
 use Rattle.refusal.specs.declared.Outcome.{Outcome}
 use Rattle.refusal.specs.declared.Outcome.the-variants.{Done, Refused}
 use Rattle.refusal.specs.Chain.{ask, _then_}
@@ -22,7 +23,8 @@ use Rattle.space.specs.declared.Rows.{Rows}
 use Rattle.space.specs.declared.Rows.the-variants.{Outside}
 use Rattle.space.specs.Domain.{boxOutcome}
 use Rattle.space.specs.Cells.{frameOf}
-use Rattle.space.specs.Rows.{insideRows, orInside, firstOutside, coded, rowsOf, rowsInside, mostPoints}
+use Rattle.space.specs.Rows.{insideRows, orInside, rowWall, firstOutside, coded, rowsOf, rowsInside, wallOf, mostPoints}
+use Rattle.space.proofs.Walls.{wall-index}
 use Rattle.space.proofs.Batches.{codes-length, rows-le}
 use Rattle.space.proofs.Refusals.{Fine, fine}
 use Rattle.morton.specs.Keys.{axesKnown}
@@ -37,30 +39,28 @@ use Rattle.lookup.specs.declared.LookedUp.{LookedUp}
 use Rattle.lookup.specs.declared.LookedUp.the-variants.{Found, Refused as NotFound}
 use Rattle.tree.specs.Leaves.{leafKey}
 use Rattle.lookup.specs.Batch.{heldBefore, leafKeys, stepsSum, codesInside, callOutcome, pointsOutcome, lookupOutcome, foundOr}
-use Rattle.lookup.specs.Work.{allOr, holdersOf, insideOf, answerOf, shapeOutcome, batchOutcome, restCleared}
+use Rattle.lookup.specs.Work.{allOr, holdersOf, insideOf, foundIn, answerOf, shapeOutcome, batchOutcome, restCleared}
 
 -- ---- the answer of a batch
-picked : (t : Bool) (s h i n : ℕ) → answerOf (allOr t s h) i n ≡ foundOr (ask t (Unstored h) then ask (eqb i n) (Point i)) s
-picked true s h i n = refl
-picked false s h i n = refl
+picked : (t u : Bool) (s h : ℕ) (w : Wall) → answerOf (allOr t s h) (orInside u (Outside w)) ≡ foundOr (ask t (Unstored h) then ask (not u) (Point w)) s
+picked true true s h w = refl
+picked true false s h w = refl
+picked false true s h w = refl
+picked false false s h w = refl
 
-module _ (holders : Holders) (first all : ℕ) where
-  pub answer-missing : (row : ℕ) → holders ≡ Missing row → NotFound (Unstored row) ≡ answerOf holders first all
-  answer-missing row e = sym (ap (λ (t : Holders). answerOf t first all) e)
+module _ (holders : Holders) (rows : Rows) where
+  pub answer-missing : (row : ℕ) → holders ≡ Missing row → NotFound (Unstored row) ≡ answerOf holders rows
+  answer-missing row e = sym (ap (λ (t : Holders). answerOf t rows) e)
 
-  module _ (steps : ℕ) (e : holders ≡ All steps) where
-    pub answer-outside : (first ≡ all → ⊥) → NotFound (Point first) ≡ answerOf holders first all
-    answer-outside n = sym (ap (λ (t : Holders). answerOf t first all) e ∙ ap (λ (t : Bool). foundOr (ask t (Point first)) steps) (ne-eqb first all n))
-
-    pub answer-found : first ≡ all → Found steps ≡ answerOf holders first all
-    answer-found q = sym (ap (λ (t : Holders). answerOf t first all) e ∙ ap (λ (t : Bool). foundOr (ask t (Point first)) steps) (eq-eqb first all q))
+  pub answer-all : (steps : ℕ) → holders ≡ All steps → (r : LookedUp) → r ≡ foundIn rows steps → r ≡ answerOf holders rows
+  answer-all steps e r q = q ∙ sym (ap (λ (t : Holders). answerOf t rows) e)
 
 -- ---- the points of a call
 first-inside : (n : ℕ) (f : Frame) (xs : List Float) → insideOf (firstOutside n f xs) n ≡ insideRows n f xs
 first-inside n f xs = go (ltb (insideRows n f xs) n) refl
   where
-    go : (t : Bool) → ltb (insideRows n f xs) n ≡ t → insideOf (orInside t (Outside (insideRows n f xs))) n ≡ insideRows n f xs
-    go true e = refl
+    go : (t : Bool) → ltb (insideRows n f xs) n ≡ t → insideOf (orInside t (Outside (rowWall f xs (insideRows n f xs)))) n ≡ insideRows n f xs
+    go true e = wall-index (insideRows n f xs) f (drop (insideRows n f xs * f .axes) xs)
     go false e = omega (arith, ltb-false (insideRows n f xs) n e, rows-le n f xs)
 
 module _ (b : Box) (keys : List ℕ) (xs : List Float) (old out : List ℕ) (rows : Rows) (first : ℕ)
@@ -83,16 +83,24 @@ module _ (b : Box) (keys : List ℕ) (xs : List Float) (old out : List ℕ) (row
   pub codes-room : rowsOf b xs ≤ length old → length out ≡ length old
   codes-room h = ap length w ∙ length-append (codesInside b xs) (drop (rowsInside b xs) old) ∙ omega (arith, size, first-is, first-le, length-drop (rowsInside b xs) old)
 
+  -- fewer rows inside than there are, or as many
+  inside-all : not (ltb (rowsInside b xs) (rowsOf b xs)) ≡ eqb (rowsInside b xs) (rowsOf b xs)
+  inside-all = go (ltb (rowsInside b xs) (rowsOf b xs)) refl
+    where
+      go : (t : Bool) → ltb (rowsInside b xs) (rowsOf b xs) ≡ t → not t ≡ eqb (rowsInside b xs) (rowsOf b xs)
+      go true l = sym (ne-eqb (rowsInside b xs) (rowsOf b xs) (λ q. omega (arith, q, ltb-true (rowsInside b xs) (rowsOf b xs) l)))
+      go false l = sym (eq-eqb (rowsInside b xs) (rowsOf b xs) (omega (arith, rows-le (rowsOf b xs) (frameOf b) xs, ltb-false (rowsInside b xs) (rowsOf b xs) l)))
+
   -- the answer
-  pub look-answer : (holders : Holders) → holders ≡ holdersOf (b .axes) keys (take first out) → (result : LookedUp) → result ≡ answerOf holders first (rowsOf b xs)
+  pub look-answer : (holders : Holders) → holders ≡ holdersOf (b .axes) keys (take first out) → (result : LookedUp) → result ≡ answerOf holders rows
       → result ≡ foundOr (pointsOutcome b keys xs) (stepsSum (b .axes) keys (codesInside b xs))
   unfolding pointsOutcome
   look-answer holders c result q =
       q
-      ∙ ap (λ (t : Holders). answerOf t first (rowsOf b xs)) (c ∙ ap (holdersOf (b .axes) keys) codes-are)
-      ∙ picked (eqb (heldBefore (b .axes) keys (codesInside b xs)) (length (codesInside b xs))) (stepsSum (b .axes) keys (codesInside b xs)) (heldBefore (b .axes) keys (codesInside b xs)) first (rowsOf b xs)
-      ∙ ap₂ (λ (l i : ℕ). foundOr (ask (eqb (heldBefore (b .axes) keys (codesInside b xs)) l) (Unstored (heldBefore (b .axes) keys (codesInside b xs))) then ask (eqb i (rowsOf b xs)) (Point i)) (stepsSum (b .axes) keys (codesInside b xs)))
-      (size ∙ first-is) first-is
+      ∙ ap₂ (λ (t : Holders) (o : Rows). answerOf t o) (c ∙ ap (holdersOf (b .axes) keys) codes-are) r
+      ∙ picked (eqb (heldBefore (b .axes) keys (codesInside b xs)) (length (codesInside b xs))) (ltb (rowsInside b xs) (rowsOf b xs)) (stepsSum (b .axes) keys (codesInside b xs)) (heldBefore (b .axes) keys (codesInside b xs)) (wallOf b xs)
+      ∙ ap₂ (λ (l : ℕ) (u : Bool). foundOr (ask (eqb (heldBefore (b .axes) keys (codesInside b xs)) l) (Unstored (heldBefore (b .axes) keys (codesInside b xs))) then ask u (Point (wallOf b xs))) (stepsSum (b .axes) keys (codesInside b xs)))
+      (size ∙ first-is) inside-all
 
   -- the output, where nothing is refused
   pub look-keys : (final : List ℕ) → (heldBefore (b .axes) keys (take first out) ≡ first → final ≡ leafKeys (b .axes) keys (take first out) ++ drop first out)
@@ -234,8 +242,8 @@ module _ (b : Box) (keys own begin total : List ℕ) (xs : List Float) (room : �
       unfolding pointsOutcome
       all-inside =
           let f = both-done (callOutcome b (columns keys own begin total) xs room) (pointsOutcome b keys xs) d .1 in
-          let p = both-done (ask (eqb (heldBefore (b .axes) keys (codesInside b xs)) (rowsInside b xs)) (Unstored (heldBefore (b .axes) keys (codesInside b xs)))) (ask (eqb (rowsInside b xs) (rowsOf b xs)) (Point (rowsInside b xs))) f in
-          eqb-true (rowsInside b xs) (rowsOf b xs) (asked (eqb (rowsInside b xs) (rowsOf b xs)) (Point (rowsInside b xs)) (p .1))
+          let p = both-done (ask (eqb (heldBefore (b .axes) keys (codesInside b xs)) (rowsInside b xs)) (Unstored (heldBefore (b .axes) keys (codesInside b xs)))) (ask (eqb (rowsInside b xs) (rowsOf b xs)) (Point (wallOf b xs))) f in
+          eqb-true (rowsInside b xs) (rowsOf b xs) (asked (eqb (rowsInside b xs) (rowsOf b xs)) (Point (wallOf b xs)) (p .1))
 
       size-is : length output ≡ rowsOf b xs
       size-is = length-map (codesInside b xs) (leafKey (b .axes) keys) ∙ codes-length (rowsInside b xs) (frameOf b) xs ∙ all-inside

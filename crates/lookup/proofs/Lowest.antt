@@ -14,11 +14,13 @@ use Rattle.refusal.specs.declared.Refusal.the-variants.{Point, Unstored}
 use Rattle.refusal.specs.declared.Outcome.the-variants.{Done, Refused}
 use Rattle.refusal.specs.Chain.{ask, _then_}
 use Rattle.space.specs.declared.Box.{Box}
+use Rattle.refusal.specs.declared.Wall.{Wall}
 use Rattle.space.specs.Cells.{frameOf, inside, code16}
+use Rattle.space.proofs.Walls.{wall-index}
 use Rattle.space.proofs.Batches.{codes-length, rows-le, code-at-row, row-inside, row-outside}
 use Rattle.tree.specs.Leaves.{held}
 use Rattle.grouping.proofs.Passing.{passing-le, passing-before, passing-stop}
-use Rattle.space.specs.Rows.{rowsOf, rowsInside}
+use Rattle.space.specs.Rows.{rowsOf, rowsInside, wallOf}
 use Rattle.lookup.specs.Batch.{heldBefore, codesInside, pointsOutcome}
 
 lt-of : (m n : ℕ) → m ≤ n → (m ≡ n → ⊥) → m < n
@@ -63,9 +65,9 @@ module _ (b : Box) (keys : List ℕ) (xs : List Float) where
   first-unheld : first < rowsInside b xs → (isInside first ≡ true) × (isHeld first ≡ false)
   first-unheld l = (row-inside (rowsOf b xs) first (frameOf b) xs l, ap (held (b .axes) keys) (sym (code-of first l)) ∙ passing-stop (held (b .axes) keys) (codesInside b xs) (omega (arith, size)))
 
-  by-cases : (s t : Bool) → eqb first (rowsInside b xs) ≡ s → eqb (rowsInside b xs) (rowsOf b xs) ≡ t → pointsOutcome b keys xs ≡ ask s (Unstored first) then ask t (Point (rowsInside b xs))
+  by-cases : (s t : Bool) → eqb first (rowsInside b xs) ≡ s → eqb (rowsInside b xs) (rowsOf b xs) ≡ t → pointsOutcome b keys xs ≡ ask s (Unstored first) then ask t (Point (wallOf b xs))
   unfolding pointsOutcome
-  by-cases s t es et = ap₂ (λ u v. ask u (Unstored first) then ask v (Point (rowsInside b xs))) es et
+  by-cases s t es et = ap₂ (λ u v. ask u (Unstored first) then ask v (Point (wallOf b xs))) es et
 
   pub record LowestUnstored (i : ℕ) : Type 0 where
     pub there : i < rowsOf b xs
@@ -93,20 +95,20 @@ module _ (b : Box) (keys : List ℕ) (xs : List Float) where
           let f = first-unheld l in
           subst LowestUnstored e (record { there = omega (arith, rows-few); in-box = f .0; unheld = f .1; lower = all-before })
       go true true es et = let same : Done ≡ Refused (Unstored i) = sym (by-cases true true es et) ∙ h in let z : _≡_ {A = ℕ} 0 1 = cc in absurd (omega arith)
-      go true false es et = let same : Refused (Point (rowsInside b xs)) ≡ Refused (Unstored i) = sym (by-cases true false es et) ∙ h in let z : _≡_ {A = ℕ} 0 1 = cc in absurd (omega arith)
+      go true false es et = let same : Refused (Point (wallOf b xs)) ≡ Refused (Unstored i) = sym (by-cases true false es et) ∙ h in let z : _≡_ {A = ℕ} 0 1 = cc in absurd (omega arith)
 
-  pub outside-lowest : (i : ℕ) → pointsOutcome b keys xs ≡ Refused (Point i) → LowestOutside i
-  outside-lowest i h = go (eqb first (rowsInside b xs)) (eqb (rowsInside b xs) (rowsOf b xs)) refl refl
+  pub outside-lowest : (w : Wall) → pointsOutcome b keys xs ≡ Refused (Point w) → LowestOutside (w .index) × (w ≡ wallOf b xs)
+  outside-lowest w h = go (eqb first (rowsInside b xs)) (eqb (rowsInside b xs) (rowsOf b xs)) refl refl
     where
-      go : (s t : Bool) → eqb first (rowsInside b xs) ≡ s → eqb (rowsInside b xs) (rowsOf b xs) ≡ t → LowestOutside i
-      go false t es et = let same : Refused (Unstored first) ≡ Refused (Point i) = sym (by-cases false t es et) ∙ h in let z : _≡_ {A = ℕ} 0 1 = cc in absurd (omega arith)
-      go true true es et = let same : Done ≡ Refused (Point i) = sym (by-cases true true es et) ∙ h in let z : _≡_ {A = ℕ} 0 1 = cc in absurd (omega arith)
+      go : (s t : Bool) → eqb first (rowsInside b xs) ≡ s → eqb (rowsInside b xs) (rowsOf b xs) ≡ t → LowestOutside (w .index) × (w ≡ wallOf b xs)
+      go false t es et = let same : Refused (Unstored first) ≡ Refused (Point w) = sym (by-cases false t es et) ∙ h in let z : _≡_ {A = ℕ} 0 1 = cc in absurd (omega arith)
+      go true true es et = let same : Done ≡ Refused (Point w) = sym (by-cases true true es et) ∙ h in let z : _≡_ {A = ℕ} 0 1 = cc in absurd (omega arith)
       go true false es et =
-          let same : Refused (Point (rowsInside b xs)) ≡ Refused (Point i) = sym (by-cases true false es et) ∙ h in
-          let e : rowsInside b xs ≡ i = cc in
+          let same : Refused (Point (wallOf b xs)) ≡ Refused (Point w) = sym (by-cases true false es et) ∙ h in
+          let e : wallOf b xs ≡ w = cc in
           let l : rowsInside b xs < rowsOf b xs = lt-of (rowsInside b xs) (rowsOf b xs) rows-few (eqb-false (rowsInside b xs) (rowsOf b xs) et) in
           let f : first ≡ rowsInside b xs = eqb-true first (rowsInside b xs) es in
-          subst LowestOutside e (record { there = l; outside = row-outside (rowsOf b xs) (frameOf b) xs l; lower = subst AllBefore f all-before })
+          (subst LowestOutside (sym (wall-index (rowsInside b xs) (frameOf b) (rowAt (rowsInside b xs))) ∙ ap (λ v. v .index) e) (record { there = l; outside = row-outside (rowsOf b xs) (frameOf b) xs l; lower = subst AllBefore f all-before }), sym e)
 
   -- and if none fails, every row is inside and held
   pub none-fails : pointsOutcome b keys xs ≡ Done → AllBefore (rowsOf b xs)
@@ -115,4 +117,4 @@ module _ (b : Box) (keys : List ℕ) (xs : List Float) where
       go : (s t : Bool) → eqb first (rowsInside b xs) ≡ s → eqb (rowsInside b xs) (rowsOf b xs) ≡ t → AllBefore (rowsOf b xs)
       go true true es et = subst AllBefore (eqb-true first (rowsInside b xs) es ∙ eqb-true (rowsInside b xs) (rowsOf b xs) et) all-before
       go false t es et = let same : Refused (Unstored first) ≡ Done = sym (by-cases false t es et) ∙ h in let z : _≡_ {A = ℕ} 0 1 = cc in absurd (omega arith)
-      go true false es et = let same : Refused (Point (rowsInside b xs)) ≡ Done = sym (by-cases true false es et) ∙ h in let z : _≡_ {A = ℕ} 0 1 = cc in absurd (omega arith)
+      go true false es et = let same : Refused (Point (wallOf b xs)) ≡ Done = sym (by-cases true false es et) ∙ h in let z : _≡_ {A = ℕ} 0 1 = cc in absurd (omega arith)

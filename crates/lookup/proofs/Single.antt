@@ -14,6 +14,7 @@ use Rattle.refusal.proofs.Chain.{asked, both-done, after-done, after-refused}
 use Rattle.space.specs.declared.Box.{Box}
 use Rattle.space.specs.Domain.{boxOutcome, levelOutcome}
 use Rattle.space.specs.Cells.{frameOf, inside, code16}
+use Rattle.space.specs.Walls.{firstWall}
 use Rattle.morton.specs.Keys.{axesKnown}
 use Rattle.morton.proofs.Cells.{above-zero}
 use Rattle.morton.proofs.Checks.{axes-known}
@@ -63,8 +64,8 @@ module _ (b : Box) (keys : List ℕ) (xs : List Float) (box : boxOutcome b ≡ D
   level-done = sym (level-fine b 16 box (omega arith))
 
   by-inside : (t : Bool) → inside (frameOf b) xs ≡ t
-      → leafAt b keys xs ≡ leafOrRefusal (ask t (Point 0) then ask (held (b .axes) keys (code16 (frameOf b) xs)) (Unstored 0)) (leafKey (b .axes) keys (code16 (frameOf b) xs)) (stepsTo (b .axes) keys (code16 (frameOf b) xs))
-  by-inside t i = ap (λ s. leafOrRefusal (ask s (Point 0) then ask (held (b .axes) keys (code16 (frameOf b) xs)) (Unstored 0)) (leafKey (b .axes) keys (code16 (frameOf b) xs)) (stepsTo (b .axes) keys (code16 (frameOf b) xs))) i
+      → leafAt b keys xs ≡ leafOrRefusal (ask t (Point (firstWall 0 (frameOf b) xs)) then ask (held (b .axes) keys (code16 (frameOf b) xs)) (Unstored 0)) (leafKey (b .axes) keys (code16 (frameOf b) xs)) (stepsTo (b .axes) keys (code16 (frameOf b) xs))
+  by-inside t i = ap (λ s. leafOrRefusal (ask s (Point (firstWall 0 (frameOf b) xs)) then ask (held (b .axes) keys (code16 (frameOf b) xs)) (Unstored 0)) (leafKey (b .axes) keys (code16 (frameOf b) xs)) (stepsTo (b .axes) keys (code16 (frameOf b) xs))) i
 
   cell-code : (k : ℕ) → r ≡ Cell k → (inside (frameOf b) xs ≡ true) × (k / 32768 ≡ code16 (frameOf b) xs)
   cell-code k f = go (inside (frameOf b) xs) refl
@@ -77,7 +78,7 @@ module _ (b : Box) (keys : List ℕ) (xs : List Float) (box : boxOutcome b ≡ D
           let n : c / 2 ^ (b .axes * (16 - 16)) * 32768 + 16 ≡ k = cc in
           (i, omega (arith, n, above-zero (b .axes) c))
       go false i =
-          let same : NoCell (Point 0) ≡ Cell k = refused-key b xs 16 (Point 0) (point-out b xs 16 level-done i) ∙ sym q ∙ f in
+          let same : NoCell (Point (firstWall 0 (frameOf b) xs)) ≡ Cell k = refused-key b xs 16 _ (point-out b xs 16 (Point (firstWall 0 (frameOf b) xs)) refl level-done i) ∙ sym q ∙ f in
           let z : _≡_ {A = ℕ} 0 1 = cc in
           absurd (omega arith)
 
@@ -93,8 +94,8 @@ module _ (b : Box) (keys : List ℕ) (xs : List Float) (box : boxOutcome b ≡ D
           let z : _≡_ {A = ℕ} 0 1 = cc in
           absurd (omega arith)
       go false i =
-          let same : NoCell (Point 0) ≡ NoCell x = refused-key b xs 16 (Point 0) (point-out b xs 16 level-done i) ∙ sym q ∙ f in
-          let p : x ≡ Point 0 = cc in
+          let same : NoCell (Point (firstWall 0 (frameOf b) xs)) ≡ NoCell x = refused-key b xs 16 _ (point-out b xs 16 (Point (firstWall 0 (frameOf b) xs)) refl level-done i) ∙ sym q ∙ f in
+          let p : x ≡ Point (firstWall 0 (frameOf b) xs) = cc in
           ap NoLeaf p ∙ sym (by-inside false i)
 
 -- ---- one point
@@ -104,8 +105,8 @@ module _ (b : Box) (keys own begin total : List ℕ) where
 
   module _ (xs : List Float) (o : Outcome) (q : o ≡ treeOutcome b (columns keys own begin total)) where
     chained : (p : Outcome) → treeOutcome b (columns keys own begin total) ≡ p
-        → leafOrRefusal ((p then ask (inside (frameOf b) xs) (Point 0)) then ask (held (b .axes) keys (code16 (frameOf b) xs)) (Unstored 0)) (leafKey (b .axes) keys (code16 (frameOf b) xs)) (stepsTo (b .axes) keys (code16 (frameOf b) xs)) ≡ pointToLeaf b (columns keys own begin total) xs
-    chained p e = sym (ap (λ o. leafOrRefusal ((o then ask (inside (frameOf b) xs) (Point 0)) then ask (held (b .axes) keys (code16 (frameOf b) xs)) (Unstored 0)) (leafKey (b .axes) keys (code16 (frameOf b) xs)) (stepsTo (b .axes) keys (code16 (frameOf b) xs))) e)
+        → leafOrRefusal ((p then ask (inside (frameOf b) xs) (Point (firstWall 0 (frameOf b) xs))) then ask (held (b .axes) keys (code16 (frameOf b) xs)) (Unstored 0)) (leafKey (b .axes) keys (code16 (frameOf b) xs)) (stepsTo (b .axes) keys (code16 (frameOf b) xs)) ≡ pointToLeaf b (columns keys own begin total) xs
+    chained p e = sym (ap (λ o. leafOrRefusal ((o then ask (inside (frameOf b) xs) (Point (firstWall 0 (frameOf b) xs))) then ask (held (b .axes) keys (code16 (frameOf b) xs)) (Unstored 0)) (leafKey (b .axes) keys (code16 (frameOf b) xs)) (stepsTo (b .axes) keys (code16 (frameOf b) xs))) e)
 
     pub tree-stops : (r : Refusal) → o ≡ Refused r → NoLeaf r ≡ pointToLeaf b (columns keys own begin total) xs
     tree-stops r e = chained (Refused r) (sym q ∙ e)

@@ -15,6 +15,7 @@ use Rattle.refusal.proofs.Chain.{asked, both-done}
 use Rattle.slices.specs.Lists.{sum}
 use Rattle.space.specs.declared.Box.{Box}
 use Rattle.space.specs.Cells.{frameOf, inside, code16}
+use Rattle.space.specs.Walls.{firstWall}
 use Rattle.space.proofs.Batches.{codes-length}
 use Rattle.space.specs.Rows.{rowsOf, rowsInside}
 use Rattle.tree.specs.Columns.{columns}
@@ -46,8 +47,8 @@ module _ (b : Box) (keys own begin total : List ℕ) (xs : List Float) where
   pub point-steps : (r : PointLeaf) → r ≡ pointToLeaf b (columns keys own begin total) xs → (k n : ℕ) → r ≡ Leaf k n → Steps keys k n
   point-steps r q k n e =
       let whole = leaf-is _ (leafKey (b .axes) keys code) (stepsTo (b .axes) keys code) k n (sym q ∙ e) in
-      let third = both-done (treeOutcome b (columns keys own begin total) then ask (inside (frameOf b) xs) (Point 0)) (ask (held (b .axes) keys code) (Unstored 0)) (whole .0) in
-      let second = both-done (treeOutcome b (columns keys own begin total)) (ask (inside (frameOf b) xs) (Point 0)) (third .0) in
+      let third = both-done (treeOutcome b (columns keys own begin total) then ask (inside (frameOf b) xs) (Point (firstWall 0 (frameOf b) xs))) (ask (held (b .axes) keys code) (Unstored 0)) (whole .0) in
+      let second = both-done (treeOutcome b (columns keys own begin total)) (ask (inside (frameOf b) xs) (Point (firstWall 0 (frameOf b) xs))) (third .0) in
       let (box, rule) = tree-fine b keys own begin total (second .0) in
       let f = fine b box in
       let tree = tree-keys (b .axes) keys own begin total (axes-known (b .axes) (f .least) (f .most)) rule in

@@ -13,7 +13,7 @@ use Rattle.slices.specs.Lists.{sum}
 use Rattle.space.specs.declared.Box.{Box}
 use Rattle.space.specs.Domain.{boxOutcome}
 use Rattle.space.specs.Cells.{frameOf}
-use Rattle.space.specs.Rows.{mostPoints, rowsOf, rowsInside, codes16}
+use Rattle.space.specs.Rows.{mostPoints, rowsOf, rowsInside, wallOf, codes16}
 use Rattle.tree.specs.Columns.{Columns}
 use Rattle.tree.specs.WellFormed.{wellFormed}
 use Rattle.grouping.specs.Batches.{passing}
@@ -45,11 +45,11 @@ callOutcome b t points room =
     then ask (wellFormed (b .axes) (t .keys) (t .own) (t .begin) (t .total)) Tree
     then ask (leb (rowsOf b points) room) (Room 8)
 
--- 12 UNSTORED for one before the first that is outside, else 7 POINT for that one
+-- 12 UNSTORED for one before the first that is outside, else 7 POINT with the wall of that one
 unfoldable pub pointsOutcome : Box → List ℕ → List Float → Outcome
 pointsOutcome b keys points =
     ask (eqb (heldBefore (b .axes) keys (codesInside b points)) (rowsInside b points)) (Unstored (heldBefore (b .axes) keys (codesInside b points)))
-    then ask (eqb (rowsInside b points) (rowsOf b points)) (Point (rowsInside b points))
+    then ask (eqb (rowsInside b points) (rowsOf b points)) (Point (wallOf b points))
 
 abbrev pub lookupOutcome : Box → Columns → List Float → ℕ → Outcome
 lookupOutcome b t points room = callOutcome b t points room then pointsOutcome b (t .keys) points

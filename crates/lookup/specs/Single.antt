@@ -1,4 +1,4 @@
--- Document 01: lookup of one point. The checks run in the order 1, 2, 13, then 7 or 12, with value 0.
+-- Document 01: lookup of one point. The checks run in the order 1, 2, 13, then 7 or 12, with index 0.
 use mathlib.Core.List.{List}
 use Prim.Native.Nat.{ℕ}
 use lib.Ieee.{Float}
@@ -9,6 +9,7 @@ use Rattle.refusal.specs.Chain.{ask, _then_}
 use Rattle.space.specs.declared.Box.{Box}
 use Rattle.space.specs.Domain.{boxOutcome}
 use Rattle.space.specs.Cells.{frameOf, inside, code16}
+use Rattle.space.specs.Walls.{firstWall}
 use Rattle.tree.specs.Columns.{Columns}
 use Rattle.tree.specs.WellFormed.{wellFormed}
 use Rattle.tree.specs.Leaves.{held, leafKey, stepsTo}
@@ -31,13 +32,13 @@ codeLeaf d keys code = leafOrRefusal (ask (held d keys code) (Unstored 0)) (leaf
 -- the leaf that holds a point of a sound box: 7 POINT for one outside and 12 UNSTORED for one that no leaf holds
 abbrev pub leafAt : Box → List ℕ → List Float → PointLeaf
 leafAt b keys xs =
-    leafOrRefusal (ask (inside (frameOf b) xs) (Point 0) then ask (held (b .axes) keys (code16 (frameOf b) xs)) (Unstored 0)) (leafKey (b .axes) keys (code16 (frameOf b) xs)) (stepsTo (b .axes) keys (code16 (frameOf b) xs))
+    leafOrRefusal (ask (inside (frameOf b) xs) (Point (firstWall 0 (frameOf b) xs)) then ask (held (b .axes) keys (code16 (frameOf b) xs)) (Unstored 0)) (leafKey (b .axes) keys (code16 (frameOf b) xs)) (stepsTo (b .axes) keys (code16 (frameOf b) xs))
 
 -- 1, 2 and 13, then 7 POINT for a point outside and 12 UNSTORED for one that no leaf holds
 abbrev pub singleOutcome : Box → Columns → List Float → Outcome
 singleOutcome b t xs =
     treeOutcome b t
-    then ask (inside (frameOf b) xs) (Point 0)
+    then ask (inside (frameOf b) xs) (Point (firstWall 0 (frameOf b) xs))
     then ask (held (b .axes) (t .keys) (code16 (frameOf b) xs)) (Unstored 0)
 
 abbrev pub pointToLeaf : Box → Columns → List Float → PointLeaf

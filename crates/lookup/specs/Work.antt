@@ -18,7 +18,7 @@ use Rattle.lookup.specs.declared.Holders.{Holders}
 use Rattle.lookup.specs.declared.Holders.the-variants.{All, Missing}
 use Rattle.lookup.specs.declared.LookedUp.{LookedUp}
 use Rattle.lookup.specs.declared.LookedUp.the-variants.{Found, Refused as NotFound}
-use Rattle.lookup.specs.Batch.{heldBefore, stepsSum, foundOr}
+use Rattle.lookup.specs.Batch.{heldBefore, stepsSum}
 
 -- the leaves that hold the codes: all, with the sum of the steps; or the first code that none holds
 abbrev pub allOr : Bool → ℕ → ℕ → Holders
@@ -31,12 +31,17 @@ holdersOf d keys codes = allOr (eqb (heldBefore d keys codes) (length codes)) (s
 -- how many rows stand before the first that is outside
 abbrev pub insideOf : Rows → ℕ → ℕ
 insideOf Inside n = n
-insideOf (Outside row) n = row
+insideOf (Outside wall) n = wall .index
+
+-- 7 POINT for the first that is outside, else the steps
+abbrev pub foundIn : Rows → ℕ → LookedUp
+foundIn Inside steps = Found steps
+foundIn (Outside wall) steps = NotFound (Point wall)
 
 -- the answer where the first rows were looked up, up to one outside
-abbrev pub answerOf : Holders → ℕ → ℕ → LookedUp
-answerOf (Missing row) first all = NotFound (Unstored row)
-answerOf (All steps) first all = foundOr (ask (eqb first all) (Point first)) steps
+abbrev pub answerOf : Holders → Rows → LookedUp
+answerOf (Missing row) rows = NotFound (Unstored row)
+answerOf (All steps) rows = foundIn rows steps
 
 -- the checks of `callOutcome`, by how many numbers there are: the first three, and all
 unfoldable pub shapeOutcome : Box → ℕ → Outcome

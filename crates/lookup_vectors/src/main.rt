@@ -15,6 +15,12 @@ fn write_refusal(refusal: Refusal) {
     io::print_decimal(STDOUT_FILENO, refusal::number(refusal));
     io::write_all(STDOUT_FILENO, b" ");
     io::print_decimal(STDOUT_FILENO, refusal::value(refusal) as u64);
+    if refusal::count(refusal) == 3 {
+        io::write_all(STDOUT_FILENO, b" ");
+        io::print_decimal(STDOUT_FILENO, refusal::axis(refusal) as u64);
+        io::write_all(STDOUT_FILENO, b" ");
+        io::print_decimal(STDOUT_FILENO, refusal::reason(refusal) as u64);
+    }
     io::write_all(STDOUT_FILENO, b"\n");
 }
 

@@ -12,14 +12,15 @@ use Rattle.refusal.proofs.Chain.{after-done, after-refused}
 use Rattle.space.specs.declared.Box.{Box}
 use Rattle.space.specs.Domain.{levelOutcome}
 use Rattle.space.specs.Cells.{frameOf, inside}
+use Rattle.space.specs.Walls.{firstWall}
 use Rattle.points.specs.Calls.{pointOutcome}
 
 module _ (b : Box) (xs : List Float) (level : ℕ) where
   pub point-refused : (r : Refusal) → levelOutcome b level ≡ Refused r → Refused r ≡ pointOutcome b xs level
-  point-refused r e = sym (after-refused (levelOutcome b level) (ask (inside (frameOf b) xs) (Point 0)) r e)
+  point-refused r e = sym (after-refused (levelOutcome b level) (ask (inside (frameOf b) xs) (Point (firstWall 0 (frameOf b) xs))) r e)
 
-  pub point-out : levelOutcome b level ≡ Done → inside (frameOf b) xs ≡ false → Refused (Point 0) ≡ pointOutcome b xs level
-  point-out e h = sym (after-done (levelOutcome b level) (ask (inside (frameOf b) xs) (Point 0)) e ∙ ap (λ t. ask t (Point 0)) h)
+  pub point-out : (r : Refusal) → r ≡ Point (firstWall 0 (frameOf b) xs) → levelOutcome b level ≡ Done → inside (frameOf b) xs ≡ false → Refused r ≡ pointOutcome b xs level
+  point-out r w e h = ap Refused w ∙ sym (after-done (levelOutcome b level) (ask (inside (frameOf b) xs) (Point (firstWall 0 (frameOf b) xs))) e ∙ ap (λ t. ask t (Point (firstWall 0 (frameOf b) xs))) h)
 
   pub point-in : levelOutcome b level ≡ Done → inside (frameOf b) xs ≡ true → Done ≡ pointOutcome b xs level
-  point-in e h = sym (after-done (levelOutcome b level) (ask (inside (frameOf b) xs) (Point 0)) e ∙ ap (λ t. ask t (Point 0)) h)
+  point-in e h = sym (after-done (levelOutcome b level) (ask (inside (frameOf b) xs) (Point (firstWall 0 (frameOf b) xs))) e ∙ ap (λ t. ask t (Point (firstWall 0 (frameOf b) xs))) h)

@@ -11,6 +11,7 @@ use Rattle.space.specs.declared.Box.{Box}
 use Rattle.space.specs.Floats.{sizeOf, floor}
 use Rattle.space.specs.Domain.{centresKnown}
 use Rattle.space.specs.Cells.{cell16, inside, anchors16}
+use Rattle.space.specs.Walls.{firstWall}
 use Rattle.points.specs.declared.PointKey.the-variants.{Cell, Refused as NoCell}
 use Rattle.points.specs.Calls.{pointToKey}
 
@@ -28,6 +29,6 @@ unfolding cell16 inside anchors16 encode spread centresKnown sizeOf le sub div m
 listed = (refl, refl, refl, refl)
 
 -- a bad level comes before a point that is outside
-pub order : (pointToKey b4 (nan ∷ []) 17 ≡ NoCell Key) × (pointToKey b4 (nan ∷ []) 16 ≡ NoCell (Point 0))
-unfolding cell16 inside anchors16 encode spread centresKnown sizeOf le sub div mul ofInt floor every
+pub order : (pointToKey b4 (nan ∷ []) 17 ≡ NoCell Key) × (pointToKey b4 (nan ∷ []) 16 ≡ NoCell (Point (record { index = 0; axis = 0; reason = 1 })))
+unfolding cell16 firstWall inside anchors16 encode spread centresKnown sizeOf le sub div mul ofInt floor every
 order = (refl, refl)

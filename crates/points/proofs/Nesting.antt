@@ -1,13 +1,12 @@
 -- The cells of a coordinate nest: its anchor at a level is its level-16 anchor divided by 2 ^ (16 - level).
 use mathlib.Core.Path.{_≡_, refl, sym, ap, _∙_, subst}
-use mathlib.Core.Bool.{Bool, true, false, not, _&&_, true≢false}
+use mathlib.Core.Bool.{Bool, true, false, _&&_, true≢false}
 use mathlib.Core.List.{List}
 use Prim.Native.Nat.{ℕ, zero, suc, _+_, _-_, _*_, _/_, _^_, _≤_, _<_}
 use native.Mathlib.Nat.{zero-div}
 use native.Mathlib.Omega.{arith}
-use lib.Dec.{T}
 use lib.Ieee.{Float, nan, binary64, fits}
-use lib.Ieee.Scale.{finite}
+use Rattle.space.specs.Floats.{isFinite}
 use lib.ListN.{getD, List·getD-map}
 use lib.Pow.{high}
 use Rattle.slices.proofs.Tests.{and-l, and-r}
@@ -16,11 +15,12 @@ use Rattle.morton.specs.Anchors.{encode}
 use Rattle.space.specs.declared.Box.{Box}
 use Rattle.space.specs.declared.Frame.{Frame}
 use Rattle.space.specs.declared.Place.{Place}
-use Rattle.space.specs.declared.Place.the-variants.{At, Outside}
+use Rattle.space.specs.declared.Place.the-variants.{At, NotFinite, Below, Above}
 use Rattle.space.specs.Domain.{radiusKnown}
-use Rattle.space.specs.Cells.{displacement, frameOf, cellIn, cell16, isAt, placeNumber, inside, anchors16, pointAnchors, code16, levelCell, Nests}
-use Rattle.points.proofs.Sides.{radius, cells-nest, not-finite}
+use Rattle.space.specs.Cells.{displacement, frameOf, quotient, wallBy, cellIn, cell16, isAt, placeNumber, inside, anchors16, pointAnchors, code16, levelCell, Nests}
+use Rattle.points.proofs.Sides.{radius, cells-nest, no-cell}
 use Rattle.space.proofs.Points.{cell-on}
+use Rattle.space.proofs.Walls.{not-finite}
 
 -- for every box of the domain, every axis and every coordinate
 module _ (b : Box) (held : fits binary64 (b .radius) ≡ true) (known : radiusKnown (b .radius) ≡ true) where
@@ -29,7 +29,9 @@ module _ (b : Box) (held : fits binary64 (b .radius) ≡ true) (known : radiusKn
 
 is-at : (p : Place) → isAt p ≡ true → p ≡ At (placeNumber p)
 is-at (At k) h = refl
-is-at Outside h = absurd (true≢false (sym h))
+is-at NotFinite h = absurd (true≢false (sym h))
+is-at Below h = absurd (true≢false (sym h))
+is-at Above h = absurd (true≢false (sym h))
 
 -- the axes of a point that is inside
 pub inside-0 : (f : Frame) (xs : List Float) → inside f xs ≡ true → cell16 f xs 0 ≡ At (placeNumber (cell16 f xs 0))
@@ -45,17 +47,19 @@ unfolding inside
 inside-2 f xs h = is-at (cell16 f xs 2) (and-r (isAt (cell16 f xs 1)) (isAt (cell16 f xs 2)) (and-r (isAt (cell16 f xs 0)) (isAt (cell16 f xs 1) && isAt (cell16 f xs 2)) h))
 
 -- a point that is inside has a finite coordinate on each of its axes
-finite-at : (f : Frame) (xs : List Float) (a : ℕ) → a < f .axes → cell16 f xs a ≡ At (placeNumber (cell16 f xs a)) → finite (getD xs a nan) ≡ true
-finite-at f xs a n h = go (finite (getD xs a nan)) refl
+finite-at : (f : Frame) (xs : List Float) (a : ℕ) → a < f .axes → cell16 f xs a ≡ At (placeNumber (cell16 f xs a)) → isFinite (getD xs a nan) ≡ true
+finite-at f xs a n h = go (isFinite (getD xs a nan)) refl
   where
-    go : (t : Bool) → finite (getD xs a nan) ≡ t → finite (getD xs a nan) ≡ true
+    go : (t : Bool) → isFinite (getD xs a nan) ≡ t → isFinite (getD xs a nan) ≡ true
     go true e = e
     go false e =
-        let out : cell16 f xs a ≡ Outside =
-        cell-on f xs a n ∙ ap (cellIn 65536) (not-finite (getD xs a nan) (getD (f .displacement) a nan) (f .side) (subst (λ t. T (not t)) (sym e) tt)) in
-        let z : _≡_ {A = ℕ} 0 1 = cc in absurd (omega arith)
+        let x = getD xs a nan in
+        let q = quotient x (getD (f .displacement) a nan) (f .side) in
+        let out : cell16 f xs a ≡ wallBy x q =
+        cell-on f xs a n ∙ ap (λ y. cellIn 65536 y (wallBy x q)) (not-finite x (getD (f .displacement) a nan) (f .side) e) in
+        absurd (true≢false (sym (ap isAt h) ∙ ap isAt out ∙ no-cell x q))
 
-pub inside-finite : (f : Frame) (xs : List Float) (a : ℕ) → f .axes ≤ 3 → inside f xs ≡ true → a < f .axes → finite (getD xs a nan) ≡ true
+pub inside-finite : (f : Frame) (xs : List Float) (a : ℕ) → f .axes ≤ 3 → inside f xs ≡ true → a < f .axes → isFinite (getD xs a nan) ≡ true
 inside-finite f xs zero most h n = finite-at f xs 0 n (inside-0 f xs h)
 inside-finite f xs (suc zero) most h n = finite-at f xs 1 n (inside-1 f xs h)
 inside-finite f xs (suc (suc zero)) most h n = finite-at f xs 2 n (inside-2 f xs h)

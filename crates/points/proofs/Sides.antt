@@ -1,22 +1,23 @@
 -- The side of a box at each level is exact: 2 * radius / 2 ^ level. So the quotients of two levels are one fraction times a power of two, rounded, and the cells of a coordinate nest.
 use mathlib.Core.Path.{_≡_, refl, sym, ap, _∙_, subst}
-use mathlib.Core.Bool.{Bool, true, false, not, _&&_, cond, true≢false, Bool·beq}
+use mathlib.Core.Bool.{Bool, true, false, not, _&&_, cond, true≢false}
 use Prim.Native.Nat.{ℕ, zero, suc, _+_, _-_, _*_, _/_, _%_, _^_, _≤_, _<_}
 use native.Mathlib.Nat.{le-trans, le-of-eq, le-of-lt, lt-irrefl, lt-of-lt-of-le, lt-of-le-of-lt, lt-of-not-le, le-of-mul-le-mul-right, mul-one, mul-comm, mul-assoc, mul-left-comm, mul-right-comm, mul-le-mul-right, mul-le-mul-left, mul-lt-mul-of-pos-right, mul-pos, sub-add-cancel}
 use native.Mathlib.Omega.{arith}
 use lib.IntN.{ℤ, pos, negsuc}
 use lib.Dec.{T, leb, ltb, eqb, ltb→lt, lt→ltb, not-T, eqb→eq, lit≤, lit<}
 use lib.Pow.{pow-add, pow-pos, pow-mono, shr-lt}
-use lib.Ieee.{Float, nan, inf, fin, Format, binary64, up, down, round, unlike, neg, add, sub, mul, div, ofInt, fits, le}
+use lib.Ieee.{Float, nan, inf, fin, Format, binary64, up, down, round, unlike, sub, mul, div, ofInt, fits, lt, le}
 use lib.Ieee.Fits.{down-pos, up-pos, and-l, and-r}
 use lib.Ieee.Bits.{is-true, cond-no}
 use lib.Ieee.Exact.{HasValue, round-exact}
-use lib.Ieee.Scale.{round-same, finite}
+use lib.Ieee.Scale.{round-same}
 use lib.Ieee.Back.{round-whole}
 use lib.Ieee.Positive.{num, den, positive, den-pos, own-value, between, le→cross, positive-of-value, mul-at}
-use Rattle.space.specs.Floats.{Floor, noFloor, whole, floor}
-use Rattle.space.specs.Cells.{side, quotient, pick, cellIn}
-use Rattle.space.specs.declared.Place.the-variants.{At, Outside}
+use Rattle.space.specs.Floats.{nought, isFinite, Floor, noFloor, whole, floor}
+use Rattle.space.specs.Cells.{side, quotient, pick, wallBy, isAt, cellIn, cellOf}
+use Rattle.space.specs.declared.Place.{Place}
+use Rattle.space.specs.declared.Place.the-variants.{At, NotFinite, Below, Above}
 use Rattle.slices.proofs.Tests.{and-l as and-left, and-r as and-right}
 use Rattle.space.specs.Domain.{radiusKnown}
 use Rattle.space.proofs.Rounding.{nest-round}
@@ -236,44 +237,31 @@ nesting r (fin s m e) l a R L h =
     ap floor (quotient-is r s m e l R L) ∙ nest-round binary64 s (n * 2 ^ l) c (16 - l) a C (rest-le l) g
 
 -- ---- and so the cells of a coordinate
-named : (n : ℕ) (y : Floor) (a : ℕ) → cellIn n y ≡ At a → (y ≡ whole (pos a)) × (a < n)
-named n noFloor a h = let k : _≡_ {A = ℕ} 0 1 = cc in absurd (omega arith)
-named n (whole (negsuc k)) a h = let z : _≡_ {A = ℕ} 0 1 = cc in absurd (omega arith)
-named n (whole (pos k)) a h = go (ltb k n) (ltb→lt k n) h
+named : (n : ℕ) (y : Floor) (w : Place) (a : ℕ) → isAt w ≡ false → cellIn n y w ≡ At a → (y ≡ whole (pos a)) × (a < n)
+named n noFloor w a out h = absurd (true≢false (sym (ap isAt h) ∙ out))
+named n (whole (negsuc k)) w a out h = absurd (true≢false (sym (ap isAt h) ∙ out))
+named n (whole (pos k)) w a out h = go (ltb k n) (ltb→lt k n) h
   where
-    go : (b : Bool) → (T b → k < n) → pick b (At k) Outside ≡ At a → (whole (pos k) ≡ whole (pos a)) × (a < n)
+    go : (b : Bool) → (T b → k < n) → pick b (At k) w ≡ At a → (whole (pos k) ≡ whole (pos a)) × (a < n)
     go true g e = let i : k ≡ a = cc in (cc, subst (λ (x : ℕ). x < n) i (g tt))
-    go false g e = let z : _≡_ {A = ℕ} 0 1 = cc in absurd (omega arith)
+    go false g e = absurd (true≢false (sym (ap isAt e) ∙ out))
 
-names : (n k : ℕ) → k < n → cellIn n (whole (pos k)) ≡ At k
-names n k h = ap (λ (b : Bool). pick b (At k) Outside) (is-true (ltb k n) (lt→ltb k n h))
+names : (n k : ℕ) (w : Place) → k < n → cellIn n (whole (pos k)) w ≡ At k
+names n k w h = ap (λ (b : Bool). pick b (At k) w) (is-true (ltb k n) (lt→ltb k n h))
 
-pub cells-nest : (r x d : Float) (l a : ℕ) → Radius r → l ≤ 16 → cellIn 65536 (floor (quotient x d (side r 16))) ≡ At a → cellIn (2 ^ l) (floor (quotient x d (side r l))) ≡ At (a / 2 ^ (16 - l))
+-- a wall is no cell
+pub no-cell : (x q : Float) → isAt (wallBy x q) ≡ false
+no-cell x q = go (isFinite x) (lt q nought)
+  where
+    go : (s t : Bool) → isAt (pick s (pick t Below Above) NotFinite) ≡ false
+    go true true = refl
+    go true false = refl
+    go false t = refl
+
+pub cells-nest : (r x d : Float) (l a : ℕ) → Radius r → l ≤ 16 → cellOf 65536 x d (side r 16) ≡ At a → cellOf (2 ^ l) x d (side r l) ≡ At (a / 2 ^ (16 - l))
 cells-nest r x d l a R L h =
-    let n = named 65536 (floor (quotient x d (side r 16))) a h in
+    let n = named 65536 (floor (quotient x d (side r 16))) (wallBy x (quotient x d (side r 16))) a (no-cell x (quotient x d (side r 16))) h in
     let k = a / 2 ^ (16 - l) in
-    ap (cellIn (2 ^ l)) (nesting r (sub binary64 x d) l a R L (n .0))
-    ∙ names (2 ^ l) k (shr-lt l (16 - l) (subst (λ (w : ℕ). a < 2 ^ w) (sym (rest l L)) (n .1)))
-
--- ---- a coordinate that is not finite has no floor, whatever the displacement and the side are
-nan-none : (y : Float) → floor (div binary64 nan y) ≡ noFloor
-unfolding div floor
-nan-none y = refl
-
-inf-none : (s : Bool) (y : Float) → floor (div binary64 (inf s) y) ≡ noFloor
-unfolding div floor
-inf-none s nan = refl
-inf-none s (inf t) = refl
-inf-none s (fin t n d) = refl
-
-some-none : (b s : Bool) (y : Float) → floor (div binary64 (cond b (inf s) nan) y) ≡ noFloor
-some-none true s y = inf-none s y
-some-none false s y = nan-none y
-
-pub not-finite : (x d y : Float) → T (not (finite x)) → floor (quotient x d y) ≡ noFloor
-unfolding sub add neg
-not-finite nan d y h = nan-none y
-not-finite (inf s) nan y h = nan-none y
-not-finite (inf s) (inf t) y h = some-none (Bool·beq s (not t)) s y
-not-finite (inf s) (fin t n e) y h = inf-none s y
-not-finite (fin s m e) d y h = absurd h
+    let w = wallBy x (quotient x d (side r l)) in
+    ap (λ y. cellIn (2 ^ l) y w) (nesting r (sub binary64 x d) l a R L (n .0))
+    ∙ names (2 ^ l) k w (shr-lt l (16 - l) (subst (λ (w : ℕ). a < 2 ^ w) (sym (rest l L)) (n .1)))

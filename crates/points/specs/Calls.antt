@@ -13,10 +13,11 @@ use Rattle.points.specs.declared.PointKey.the-variants.{Cell, Refused as
 use Rattle.refusal.specs.Chain.{ask, _then_}
 use Rattle.space.specs.Domain.{levelOutcome}
 use Rattle.space.specs.Cells.{frameOf, inside, pointAnchors}
+use Rattle.space.specs.Walls.{firstWall}
 
--- 1 DIMS, 2 BOX, 9 KEY, and then 7 POINT
+-- 1 DIMS, 2 BOX, 9 KEY, and then 7 POINT with the wall of the point, which has index 0
 abbrev pub pointOutcome : Box → List Float → ℕ → Outcome
-pointOutcome b xs level = levelOutcome b level then ask (inside (frameOf b) xs) (Point 0)
+pointOutcome b xs level = levelOutcome b level then ask (inside (frameOf b) xs) (Point (firstWall 0 (frameOf b) xs))
 
 -- three zeros after a refusal
 abbrev pub anchorsOr : Outcome → List ℕ → Anchored

@@ -4,7 +4,10 @@ use refusal::Refusal;
 use space::Box;
 ghost use mathlib.Core.Path.{_≡_};
 ghost use mathlib.Core.List.{[]};
-ghost use Rattle.space.specs.Cells.{Nests};
+ghost use Prim.Native.Nat.{_≤_};
+ghost use Rattle.refusal.specs.declared.Refusal.the-variants.{Point};
+ghost use Rattle.space.specs.Cells.{frameOf, Nests};
+ghost use Rattle.space.specs.Walls.{firstWall};
 ghost use Rattle.points.specs.Calls.{anchorsOr, pointToAnchor, pointToKey};
 
 // A point's anchors at a level, 0 past the axes and after a refusal.
@@ -22,6 +25,14 @@ fn not_anchored(refusal: Refusal) -> Anchored
     }
 }
 
+// The refusal of a point that is outside, which is number 0 of its call.
+fn outside(b: Box, point: [f64; 3]) -> Refusal
+    requires { ⌜ b .axes ≤ 3 ⌝ }
+    ensures { λ r. ⌜ r ≡ Point (firstWall 0 (frameOf b) point) ⌝ }
+{
+    Refusal::Point(space::wall_of(space::frame_of(b), &point, 0, 0))
+}
+
 // The anchors of the cell in which a point lies. They are the floors that the level's own quotients have.
 pub fn point_to_anchor(b: Box, point: [f64; 3], level: u64) -> Anchored
     ensures { λ r. ⌜ r ≡ pointToAnchor b point level ⌝ }
@@ -33,7 +44,7 @@ pub fn point_to_anchor(b: Box, point: [f64; 3], level: u64) -> Anchored
     }
     let p = space::locate(space::frame_of(b), &point, 0);
     if !p.inside {
-        return not_anchored(Refusal::Point(0));
+        return not_anchored(outside(b, point));
     }
     let up = 16 - level;
     Anchored {
@@ -57,7 +68,7 @@ pub fn point_to_key(b: Box, point: [f64; 3], level: u64) -> PointKey
     }
     let p = space::locate(space::frame_of(b), &point, 0);
     if !p.inside {
-        return PointKey::Refused(Refusal::Point(0));
+        return PointKey::Refused(outside(b, point));
     }
     let anchor = p.anchor;
     let code = codes::encode(b.axes, anchor);

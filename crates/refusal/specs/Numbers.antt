@@ -1,4 +1,5 @@
--- Document 01, "Refusal numbers": the number of each refusal, and its value.
+-- Document 01, "Refusal numbers", with order 5: the number of each refusal, and its values.
+use mathlib.Core.List.{List, [], _∷_}
 use Prim.Native.Nat.{ℕ}
 use Rattle.refusal.specs.declared.Refusal.{Refusal}
 use Rattle.refusal.specs.declared.Refusal.the-variants.{Dims, Box, Shape, Count, Order, Source, Point, Room, Key, Root, Deep, Unstored, Tree, NotLeaf, File}
@@ -11,8 +12,8 @@ numberOf Box = 2
 numberOf Shape = 3
 numberOf Count = 4
 numberOf Order = 5
-numberOf (Source index) = 6
-numberOf (Point index) = 7
+numberOf (Source wall) = 6
+numberOf (Point wall) = 7
 numberOf (Room which) = 8
 numberOf Key = 9
 numberOf Root = 10
@@ -22,29 +23,29 @@ numberOf Tree = 13
 numberOf (NotLeaf index) = 14
 numberOf File = 15
 
--- the lowest failing index, which slice is short, or 0
-abbrev pub valueOf : Refusal → ℕ
-valueOf Dims = 0
-valueOf Box = 0
-valueOf Shape = 0
-valueOf Count = 0
-valueOf Order = 0
-valueOf (Source index) = index
-valueOf (Point index) = index
-valueOf (Room which) = which
-valueOf Key = 0
-valueOf Root = 0
-valueOf Deep = 0
-valueOf (Unstored index) = index
-valueOf Tree = 0
-valueOf (NotLeaf index) = index
-valueOf File = 0
+-- the lowest failing index, which slice is short, or 0; and after the index of 6 and 7 the axis from 0 and the reason: 1 not finite, 2 below, 3 above
+abbrev pub valuesOf : Refusal → List ℕ
+valuesOf Dims = 0 ∷ []
+valuesOf Box = 0 ∷ []
+valuesOf Shape = 0 ∷ []
+valuesOf Count = 0 ∷ []
+valuesOf Order = 0 ∷ []
+valuesOf (Source wall) = wall .index ∷ wall .axis ∷ wall .reason ∷ []
+valuesOf (Point wall) = wall .index ∷ wall .axis ∷ wall .reason ∷ []
+valuesOf (Room which) = which ∷ []
+valuesOf Key = 0 ∷ []
+valuesOf Root = 0 ∷ []
+valuesOf Deep = 0 ∷ []
+valuesOf (Unstored index) = index ∷ []
+valuesOf Tree = 0 ∷ []
+valuesOf (NotLeaf index) = index ∷ []
+valuesOf File = 0 ∷ []
 
--- 0 and 0 for a call that was not refused
+-- 0 and no values for a call that was not refused
 abbrev pub outcomeNumber : Outcome → ℕ
 outcomeNumber Done = 0
 outcomeNumber (Refused refusal) = numberOf refusal
 
-abbrev pub outcomeValue : Outcome → ℕ
-outcomeValue Done = 0
-outcomeValue (Refused refusal) = valueOf refusal
+abbrev pub outcomeValues : Outcome → List ℕ
+outcomeValues Done = []
+outcomeValues (Refused refusal) = valuesOf refusal

@@ -11,10 +11,12 @@ use lib.Ieee.{Float}
 use lib.ListN.{length, getD, drop, set, length-append, length-drop}
 use lib.Seq.{drop-drop, drop-cons, set-at}
 use borrow.Author.Tests.{lt-ltb, le-ltb, ltb-true, ltb-false}
+use Rattle.refusal.specs.declared.Wall.{Wall}
 use Rattle.space.specs.declared.Frame.{Frame}
 use Rattle.space.specs.declared.Rows.the-variants.{Inside, Outside}
 use Rattle.space.specs.Cells.{inside, code16}
-use Rattle.space.specs.Rows.{insideRows, codes16, orInside, firstOutside, coded}
+use Rattle.space.specs.Walls.{firstWall}
+use Rattle.space.specs.Rows.{insideRows, codes16, orInside, rowWall, firstOutside, coded}
 
 -- one row more, at the front
 rows-more : (k : ℕ) (f : Frame) (xs : List Float) → insideRows (suc k) f xs ≡ cond (inside f xs) (suc (insideRows k f (drop (f .axes) xs))) 0
@@ -106,8 +108,11 @@ module _ (n : ℕ) (f : Frame) (xs : List Float) (old : List ℕ) where
         ∙ ap (λ j. row + j) (rows-more (n - (row + 1)) f (drop at xs) ∙ ap (λ b. cond b (suc (insideRows (n - (row + 1)) f (drop (f .axes) (drop at xs)))) 0) i)
         ∙ add-zero row
 
-    pub written-stop : inside f (drop at xs) ≡ false → row < n → (Outside row ≡ firstOutside n f xs) × (new ≡ coded n f xs old)
-    written-stop i h = let s = stopped i h in (rw (s, lt-ltb row n h), rw s (w .wrote))
+    pub written-stop : (wall : Wall) → wall ≡ firstWall row f (drop at xs) → inside f (drop at xs) ≡ false → row < n → (Outside wall ≡ firstOutside n f xs) × (new ≡ coded n f xs old)
+    written-stop wall e i h =
+        let s = stopped i h in
+        let here : wall ≡ rowWall f xs row = e ∙ ap (λ j. firstWall row f (drop j xs)) (w .at-is) in
+        (rw (s, lt-ltb row n h, here), rw s (w .wrote))
 
     ended : n ≤ row → insideRows n f xs ≡ row
     ended h =
@@ -135,15 +140,15 @@ rows-le (suc n) f xs = go (inside f xs) (rows-le n f (drop (f .axes) xs))
 pub all-inside : (n : ℕ) (f : Frame) (xs : List Float) → firstOutside n f xs ≡ Inside → insideRows n f xs ≡ n
 all-inside n f xs h = go (ltb (insideRows n f xs) n) refl h
   where
-    go : (t : Bool) → ltb (insideRows n f xs) n ≡ t → orInside t (Outside (insideRows n f xs)) ≡ Inside → insideRows n f xs ≡ n
+    go : (t : Bool) → ltb (insideRows n f xs) n ≡ t → orInside t (Outside (rowWall f xs (insideRows n f xs))) ≡ Inside → insideRows n f xs ≡ n
     go true e g = let z : _≡_ {A = ℕ} 0 1 = cc in absurd (omega arith)
     go false e g = omega (arith, ltb-false (insideRows n f xs) n e, rows-le n f xs)
 
-pub one-outside : (n k : ℕ) (f : Frame) (xs : List Float) → firstOutside n f xs ≡ Outside k → (insideRows n f xs ≡ k) × (k < n)
-one-outside n k f xs h = go (ltb (insideRows n f xs) n) refl h
+pub one-outside : (n : ℕ) (wall : Wall) (f : Frame) (xs : List Float) → firstOutside n f xs ≡ Outside wall → (wall ≡ rowWall f xs (insideRows n f xs)) × (insideRows n f xs < n)
+one-outside n wall f xs h = go (ltb (insideRows n f xs) n) refl h
   where
-    go : (t : Bool) → ltb (insideRows n f xs) n ≡ t → orInside t (Outside (insideRows n f xs)) ≡ Outside k → (insideRows n f xs ≡ k) × (k < n)
-    go true e g = let s : insideRows n f xs ≡ k = cc in (s, subst (λ j. j < n) s (ltb-true (insideRows n f xs) n e))
+    go : (t : Bool) → ltb (insideRows n f xs) n ≡ t → orInside t (Outside (rowWall f xs (insideRows n f xs))) ≡ Outside wall → (wall ≡ rowWall f xs (insideRows n f xs)) × (insideRows n f xs < n)
+    go true e g = (cc, ltb-true (insideRows n f xs) n e)
     go false e g = let z : _≡_ {A = ℕ} 0 1 = cc in absurd (omega arith)
 
 -- row i's code

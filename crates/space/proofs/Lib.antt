@@ -4,6 +4,7 @@ pub mod Boxes
 pub mod Rounding
 pub mod Patterns
 pub mod Points
+pub mod Walls
 pub mod Batches
 pub mod Refusals
 pub mod Examples

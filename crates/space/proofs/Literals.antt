@@ -1,8 +1,8 @@
 -- The literals of the code, which come as bit patterns, and the values that the definitions name.
 use mathlib.Core.Path.{_≡_, refl}
-use mathlib.Core.Bool.{false}
+use mathlib.Core.Bool.{true, false}
 use lib.IntN.{pos, negsuc}
-use lib.Ieee.{fin, binary64, ofBits}
+use lib.Ieee.{inf, fin, binary64, ofBits, neg}
 
 pub zero-is : ofBits binary64 0 ≡ fin false 0 (pos 0)
 unfolding ofBits
@@ -19,3 +19,12 @@ radius-limit-is = refl
 pub centre-limit-is : ofBits binary64 4715268809856909312 ≡ fin false 1 (pos 24)
 unfolding ofBits
 centre-limit-is = refl
+
+-- the infinity, and its negative
+pub top-is : ofBits binary64 9218868437227405312 ≡ inf false
+unfolding ofBits
+top-is = refl
+
+pub minus-top-is : neg (ofBits binary64 9218868437227405312) ≡ inf true
+unfolding ofBits neg
+minus-top-is = refl

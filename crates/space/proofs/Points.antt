@@ -6,7 +6,7 @@ use Prim.Native.Nat.{ℕ, _+_, _≤_, _<_}
 use native.Mathlib.Omega.{arith}
 use lib.Dec.{ltb, lit<}
 use lib.IntN.{pos, negsuc}
-use lib.Ieee.{Float, nan, binary64, sub, ofBits}
+use lib.Ieee.{Float, nan, binary64, sub, ofBits, lt}
 use lib.ListN.{getD, drop}
 use lib.Seq.{getD-drop}
 use borrow.Author.Tests.{lt-ltb, le-ltb, ltb-true}
@@ -15,9 +15,10 @@ use Rattle.space.specs.declared.Box.{Box}
 use Rattle.space.specs.declared.Frame.{Frame}
 use Rattle.space.specs.declared.Located.{Located}
 use Rattle.space.specs.declared.Place.{Place}
-use Rattle.space.specs.declared.Place.the-variants.{At, Outside}
-use Rattle.space.specs.Floats.{Floor, noFloor, whole, floor}
-use Rattle.space.specs.Cells.{displacement, quotient, side, pick, cellIn, cell16, placeNumber, inside, anchors16, code16, pointPlace, locatedOf}
+use Rattle.space.specs.declared.Place.the-variants.{At, NotFinite, Below, Above}
+use Rattle.space.specs.declared.Cell.the-variants.{Number, Outside}
+use Rattle.space.specs.Floats.{nought, isFinite, Floor, noFloor, whole, floor}
+use Rattle.space.specs.Cells.{displacement, quotient, side, pick, wallBy, cellIn, cellOf, cell16, isAt, placeNumber, numberIn, inside, anchors16, code16, codeOr, pointCode, locatedOf}
 use Rattle.codes.specs.Anchors.{Bytes2}
 use Rattle.morton.specs.Anchors.{encode}
 use Rattle.space.proofs.Literals.{zero-is}
@@ -35,44 +36,65 @@ module _ (f : Frame) (xs : List Float) where
   unfolding cell16
   cell-past a h = rw (le-ltb a (f .axes) h)
 
-  pub cell-on : (a : ℕ) → a < f .axes → cell16 f xs a ≡ cellIn 65536 (floor (quotient (getD xs a nan) (getD (f .displacement) a nan) (f .side)))
+  pub cell-on : (a : ℕ) → a < f .axes → cell16 f xs a ≡ cellOf 65536 (getD xs a nan) (getD (f .displacement) a nan) (f .side)
   unfolding cell16
   cell-on a h = rw (lt-ltb a (f .axes) h)
 
 pub cell-read : (f : Frame) (xs : List Float) (at a : ℕ) (p : Place) → a < f .axes
-    → p ≡ cellIn 65536 (floor (quotient (getD xs (at + a) nan) (getD (f .displacement) a nan) (f .side))) → p ≡ cell16 f (drop at xs) a
+    → p ≡ cellOf 65536 (getD xs (at + a) nan) (getD (f .displacement) a nan) (f .side) → p ≡ cell16 f (drop at xs) a
 cell-read f xs at a p h e =
-    e ∙ ap (λ x. cellIn 65536 (floor (quotient x (getD (f .displacement) a nan) (f .side)))) (sym (getD-drop at xs a nan)) ∙ sym (cell-on f (drop at xs) a h)
+    e ∙ ap (λ x. cellOf 65536 x (getD (f .displacement) a nan) (f .side)) (sym (getD-drop at xs a nan)) ∙ sym (cell-on f (drop at xs) a h)
+
+-- a coordinate at a cell, and one at none
+at-number : (p : Place) (k : ℕ) → numberIn p ≡ Number k → p ≡ At k
+at-number (At j) k h = cc
+at-number NotFinite k h = let z : _≡_ {A = ℕ} 0 1 = cc in absurd (omega arith)
+at-number Below k h = let z : _≡_ {A = ℕ} 0 1 = cc in absurd (omega arith)
+at-number Above k h = let z : _≡_ {A = ℕ} 0 1 = cc in absurd (omega arith)
+
+at-none : (p : Place) → numberIn p ≡ Outside → isAt p ≡ false
+at-none (At j) h = let z : _≡_ {A = ℕ} 0 1 = cc in absurd (omega arith)
+at-none NotFinite h = refl
+at-none Below h = refl
+at-none Above h = refl
 
 -- the point is outside by axis 0, 1 or 2, or inside
 module _ (f : Frame) (xs : List Float) where
-  pub out-0 : cell16 f xs 0 ≡ Outside → inside f xs ≡ false
+  pub out-0 : numberIn (cell16 f xs 0) ≡ Outside → inside f xs ≡ false
   unfolding inside
-  out-0 h = rw h
+  out-0 h = rw (at-none (cell16 f xs 0) h)
 
-  pub out-1 : (x : ℕ) → cell16 f xs 0 ≡ At x → cell16 f xs 1 ≡ Outside → inside f xs ≡ false
+  pub out-1 : (x : ℕ) → numberIn (cell16 f xs 0) ≡ Number x → numberIn (cell16 f xs 1) ≡ Outside → inside f xs ≡ false
   unfolding inside
-  out-1 x h i = rw (h, i)
+  out-1 x h i = rw (at-number (cell16 f xs 0) x h, at-none (cell16 f xs 1) i)
 
-  pub out-2 : (x y : ℕ) → cell16 f xs 0 ≡ At x → cell16 f xs 1 ≡ At y → cell16 f xs 2 ≡ Outside → inside f xs ≡ false
+  pub out-2 : (x y : ℕ) → numberIn (cell16 f xs 0) ≡ Number x → numberIn (cell16 f xs 1) ≡ Number y → numberIn (cell16 f xs 2) ≡ Outside → inside f xs ≡ false
   unfolding inside
-  out-2 x y h i j = rw (h, i, j)
+  out-2 x y h i j = rw (at-number (cell16 f xs 0) x h, at-number (cell16 f xs 1) y i, at-none (cell16 f xs 2) j)
 
   pub outside-located : inside f xs ≡ false → record { inside = false; anchor = 0 ∷ 0 ∷ 0 ∷ [] } ≡ locatedOf f xs
   outside-located h = rw h
 
-  pub all-in : (x y z : ℕ) → cell16 f xs 0 ≡ At x → cell16 f xs 1 ≡ At y → cell16 f xs 2 ≡ At z
+  pub all-in : (x y z : ℕ) → numberIn (cell16 f xs 0) ≡ Number x → numberIn (cell16 f xs 1) ≡ Number y → numberIn (cell16 f xs 2) ≡ Number z
       → record { inside = true; anchor = x ∷ y ∷ z ∷ [] } ≡ locatedOf f xs
   unfolding inside anchors16
-  all-in x y z h i j = rw (h, i, j)
+  all-in x y z h i j = rw (at-number (cell16 f xs 0) x h, at-number (cell16 f xs 1) y i, at-number (cell16 f xs 2) z j)
 
 -- ---- anchors are below 65536
-number-under : (n : ℕ) (y : Floor) → 0 < n → placeNumber (cellIn n y) < n
-number-under n noFloor h = h
-number-under n (whole (negsuc k)) h = h
-number-under n (whole (pos k)) h = go (ltb k n) refl
+no-number : (x q : Float) → placeNumber (wallBy x q) ≡ 0
+no-number x q = go (isFinite x) (lt q nought)
   where
-    go : (t : Bool) → ltb k n ≡ t → placeNumber (pick t (At k) Outside) < n
+    go : (s t : Bool) → placeNumber (pick s (pick t Below Above) NotFinite) ≡ 0
+    go true true = refl
+    go true false = refl
+    go false t = refl
+
+number-under : (n : ℕ) (y : Floor) (w : Place) → placeNumber w < n → placeNumber (cellIn n y w) < n
+number-under n noFloor w h = h
+number-under n (whole (negsuc k)) w h = h
+number-under n (whole (pos k)) w h = go (ltb k n) refl
+  where
+    go : (t : Bool) → ltb k n ≡ t → placeNumber (pick t (At k) w) < n
     go true e = ltb-true k n e
     go false e = h
 
@@ -81,8 +103,11 @@ module _ (f : Frame) (xs : List Float) where
   unfolding cell16
   anchor-under a = go (ltb a (f .axes))
     where
-      go : (t : Bool) → placeNumber (pick t (cellIn 65536 (floor (quotient (getD xs a nan) (getD (f .displacement) a nan) (f .side)))) (At 0)) < 65536
-      go true = number-under 65536 (floor (quotient (getD xs a nan) (getD (f .displacement) a nan) (f .side))) (lit< tt)
+      go : (t : Bool) → placeNumber (pick t (cellOf 65536 (getD xs a nan) (getD (f .displacement) a nan) (f .side)) (At 0)) < 65536
+      go true =
+          let x = getD xs a nan in
+          let q = quotient x (getD (f .displacement) a nan) (f .side) in
+          number-under 65536 (floor q) (wallBy x q) (subst (λ n. n < 65536) (sym (no-number x q)) (lit< tt))
       go false = lit< tt
 
   pub two-bytes : (l : List ℕ) → l ≡ anchors16 f xs → Bytes2 l
@@ -98,24 +123,24 @@ module _ (f : Frame) (xs : List Float) where
   pub located-out : (r : Located) → r ≡ locatedOf f xs → r .inside ≡ false → inside f xs ≡ false
   located-out r e h = sym (ap (λ l. l .inside) e) ∙ h
 
-  pub place-in : (k : ℕ) → inside f xs ≡ true → k ≡ encode (f .axes) (f .axes) 16 (anchors16 f xs) → At k ≡ pointPlace f xs
+  pub place-in : (k : ℕ) → inside f xs ≡ true → k ≡ encode (f .axes) (f .axes) 16 (anchors16 f xs) → Number k ≡ pointCode f xs
   unfolding code16
   place-in k h e = rw (h, e)
 
-  pub place-out : inside f xs ≡ false → Outside ≡ pointPlace f xs
+  pub place-out : inside f xs ≡ false → Outside ≡ pointCode f xs
   place-out h = rw h
 
-  pub placed-in : (k : ℕ) → pointPlace f xs ≡ At k → (inside f xs ≡ true) × (k ≡ code16 f xs)
+  pub placed-in : (k : ℕ) → pointCode f xs ≡ Number k → (inside f xs ≡ true) × (k ≡ code16 f xs)
   placed-in k h = go (inside f xs) refl h
     where
-      go : (t : Bool) → inside f xs ≡ t → pick t (At (code16 f xs)) Outside ≡ At k → (inside f xs ≡ true) × (k ≡ code16 f xs)
+      go : (t : Bool) → inside f xs ≡ t → codeOr t (code16 f xs) ≡ Number k → (inside f xs ≡ true) × (k ≡ code16 f xs)
       go true e g = (e, cc)
       go false e g = let z : _≡_ {A = ℕ} 0 1 = cc in absurd (omega arith)
 
-  pub placed-out : pointPlace f xs ≡ Outside → inside f xs ≡ false
+  pub placed-out : pointCode f xs ≡ Outside → inside f xs ≡ false
   placed-out h = go (inside f xs) refl h
     where
-      go : (t : Bool) → inside f xs ≡ t → pick t (At (code16 f xs)) Outside ≡ Outside → inside f xs ≡ false
+      go : (t : Bool) → inside f xs ≡ t → codeOr t (code16 f xs) ≡ Outside → inside f xs ≡ false
       go true e g = let z : _≡_ {A = ℕ} 0 1 = cc in absurd (omega arith)
       go false e g = e
 

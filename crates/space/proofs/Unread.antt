@@ -13,10 +13,9 @@ use Rattle.refusal.specs.declared.Refusal.the-variants.{Dims, Box as OutOfDomai
 use Rattle.space.specs.declared.Box.{Box}
 use Rattle.space.specs.declared.Frame.{Frame}
 use Rattle.space.specs.declared.Place.the-variants.{At}
-use Rattle.space.specs.Floats.{floor}
 use Rattle.refusal.specs.Chain.{ask, _then_}
 use Rattle.space.specs.Domain.{radiusKnown, centreKnown, centresKnown, boxOutcome}
-use Rattle.space.specs.Cells.{onAxis, displacement, side, quotient, pick, cellIn, frameOf, cell16}
+use Rattle.space.specs.Cells.{onAxis, displacement, side, pick, cellOf, frameOf, cell16}
 
 module _ (b : Box) (cs : List Float) (same : (a : ℕ) → a < b .axes → getD cs a nan ≡ getD (b .centre) a nan) where
   -- the box with another centre
@@ -46,7 +45,7 @@ pub point-unread : (f : Frame) (xs ys : List Float) → ((a : ℕ) → a < f .ax
 unfolding cell16
 point-unread f xs ys same a = go (ltb a (f .axes)) refl
   where
-    go : (t : Bool) → ltb a (f .axes) ≡ t → pick t (cellIn 65536 (floor (quotient (getD ys a nan) (getD (f .displacement) a nan) (f .side)))) (At 0)
-        ≡ pick t (cellIn 65536 (floor (quotient (getD xs a nan) (getD (f .displacement) a nan) (f .side)))) (At 0)
-    go true e = ap (λ x. cellIn 65536 (floor (quotient x (getD (f .displacement) a nan) (f .side)))) (same a (ltb-true a (f .axes) e))
+    go : (t : Bool) → ltb a (f .axes) ≡ t → pick t (cellOf 65536 (getD ys a nan) (getD (f .displacement) a nan) (f .side)) (At 0)
+        ≡ pick t (cellOf 65536 (getD xs a nan) (getD (f .displacement) a nan) (f .side)) (At 0)
+    go true e = ap (λ x. cellOf 65536 x (getD (f .displacement) a nan) (f .side)) (same a (ltb-true a (f .axes) e))
     go false e = refl

@@ -1,4 +1,4 @@
--- Numbers of IEEE 754 binary64: a size, and a floor.
+-- Numbers of IEEE 754 binary64: a size, a test, and a floor.
 use Prim.Native.Nat.{ℕ, _+_, _-_, _*_, _/_}
 use mathlib.Core.Bool.{Bool, true, false}
 use lib.IntN.{ℤ, pos, negℤ}
@@ -13,6 +13,12 @@ unfoldable pub sizeOf : Float → Float
 sizeOf nan = nan
 sizeOf (inf s) = inf false
 sizeOf (fin s m e) = fin false m e
+
+-- neither a NaN nor an infinity
+abbrev pub isFinite : Float → Bool
+isFinite nan = false
+isFinite (inf s) = false
+isFinite (fin s m e) = true
 
 -- a NaN and an infinity have no floor
 pub data Floor : Type 0 where

@@ -1,4 +1,5 @@
 pub mod Floats
 pub mod Domain
 pub mod Cells
+pub mod Walls
 pub mod Rows

@@ -1,15 +1,17 @@
 -- Points in a flat slice, one row of `axes` numbers after the other.
 use mathlib.Core.Bool.{Bool, true, false, cond}
 use mathlib.Core.List.{List, [], _∷_, _++_}
-use Prim.Native.Nat.{ℕ, zero, suc, _/_}
+use Prim.Native.Nat.{ℕ, zero, suc, _*_, _/_}
 use lib.Dec.{ltb}
 use lib.Ieee.{Float}
 use lib.ListN.{length, drop}
+use Rattle.refusal.specs.declared.Wall.{Wall}
 use Rattle.space.specs.declared.Box.{Box}
 use Rattle.space.specs.declared.Frame.{Frame}
 use Rattle.space.specs.declared.Rows.{Rows}
 use Rattle.space.specs.declared.Rows.the-variants.{Inside, Outside}
 use Rattle.space.specs.Cells.{frameOf, inside, code16}
+use Rattle.space.specs.Walls.{firstWall}
 
 -- of n rows, how many stand before the first that is outside
 unfoldable pub insideRows : ℕ → Frame → List Float → ℕ
@@ -25,9 +27,13 @@ abbrev pub orInside : Bool → Rows → Rows
 orInside true r = r
 orInside false r = Inside
 
--- the first of n rows that is outside, if one is
+-- the wall of row i
+abbrev pub rowWall : Frame → List Float → ℕ → Wall
+rowWall f xs i = firstWall i f (drop (i * f .axes) xs)
+
+-- the wall of the first of n rows that is outside, if one is
 abbrev pub firstOutside : ℕ → Frame → List Float → Rows
-firstOutside n f xs = orInside (ltb (insideRows n f xs) n) (Outside (insideRows n f xs))
+firstOutside n f xs = orInside (ltb (insideRows n f xs) n) (Outside (rowWall f xs (insideRows n f xs)))
 
 -- a slice's end content: the codes of the rows before the first that is outside, and the rest as it was
 abbrev pub coded : ℕ → Frame → List Float → List ℕ → List ℕ
@@ -44,3 +50,7 @@ rowsOf b points = length points / b .axes
 -- how many stand before the first that is outside
 abbrev pub rowsInside : Box → List Float → ℕ
 rowsInside b points = insideRows (rowsOf b points) (frameOf b) points
+
+-- the wall of that one
+abbrev pub wallOf : Box → List Float → Wall
+wallOf b points = rowWall (frameOf b) points (rowsInside b points)

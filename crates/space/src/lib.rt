@@ -1,11 +1,13 @@
-// The box, and the cell in which a point lies.
+// The box, and the cell in which a point lies or the wall that it is behind.
 use refusal::Outcome;
 use refusal::Refusal;
+use refusal::Wall;
 ghost use mathlib.Core.Path.{_≡_};
 ghost use Prim.Native.Nat.{_+_, _/_, _≤_, _<_};
 ghost use lib.ListN.{length, drop};
-ghost use Rattle.space.specs.Floats.{sizeOf, floor};
-ghost use Rattle.space.specs.Cells.{displacement as displacementOf, cellIn, side, frameOf, cell16, pointPlace, locatedOf};
+ghost use Rattle.space.specs.Floats.{sizeOf, isFinite, floor};
+ghost use Rattle.space.specs.Cells.{displacement as displacementOf, wallBy, cellIn, side, frameOf, cell16, numberIn, pointCode, locatedOf};
+ghost use Rattle.space.specs.Walls.{reasonOf, firstWall};
 ghost use Rattle.space.specs.Rows.{firstOutside, coded};
 ghost use Rattle.space.specs.Domain.{radiusKnown, centresKnown, boxOutcome, levelOutcome};
 
@@ -71,18 +73,44 @@ pub fn box_outcome(b: Box) -> Outcome
     Outcome::Done
 }
 
-// Where a coordinate lies on an axis: its cell's number, or outside the box. And a point: its cell's code, or outside.
+// Where a coordinate lies on an axis: its cell's number; or it is not finite, below the box, or above it.
 pub enum Place {
     At(u64),
-    Outside,
+    NotFinite,
+    Below,
+    Above,
 }
 
-// The cell of a quotient among 65536, from its bits: its floor, where that is one of 0..65535.
-fn cell_of(q: f64) -> Place
-    ensures { λ r. ⌜ r ≡ cellIn 65536 (floor q) ⌝ }
+// Neither a NaN nor an infinity.
+pub fn is_finite(x: f64) -> bool
+    ensures { λ r. ⌜ r ≡ isFinite x ⌝ }
+{
+    let top: f64 = f64::from_bits(0x7ff0_0000_0000_0000);
+    if x < top {
+        return -top < x;
+    }
+    false
+}
+
+// Why a coordinate with this quotient is at no cell: the coordinate itself is asked first.
+fn wall_by(x: f64, q: f64) -> Place
+    ensures { λ r. ⌜ r ≡ wallBy x q ⌝ }
+{
+    if !is_finite(x) {
+        return Place::NotFinite;
+    }
+    if q < 0.0 {
+        return Place::Below;
+    }
+    Place::Above
+}
+
+// The cell among 65536 of a coordinate, from its quotient's bits: the floor, where that is one of 0..65535; or the wall.
+fn cell_of(x: f64, q: f64) -> Place
+    ensures { λ r. ⌜ r ≡ cellIn 65536 (floor q) (wallBy x q) ⌝ }
 {
     if q != q {
-        return Place::Outside;
+        return wall_by(x, q);
     }
     let bits: u64 = f64::to_bits(q);
     if bits >= 0x8000_0000_0000_0000 {
@@ -90,7 +118,7 @@ fn cell_of(q: f64) -> Place
         if bits == 0x8000_0000_0000_0000 {
             return Place::At(0);
         }
-        return Place::Outside;
+        return wall_by(x, q);
     }
     // from 1.0 on q is `digits` * 2 ^ (`exponent` - 1075)
     let exponent: u64 = bits >> 52;
@@ -99,7 +127,7 @@ fn cell_of(q: f64) -> Place
     }
     // 65536.0 and more, and the infinity
     if exponent >= 1039 {
-        return Place::Outside;
+        return wall_by(x, q);
     }
     let digits: u64 = (bits & 0xf_ffff_ffff_ffff) | 0x10_0000_0000_0000;
     Place::At(digits >> (1075 - exponent))
@@ -149,7 +177,28 @@ fn place_on(f: Frame, points: &[f64], at: usize, a: usize) -> Place
     if a >= f.axes {
         return Place::At(0);
     }
-    cell_of((points[at + a] - f.displacement[a]) / f.side)
+    let x = points[at + a];
+    cell_of(x, (x - f.displacement[a]) / f.side)
+}
+
+// The number of a coordinate's cell on its axis, or of a point's cell, which is its code; or outside, which is all that the way of
+// most points needs to know. `wall_of` looks a second time.
+pub enum Cell {
+    Number(u64),
+    Outside,
+}
+
+fn cell_on(f: Frame, points: &[f64], at: usize, a: usize) -> Cell
+    requires { ⌜ (a < 3) × (at + f .axes ≤ length (now points)) ⌝ }
+    ensures { λ r. ⌜ r ≡ numberIn (cell16 f (drop at (now (points .entry))) a) ⌝ }
+{
+    let place = place_on(f, points, at, a);
+    match place {
+        Place::At(k) => Cell::Number(k),
+        Place::NotFinite => Cell::Outside,
+        Place::Below => Cell::Outside,
+        Place::Above => Cell::Outside,
+    }
 }
 
 // Whether a point is inside, and its level-16 anchors if it is.
@@ -167,13 +216,13 @@ pub fn locate(f: Frame, points: &[f64], at: usize) -> Located
         inside: false,
         anchor: [0, 0, 0],
     };
-    let Place::At(x) = place_on(f, points, at, 0) else {
+    let Cell::Number(x) = cell_on(f, points, at, 0) else {
         return outside;
     };
-    let Place::At(y) = place_on(f, points, at, 1) else {
+    let Cell::Number(y) = cell_on(f, points, at, 1) else {
         return outside;
     };
-    let Place::At(z) = place_on(f, points, at, 2) else {
+    let Cell::Number(z) = cell_on(f, points, at, 2) else {
         return outside;
     };
     Located {
@@ -182,27 +231,64 @@ pub fn locate(f: Frame, points: &[f64], at: usize) -> Located
     }
 }
 
-// The points of a batch: all inside, or which is the first outside.
-pub enum Rows {
-    Inside,
-    Outside(usize),
+fn reason_of(place: Place) -> u16
+    ensures { λ r. ⌜ r ≡ reasonOf place ⌝ }
+{
+    match place {
+        Place::At(_) => 0,
+        Place::NotFinite => 1,
+        Place::Below => 2,
+        Place::Above => 3,
+    }
+}
+
+fn behind(index: usize, axis: u16, reason: u16) -> Wall
+    ensures { λ r. ⌜ r ≡ record { index = index; axis = axis; reason = reason } ⌝ }
+{
+    Wall {
+        index,
+        axis,
+        reason,
+    }
+}
+
+// The wall that the point that begins at `at` is behind, on the first axis that has one; reason 0 where the point is inside.
+pub fn wall_of(f: Frame, points: &[f64], at: usize, index: usize) -> Wall
+    requires { ⌜ at + f .axes ≤ length (now points) ⌝ }
+    ensures { λ r. ⌜ r ≡ firstWall index f (drop at (now (points .entry))) ⌝ }
+{
+    let x = reason_of(place_on(f, points, at, 0));
+    if x != 0 {
+        return behind(index, 0, x);
+    }
+    let y = reason_of(place_on(f, points, at, 1));
+    if y != 0 {
+        return behind(index, 1, y);
+    }
+    behind(index, 2, reason_of(place_on(f, points, at, 2)))
 }
 
 // The code of the point that begins at `at`, on the frame's axes.
-pub fn code_at(f: Frame, points: &[f64], at: usize) -> Place
+pub fn code_at(f: Frame, points: &[f64], at: usize) -> Cell
     requires { ⌜ (1 ≤ f .axes) × (f .axes ≤ 3) × (at + f .axes ≤ length (now points)) ⌝ }
-    ensures { λ r. ⌜ r ≡ pointPlace f (drop at (now (points .entry))) ⌝ }
+    ensures { λ r. ⌜ r ≡ pointCode f (drop at (now (points .entry))) ⌝ }
 {
-    let Place::At(x) = place_on(f, points, at, 0) else {
-        return Place::Outside;
+    let Cell::Number(x) = cell_on(f, points, at, 0) else {
+        return Cell::Outside;
     };
-    let Place::At(y) = place_on(f, points, at, 1) else {
-        return Place::Outside;
+    let Cell::Number(y) = cell_on(f, points, at, 1) else {
+        return Cell::Outside;
     };
-    let Place::At(z) = place_on(f, points, at, 2) else {
-        return Place::Outside;
+    let Cell::Number(z) = cell_on(f, points, at, 2) else {
+        return Cell::Outside;
     };
-    Place::At(codes::encode(f.axes, [x, y, z]))
+    Cell::Number(codes::encode(f.axes, [x, y, z]))
+}
+
+// The points of a batch: all inside, or the wall of the first that is outside.
+pub enum Rows {
+    Inside,
+    Outside(Wall),
 }
 
 // Writes the codes of the points, up to the first that is outside.
@@ -218,11 +304,11 @@ pub fn points_to_codes(b: Box, points: &[f64], codes: &mut [u64]) -> Rows
     let mut at = 0;
     while row < rows {
         match code_at(f, points, at) {
-            Place::At(code) => {
+            Cell::Number(code) => {
                 codes[row] = code;
             }
-            Place::Outside => {
-                return Rows::Outside(row);
+            Cell::Outside => {
+                return Rows::Outside(wall_of(f, points, at, row));
             }
         }
         row += 1;

@@ -11,7 +11,8 @@ use lib.Dec.{ltb, eqb}
 use lib.ListN.{length, getD, length-append}
 use borrow.Author.Tests.{lt-ltb, le-ltb, eq-eqb, ne-eqb}
 use Rattle.refusal.specs.declared.Refusal.{Refusal}
-use Rattle.refusal.specs.Numbers.{numberOf, valueOf}
+use Rattle.refusal.specs.Numbers.{numberOf, valuesOf}
+use Rattle.text.proofs.Refused.{values-most}
 use Rattle.slices.specs.Lists.{filter, sum, concatMap, range}
 use Rattle.slices.proofs.Sums.{sum-same, sum-both, sum-none, sum-less}
 use Rattle.morton.specs.Keys.{levelOf}
@@ -167,5 +168,5 @@ module _ (key own : List ℕ) where
     listing-fits n nu nv axes depth sources work = omega (arith, listing-most axes depth sources work)
 
 -- and the one line of a refusal
-pub refusal-most : (r : Refusal) → length (refusalLine r) ≤ 50
-refusal-most r = line-most (114 ∷ 101 ∷ 102 ∷ 117 ∷ 115 ∷ 101 ∷ 100 ∷ []) (numberOf r ∷ valueOf r ∷ [])
+pub refusal-most : (r : Refusal) → length (refusalLine r) ≤ 92
+refusal-most r = omega (arith, line-most (114 ∷ 101 ∷ 102 ∷ 117 ∷ 115 ∷ 101 ∷ 100 ∷ []) (numberOf r ∷ valuesOf r), values-most r)

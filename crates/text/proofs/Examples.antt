@@ -2,7 +2,7 @@
 use mathlib.Core.Path.{_≡_, refl}
 use mathlib.Core.List.{List, [], _∷_, _++_}
 use lib.ListN.{getD}
-use Rattle.refusal.specs.declared.Refusal.the-variants.{Room}
+use Rattle.refusal.specs.declared.Refusal.the-variants.{Source, Room}
 use Rattle.slices.specs.Every.{every}
 use Rattle.slices.specs.Lists.{concatMap, range, any, filter, sum}
 use Rattle.slices.specs.Order.{ascending}
@@ -33,6 +33,11 @@ example = refl
 pub short : refusalLine (Room 3) ≡ ascii "refused 8 3\n"
 unfolding concatMap digits
 short = refl
+
+-- a source behind a wall: its index, the axis and the reason
+pub behind : refusalLine (Source (record { index = 17; axis = 1; reason = 2 })) ≡ ascii "refused 6 17 1 2\n"
+unfolding concatMap digits
+behind = refl
 
 -- the largest u64
 pub largest : decimal 18446744073709551615 ≡ ascii "18446744073709551615"

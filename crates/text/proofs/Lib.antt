@@ -1,3 +1,4 @@
+pub mod Refused
 pub mod Examples
 pub mod Putting
 pub mod Lined

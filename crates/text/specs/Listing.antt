@@ -6,7 +6,7 @@ use Prim.Native.Nat.{ℕ, suc}
 use lib.Dec.{leb, eqb}
 use lib.ListN.{length, getD}
 use Rattle.refusal.specs.declared.Refusal.{Refusal}
-use Rattle.refusal.specs.Numbers.{numberOf, valueOf}
+use Rattle.refusal.specs.Numbers.{numberOf, valuesOf}
 use Rattle.slices.specs.Lists.{range, filter, concatMap, filled}
 use Rattle.morton.specs.Keys.{deepest, levelOf}
 use Rattle.tree.specs.Order.{depthOf}
@@ -31,9 +31,9 @@ line word ns = word ++ fields ns ++ code "\n" ∷ []
 abbrev pub firstLine : ℕ → ℕ → ℕ → ℕ → ℕ → List ℕ
 firstLine axes nodes depth sources work = line (ascii "tree") (axes ∷ nodes ∷ depth ∷ sources ∷ work ∷ [])
 
--- `refused`, number, value
+-- `refused`, number, values: one, or the three of 6 and 7
 abbrev pub refusalLine : Refusal → List ℕ
-refusalLine r = line (ascii "refused") (numberOf r ∷ valueOf r ∷ [])
+refusalLine r = line (ascii "refused") (numberOf r ∷ valuesOf r)
 
 -- a letter after a blank, and then keys
 abbrev pub lettered : ℕ → List ℕ → List ℕ

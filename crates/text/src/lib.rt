@@ -292,7 +292,16 @@ pub fn write_refusal(refusal: Refusal, out: &mut [u8]) -> Text
     ensures answer { λ r. ⌜ r ≡ textAnswer (length (now (out .entry))) (refusalLine refusal) ⌝ }
     ensures text { λ _. ⌜ now (out .exit) ≡ textLeft (length (now (out .entry))) (refusalLine refusal) ⌝ }
 {
-    let numbers = [refusal::number(refusal), refusal::value(refusal) as u64];
+    let number = refusal::number(refusal);
+    let value = refusal::value(refusal) as u64;
+    if refusal::count(refusal) == 1 {
+        let numbers = [number, value];
+        let n = put_line(out, 0, b"refused", &numbers);
+        return finish(out, n);
+    }
+    let axis = refusal::axis(refusal) as u64;
+    let reason = refusal::reason(refusal) as u64;
+    let numbers = [number, value, axis, reason];
     let n = put_line(out, 0, b"refused", &numbers);
     finish(out, n)
 }

@@ -7,9 +7,11 @@ mod points;
 mod trees;
 
 use crate::keys::refused;
+use crate::oracle;
 use crate::random::Random;
 use crate::tally::Tally;
 use lohandema::Refusal;
+use lohandema::points::Bounds;
 use std::collections::BTreeSet;
 use std::fmt::Debug;
 
@@ -51,6 +53,20 @@ impl Rows<'_, '_> {
     ) {
         self.t.refusal();
         self.answered(row, input, (ours, refused(number, value)), theirs);
+    }
+
+    /// The Rust answers, and we refuse point 0 on one axis, with its wall.
+    fn outside<A: PartialEq + Debug, B: PartialEq + Debug>(
+        &mut self,
+        row: &str,
+        input: &str,
+        ours: Result<A, Refusal>,
+        (number, b, x): (u64, &Bounds, f64),
+        theirs: Seen<B>,
+    ) {
+        self.t.refusal();
+        let right = oracle::refused_at(number, 0, b, &[x]);
+        self.answered(row, input, (ours, right), theirs);
     }
 
     /// The Rust cannot be asked.

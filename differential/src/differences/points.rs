@@ -37,7 +37,7 @@ fn outside(rows: &mut Rows) {
     for (row, b, x, anchor) in cases {
         let theirs = (oracle::anchors(&b, &[x], 16), vec![anchor]);
         let ours = b.point_to_anchor(&[x], 16);
-        rows.refused(row, &format!("{x}"), ours, (7, 0), theirs);
+        rows.outside(row, &format!("{x}"), ours, (7, &b, x), theirs);
     }
     // decided by the operations too, and inside on both sides
     let ours = wide.point_to_anchor(&[-5e-324], 16);

@@ -74,12 +74,14 @@ fn outside(rows: &mut Rows) {
     for (row, x, node) in cases {
         let s = survey(&[x]);
         let seen = (nodes(&s), vec![0, node]);
-        rows.refused(row, &format!("source {x}"), build(&s), (6, 0), seen);
+        let input = format!("source {x}");
+        rows.outside(row, &input, build(&s), (6, &s.bounds, x), seen);
     }
     for x in [-1.0, f64::NAN, 8.0] {
         let s = with_target(x);
         let seen = (nodes(&s), vec![0, 1, 32769]);
-        rows.refused("T3", &format!("target {x}"), build(&s), (7, 0), seen);
+        let input = format!("target {x}");
+        rows.outside("T3", &input, build(&s), (7, &s.bounds, x), seen);
     }
 }
 
@@ -164,21 +166,21 @@ fn lookup_outside(rows: &mut Rows) {
     for (row, x, said) in cases {
         let seen = (lookup(&EXAMPLE, &[x]), said);
         let ours = example().points_to_keys(&[x]);
-        rows.refused(row, &format!("point {x}"), ours, (7, 0), seen);
+        rows.outside(row, &format!("point {x}"), ours, (7, &EXAMPLE, x), seen);
     }
 }
 
 fn lookup_unstored(rows: &mut Rows) {
-    let cases: [(&str, [f64; 2], (u64, usize)); 3] = [
-        ("T14", [0.5, 3.0], (12, 1)),
-        ("T15", [3.0, 8.0], (12, 0)),
-        ("T15", [8.0, 3.0], (7, 0)),
-    ];
+    let cases: [(&str, [f64; 2], (u64, usize)); 2] =
+        [("T14", [0.5, 3.0], (12, 1)), ("T15", [3.0, 8.0], (12, 0))];
     for (row, points, refusal) in cases {
         let seen = (lookup(&EXAMPLE, &points), outside_tree(refusal.1));
         let ours = example().points_to_keys(&points);
         rows.refused(row, &format!("points {points:?}"), ours, refusal, seen);
     }
+    let seen = (lookup(&EXAMPLE, &[8.0, 3.0]), outside_tree(0));
+    let ours = example().points_to_keys(&[8.0, 3.0]);
+    rows.outside("T15", "points 8, 3", ours, (7, &EXAMPLE, 8.0), seen);
 }
 
 fn lookup_other(rows: &mut Rows) {

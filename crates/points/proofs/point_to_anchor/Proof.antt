@@ -5,7 +5,6 @@ use native.Mathlib.Omega.{arith}
 use lib.ListN.{length}
 use borrow.Author.Needs.{needs}
 use borrow.Author.Tests.{not-true, not-false}
-use Rattle.refusal.specs.declared.Refusal.the-variants.{Point}
 use Rattle.space.specs.Cells.{frameOf, locatedOf}
 use Rattle.space.proofs.Points.{located-in, located-out}
 use Rattle.space.proofs.Refusals.{Fine, level-done}
@@ -52,37 +51,40 @@ locate-requires c κs =
 where-is : (c : tie.After-locate) → c .locate .result ≡ locatedOf (frameOf (c .before .before .before .before .before .before .args .b)) (c .before .before .before .before .before .before .args .t2)
 where-is c = c .locate .ensures ∙ ap (λ f. locatedOf f (c .before .before .before .before .before .before .args .t2)) (c .before .before .frame-of .ensures)
 
+outside-requires : tie.Need-outside-requires
+outside-requires c κs = done (c .before .before .before .before) .0 .most
+
 not-anchored-requires-2 : tie.Need-not-anchored-requires-2
 not-anchored-requires-2 c κs = search needs
 
 returns-2 : tie.Need-returns-2
 returns-2 c =
-    let b = c .before .before .before .before .before .before .before .before .args .b in
-    let xs = c .before .before .before .before .before .before .before .before .args .t2 in
-    let level = c .before .before .before .before .before .before .before .before .args .level in
-    let out = located-out (frameOf b) xs (c .before .before .locate .result) (where-is (c .before .before)) (not-true _ (c .before .if1 .taken)) in
-    refused-anchors b xs level (Point 0) (c .not-anchored2 .result) _ (c .not-anchored2 .ensures) (point-out b xs level (sym (c .before .before .before .before .before .before .before .level-outcome .ensures) ∙ c .before .before .before .before .before .enum-told .given .1) out)
+    let b = c .before .before .before .before .before .before .before .before .before .args .b in
+    let xs = c .before .before .before .before .before .before .before .before .before .args .t2 in
+    let level = c .before .before .before .before .before .before .before .before .before .args .level in
+    let out = located-out (frameOf b) xs (c .before .before .before .locate .result) (where-is (c .before .before .before)) (not-true _ (c .before .before .if1 .taken)) in
+    refused-anchors b xs level (c .before .outside .result) (c .not-anchored2 .result) _ (c .not-anchored2 .ensures) (point-out b xs level (c .before .outside .result) (c .before .outside .ensures) (sym (c .before .before .before .before .before .before .before .before .level-outcome .ensures) ∙ c .before .before .before .before .before .before .enum-told .given .1) out)
 
 sub-up : tie.Need-sub-up
 sub-up c = omega (arith, done (c .before .before .before .before) .1)
 
-element-copy-out-t19 : tie.Need-element-copy-out-t19
-element-copy-out-t19 c = search needs
+element-copy-out-t20 : tie.Need-element-copy-out-t20
+element-copy-out-t20 c = search needs
 
-shr-t20 : tie.Need-shr-t20
-shr-t20 c = search needs
+shr-t21 : tie.Need-shr-t21
+shr-t21 c = search needs
 
-element-copy-out-t23 : tie.Need-element-copy-out-t23
-element-copy-out-t23 c = search needs
+element-copy-out-t24 : tie.Need-element-copy-out-t24
+element-copy-out-t24 c = search needs
 
-shr-t24 : tie.Need-shr-t24
-shr-t24 c = search needs
+shr-t25 : tie.Need-shr-t25
+shr-t25 c = search needs
 
-element-copy-out-t27 : tie.Need-element-copy-out-t27
-element-copy-out-t27 c = search needs
+element-copy-out-t28 : tie.Need-element-copy-out-t28
+element-copy-out-t28 c = search needs
 
-shr-t28 : tie.Need-shr-t28
-shr-t28 c = search needs
+shr-t29 : tie.Need-shr-t29
+shr-t29 c = search needs
 
 returns-3 : tie.Need-returns-3
 returns-3 c =
@@ -96,4 +98,4 @@ returns-3 c =
 
 pub point-to-anchor-spec : {M : Type 1} → statement M
 point-to-anchor-spec =
-    tie.close (tie.spec level-outcome-requires enum-known-o not-anchored-requires returns enum-told frame-of-requires slice-aggregate-locate locate-requires not-anchored-requires-2 returns-2 sub-up element-copy-out-t19 shr-t20 element-copy-out-t23 shr-t24 element-copy-out-t27 shr-t28 returns-3)
+    tie.close (tie.spec level-outcome-requires enum-known-o not-anchored-requires returns enum-told frame-of-requires slice-aggregate-locate locate-requires outside-requires not-anchored-requires-2 returns-2 sub-up element-copy-out-t20 shr-t21 element-copy-out-t24 shr-t25 element-copy-out-t28 shr-t29 returns-3)

@@ -7,7 +7,6 @@ use native.Mathlib.Omega.{arith}
 use lib.ListN.{length}
 use lib.Pow.{shr-le}
 use borrow.Author.Tests.{not-true, not-false}
-use Rattle.refusal.specs.declared.Refusal.the-variants.{Point}
 use Rattle.codes.specs.Codes.{encode}
 use Rattle.space.specs.Cells.{frameOf, inside, anchors16, code16, locatedOf}
 use Rattle.space.proofs.Points.{located-in, located-out, two-bytes, place-in, placed-in, code-small}
@@ -53,13 +52,16 @@ locate-requires c κs =
 where-is : (c : tie.After-locate) → c .locate .result ≡ locatedOf (frameOf (c .before .before .before .before .before .before .args .b)) (c .before .before .before .before .before .before .args .t2)
 where-is c = c .locate .ensures ∙ ap (λ f. locatedOf f (c .before .before .before .before .before .before .args .t2)) (c .before .before .frame-of .ensures)
 
+outside-requires : tie.Need-outside-requires
+outside-requires c κs = done (c .before .before .before .before .before) .0 .most
+
 returns-2 : tie.Need-returns-2
 returns-2 c =
-    let b = c .before .before .before .before .before .before .before .before .args .b in
-    let xs = c .before .before .before .before .before .before .before .before .args .t2 in
-    let level = c .before .before .before .before .before .before .before .before .args .level in
-    let out = located-out (frameOf b) xs (c .before .before .locate .result) (where-is (c .before .before)) (not-true _ (c .if1 .taken)) in
-    refused-key b xs level (Point 0) (point-out b xs level (sym (c .before .before .before .before .before .before .before .level-outcome .ensures) ∙ c .before .before .before .before .before .enum-told .given .1) out)
+    let b = c .before .before .before .before .before .before .before .before .before .args .b in
+    let xs = c .before .before .before .before .before .before .before .before .before .args .t2 in
+    let level = c .before .before .before .before .before .before .before .before .before .args .level in
+    let out = located-out (frameOf b) xs (c .before .before .before .locate .result) (where-is (c .before .before .before)) (not-true _ (c .before .if1 .taken)) in
+    refused-key b xs level (c .outside .result) (point-out b xs level (c .outside .result) (c .outside .ensures) (sym (c .before .before .before .before .before .before .before .before .level-outcome .ensures) ∙ c .before .before .before .before .before .before .enum-told .given .1) out)
 
 -- inside: its anchors
 anchors-are : (c : tie.After-anchor) → (inside (frameOf (c .before .before .before .before .before .before .before .before .before .args .b)) (c .before .before .before .before .before .before .before .before .before .args .t2) ≡ true) × (c .before .before .before .locate .result .anchor ≡ anchors16 (frameOf (c .before .before .before .before .before .before .before .before .before .args .b)) (c .before .before .before .before .before .before .before .before .before .args .t2))
@@ -95,14 +97,14 @@ sub-above c = omega (arith, done (c .before .before .before .before .before .bef
 mul-above : tie.Need-mul-above
 mul-above c = omega (arith, up c)
 
-shr-t16 : tie.Need-shr-t16
-shr-t16 c = omega (arith, up c)
+shr-t17 : tie.Need-shr-t17
+shr-t17 c = omega (arith, up c)
 
-mul-t17 : tie.Need-mul-t17
-mul-t17 c = omega (arith, small c)
+mul-t18 : tie.Need-mul-t18
+mul-t18 c = omega (arith, small c)
 
-add-t18 : tie.Need-add-t18
-add-t18 c = omega (arith, small c, done (c .before .before .before .before .before .before .before) .1)
+add-t19 : tie.Need-add-t19
+add-t19 c = omega (arith, small c, done (c .before .before .before .before .before .before .before) .1)
 
 returns-3 : tie.Need-returns-3
 returns-3 c =
@@ -113,4 +115,4 @@ returns-3 c =
 
 pub point-to-key-spec : {M : Type 1} → statement M
 point-to-key-spec =
-    tie.close (tie.spec level-outcome-requires enum-known-o returns enum-told frame-of-requires slice-aggregate-locate locate-requires returns-2 encode-requires sub-above mul-above shr-t16 mul-t17 add-t18 returns-3)
+    tie.close (tie.spec level-outcome-requires enum-known-o returns enum-told frame-of-requires slice-aggregate-locate locate-requires outside-requires returns-2 encode-requires sub-above mul-above shr-t17 mul-t18 add-t19 returns-3)

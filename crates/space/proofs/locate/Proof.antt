@@ -7,8 +7,8 @@ use borrow.Author.Needs.{needs}
 use Rattle.space.proofs.locate.Statement.{statement}
 use Rattle.space.proofs.locate.Tie as tie
 
-place-on-requires : tie.Need-place-on-requires
-place-on-requires c κs = search needs
+cell-on-requires : tie.Need-cell-on-requires
+cell-on-requires c κs = search needs
 
 enum-known-x : tie.Need-enum-known-x
 enum-known-x c = search needs
@@ -17,10 +17,10 @@ enum-told : tie.Need-enum-told
 enum-told c = search needs
 
 returns : tie.Need-returns
-returns c = outside-located (c .before .before .before .before .args .f) (drop (c .before .before .before .before .args .at) (now (c .before .before .before .before .args .points))) (out-0 (c .before .before .before .before .args .f) (drop (c .before .before .before .before .args .at) (now (c .before .before .before .before .args .points))) (sym (c .before .before .place-on .ensures) ∙ c .enum-told .given .1))
+returns c = outside-located (c .before .before .before .before .args .f) (drop (c .before .before .before .before .args .at) (now (c .before .before .before .before .args .points))) (out-0 (c .before .before .before .before .args .f) (drop (c .before .before .before .before .args .at) (now (c .before .before .before .before .args .points))) (sym (c .before .before .cell-on .ensures) ∙ c .enum-told .given .1))
 
-place-on-requires-2 : tie.Need-place-on-requires-2
-place-on-requires-2 c κs = search needs
+cell-on-requires-2 : tie.Need-cell-on-requires-2
+cell-on-requires-2 c κs = search needs
 
 enum-known-y : tie.Need-enum-known-y
 enum-known-y c = search needs
@@ -29,10 +29,10 @@ enum-told-2 : tie.Need-enum-told-2
 enum-told-2 c = search needs
 
 returns-2 : tie.Need-returns-2
-returns-2 c = outside-located (c .before .before .before .before .before .before .before .before .args .f) (drop (c .before .before .before .before .before .before .before .before .args .at) (now (c .before .before .before .before .before .before .before .before .args .points))) (out-1 (c .before .before .before .before .before .before .before .before .args .f) (drop (c .before .before .before .before .before .before .before .before .args .at) (now (c .before .before .before .before .before .before .before .before .args .points))) (c .before .before .before .before .x .given .0 .0) (sym (c .before .before .before .before .before .before .place-on .ensures) ∙ c .before .before .before .before .x .given .1) (sym (c .before .before .place-on2 .ensures) ∙ c .enum-told2 .given .1))
+returns-2 c = outside-located (c .before .before .before .before .before .before .before .before .args .f) (drop (c .before .before .before .before .before .before .before .before .args .at) (now (c .before .before .before .before .before .before .before .before .args .points))) (out-1 (c .before .before .before .before .before .before .before .before .args .f) (drop (c .before .before .before .before .before .before .before .before .args .at) (now (c .before .before .before .before .before .before .before .before .args .points))) (c .before .before .before .before .x .given .0 .0) (sym (c .before .before .before .before .before .before .cell-on .ensures) ∙ c .before .before .before .before .x .given .1) (sym (c .before .before .cell-on2 .ensures) ∙ c .enum-told2 .given .1))
 
-place-on-requires-3 : tie.Need-place-on-requires-3
-place-on-requires-3 c κs = search needs
+cell-on-requires-3 : tie.Need-cell-on-requires-3
+cell-on-requires-3 c κs = search needs
 
 enum-known-z : tie.Need-enum-known-z
 enum-known-z c = search needs
@@ -41,11 +41,11 @@ enum-told-3 : tie.Need-enum-told-3
 enum-told-3 c = search needs
 
 returns-3 : tie.Need-returns-3
-returns-3 c = outside-located (c .before .before .before .before .before .before .before .before .before .before .before .before .args .f) (drop (c .before .before .before .before .before .before .before .before .before .before .before .before .args .at) (now (c .before .before .before .before .before .before .before .before .before .before .before .before .args .points))) (out-2 (c .before .before .before .before .before .before .before .before .before .before .before .before .args .f) (drop (c .before .before .before .before .before .before .before .before .before .before .before .before .args .at) (now (c .before .before .before .before .before .before .before .before .before .before .before .before .args .points))) (c .before .before .before .before .before .before .before .before .x .given .0 .0) (c .before .before .before .before .y .given .0 .0) (sym (c .before .before .before .before .before .before .before .before .before .before .place-on .ensures) ∙ c .before .before .before .before .before .before .before .before .x .given .1) (sym (c .before .before .before .before .before .before .place-on2 .ensures) ∙ c .before .before .before .before .y .given .1) (sym (c .before .before .place-on3 .ensures) ∙ c .enum-told3 .given .1))
+returns-3 c = outside-located (c .before .before .before .before .before .before .before .before .before .before .before .before .args .f) (drop (c .before .before .before .before .before .before .before .before .before .before .before .before .args .at) (now (c .before .before .before .before .before .before .before .before .before .before .before .before .args .points))) (out-2 (c .before .before .before .before .before .before .before .before .before .before .before .before .args .f) (drop (c .before .before .before .before .before .before .before .before .before .before .before .before .args .at) (now (c .before .before .before .before .before .before .before .before .before .before .before .before .args .points))) (c .before .before .before .before .before .before .before .before .x .given .0 .0) (c .before .before .before .before .y .given .0 .0) (sym (c .before .before .before .before .before .before .before .before .before .before .cell-on .ensures) ∙ c .before .before .before .before .before .before .before .before .x .given .1) (sym (c .before .before .before .before .before .before .cell-on2 .ensures) ∙ c .before .before .before .before .y .given .1) (sym (c .before .before .cell-on3 .ensures) ∙ c .enum-told3 .given .1))
 
 returns-4 : tie.Need-returns-4
-returns-4 c = all-in (c .before .before .before .before .before .before .before .before .before .before .before .before .before .args .f) (drop (c .before .before .before .before .before .before .before .before .before .before .before .before .before .args .at) (now (c .before .before .before .before .before .before .before .before .before .before .before .before .before .args .points))) (c .before .before .before .before .before .before .before .before .before .x .given .0 .0) (c .before .before .before .before .before .y .given .0 .0) (c .before .z .given .0 .0) (sym (c .before .before .before .before .before .before .before .before .before .before .before .place-on .ensures) ∙ c .before .before .before .before .before .before .before .before .before .x .given .1) (sym (c .before .before .before .before .before .before .before .place-on2 .ensures) ∙ c .before .before .before .before .before .y .given .1) (sym (c .before .before .before .place-on3 .ensures) ∙ c .before .z .given .1)
+returns-4 c = all-in (c .before .before .before .before .before .before .before .before .before .before .before .before .before .args .f) (drop (c .before .before .before .before .before .before .before .before .before .before .before .before .before .args .at) (now (c .before .before .before .before .before .before .before .before .before .before .before .before .before .args .points))) (c .before .before .before .before .before .before .before .before .before .x .given .0 .0) (c .before .before .before .before .before .y .given .0 .0) (c .before .z .given .0 .0) (sym (c .before .before .before .before .before .before .before .before .before .before .before .cell-on .ensures) ∙ c .before .before .before .before .before .before .before .before .before .x .given .1) (sym (c .before .before .before .before .before .before .before .cell-on2 .ensures) ∙ c .before .before .before .before .before .y .given .1) (sym (c .before .before .before .cell-on3 .ensures) ∙ c .before .z .given .1)
 
 pub locate-spec : {M : Type 1} → statement M
 locate-spec =
-    tie.close (tie.spec place-on-requires enum-known-x enum-told returns place-on-requires-2 enum-known-y enum-told-2 returns-2 place-on-requires-3 enum-known-z enum-told-3 returns-3 returns-4)
+    tie.close (tie.spec cell-on-requires enum-known-x enum-told returns cell-on-requires-2 enum-known-y enum-told-2 returns-2 cell-on-requires-3 enum-known-z enum-told-3 returns-3 returns-4)

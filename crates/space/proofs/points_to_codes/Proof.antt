@@ -58,16 +58,19 @@ slice-write-codes c = place (c .before .before .before .before)
 enum-told : tie.Need-enum-told Inv-loop μ-loop
 enum-told c = search needs
 
+wall-of-requires : tie.Need-wall-of-requires Inv-loop μ-loop
+wall-of-requires c κs = there (c .before .before .before)
+
 same-length : tie.Need-same-length Inv-loop μ-loop
-same-length c = kept (c .before .before .before .before)
+same-length c = kept (c .before .before .before .before .before)
 
 returns : tie.Need-returns Inv-loop μ-loop
 returns c =
-    let b = c .before .before .before .before .before .before .before .before .args .b in
-    let xs = now (c .before .before .before .before .before .before .before .before .args .points) in
-    let f = c .before .before .before .before .before .frame-of .result in
-    let s = written-stop (length xs / b .axes) f xs _ _ _ _ (c .before .before .before .before .loop .inv) (placed-out f (drop (c .before .before .before .before .loop .at) xs) (sym (c .before .before .code-at .ensures) ∙ c .enum-told .given .1)) (c .before .before .before .loop-test .taken) in
-    rw (c .before .before .before .before .before .frame-of .ensures) at s
+    let b = c .before .before .before .before .before .before .before .before .before .args .b in
+    let xs = now (c .before .before .before .before .before .before .before .before .before .args .points) in
+    let f = c .before .before .before .before .before .before .frame-of .result in
+    let s = written-stop (length xs / b .axes) f xs _ _ _ _ (c .before .before .before .before .before .loop .inv) (c .wall-of .result) (c .wall-of .ensures) (placed-out f (drop (c .before .before .before .before .before .loop .at) xs) (sym (c .before .before .before .code-at .ensures) ∙ c .before .enum-told .given .1)) (c .before .before .before .before .loop-test .taken) in
+    rw (c .before .before .before .before .before .before .frame-of .ensures) at s
 
 add-row : tie.Need-add-row Inv-loop μ-loop
 add-row c = search needs
@@ -95,4 +98,4 @@ returns-2 c =
 
 pub points-to-codes-spec : {M : Type 1} → statement M
 points-to-codes-spec =
-    tie.close (tie.spec Inv-loop μ-loop frame-of-requires div-rows loop-holds code-at-requires enum-known-code mul-codes slice-write-codes enum-told same-length returns add-row add-at loop-less loop-again same-length-2 returns-2)
+    tie.close (tie.spec Inv-loop μ-loop frame-of-requires div-rows loop-holds code-at-requires enum-known-code mul-codes slice-write-codes enum-told wall-of-requires same-length returns add-row add-at loop-less loop-again same-length-2 returns-2)

@@ -4,7 +4,9 @@ use crate::survey::{self, Refused, Survey};
 use std::fmt::Write as _;
 
 fn refusal(refused: Refused) -> String {
-    format!("refused {} {}\n", refused.0, refused.1)
+    let Refused(number, value, wall) = refused;
+    let wall = wall.map_or(String::new(), |wall| format!(" {} {}", wall.0, wall.1));
+    format!("refused {number} {value}{wall}\n")
 }
 
 fn row(keys: &[u64]) -> String {

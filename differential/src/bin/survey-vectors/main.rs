@@ -27,13 +27,14 @@ fn numbered(answers: &[String]) -> String {
     answers.iter().enumerate().map(part).collect()
 }
 
-/// How many answers of each kind there are: the first word, and of a refusal all words but an index.
+/// How many answers of each kind there are: the first word, and of a refusal all words but an index and an axis.
 fn kinds(answers: &[String]) -> BTreeMap<String, usize> {
     let mut kinds = BTreeMap::new();
     for answer in answers {
         let words: Vec<&str> = answer.split_whitespace().collect();
         let kind = match words[..] {
             ["refused", "8", which] => format!("refused 8 {which}"),
+            ["refused", number, _, _, reason] => format!("refused {number} by {reason}"),
             ["refused", number, _] => format!("refused {number}"),
             _ => words[0].to_string(),
         };

@@ -2,7 +2,7 @@
 //! its lookups.
 //!
 //! The refusals of the build are document 01's; the Rust has none.
-use crate::survey::{BOX, ORDER, POINT, ROOM, Refused, SOURCE, Survey, UNSTORED};
+use crate::survey::{BOX, ORDER, POINT, ROOM, Refused, SOURCE, Survey, UNSTORED, Wall};
 use faer::MatRef;
 use ferreus_bbfmm::EvaluationTargets;
 use ferreus_bbfmm::bbfmm::{Dimensions, TreeLists};
@@ -67,18 +67,37 @@ fn centre(s: &Survey) -> Vec<f64> {
     s.centre[..s.axes].to_vec()
 }
 
-/// Document 01's rule, with the Rust's own quotient and floor: finite, and the level-16 anchors in 0..65535.
-pub fn inside(s: &Survey, point: &[f64]) -> bool {
+/// Document 01's rule and request 5's, with the Rust's own quotient and floor: finite, and the level-16 anchors in 0..65535;
+/// else the first axis that is not, and why.
+fn wall(s: &Survey, point: &[f64]) -> Option<Wall> {
     let side = morton::get_side_length(s.radius, 16);
-    point.iter().zip(&s.centre).all(|(&x, &c)| {
-        let anchor = morton::probe_coordinate_to_anchor(x, c - s.radius, side);
-        x.is_finite() && (0.0..=65535.0).contains(&anchor)
-    })
+    point
+        .iter()
+        .zip(&s.centre)
+        .enumerate()
+        .find_map(|(axis, (&x, &c))| {
+            let anchor = morton::probe_coordinate_to_anchor(x, c - s.radius, side);
+            match anchor {
+                _ if !x.is_finite() => Some(Wall(axis, 1)),
+                _ if anchor < 0.0 => Some(Wall(axis, 2)),
+                _ if anchor > 65535.0 => Some(Wall(axis, 3)),
+                _ => None,
+            }
+        })
 }
 
-fn first_outside(s: &Survey, points: &[f64]) -> Option<u64> {
-    let outside = points.chunks(s.axes).position(|point| !inside(s, point));
-    outside.map(|index| index as u64)
+pub fn inside(s: &Survey, point: &[f64]) -> bool {
+    wall(s, point).is_none()
+}
+
+/// Refused with this number where a point is outside: the first such, and its wall.
+fn all_inside(s: &Survey, points: &[f64], number: u64) -> Result<(), Refused> {
+    for (index, point) in points.chunks(s.axes).enumerate() {
+        if let Some(wall) = wall(s, point) {
+            return Err(Refused(number, index as u64, Some(wall)));
+        }
+    }
+    Ok(())
 }
 
 /// Refinement acts where empty cells are kept and there are targets.
@@ -90,16 +109,14 @@ fn targets_used(s: &Survey) -> bool {
 fn check(s: &Survey) -> Result<(), Refused> {
     let centred = |c: &f64| c.is_finite() && c.abs() <= 16_777_216.0;
     if !(0.25..=1_048_576.0).contains(&s.radius) || !s.centre[..s.axes].iter().all(centred) {
-        return Err(Refused(BOX, 0));
+        return Err(Refused(BOX, 0, None));
     }
     if targets_used(s) && !(1..=64).contains(&s.order) {
-        return Err(Refused(ORDER, 0));
+        return Err(Refused(ORDER, 0, None));
     }
-    if let Some(index) = first_outside(s, &s.sources) {
-        return Err(Refused(SOURCE, index));
-    }
-    if let Some(index) = first_outside(s, &s.targets).filter(|_| targets_used(s)) {
-        return Err(Refused(POINT, index));
+    all_inside(s, &s.sources, SOURCE)?;
+    if targets_used(s) {
+        all_inside(s, &s.targets, POINT)?;
     }
     Ok(())
 }
@@ -129,7 +146,7 @@ pub fn build(s: &Survey) -> Result<Tree, Refused> {
     check(s)?;
     let tree = grown(s);
     if tree.keys.len() > NODES {
-        return Err(Refused(ROOM, 3));
+        return Err(Refused(ROOM, 3, None));
     }
     Ok(tree)
 }
@@ -138,10 +155,10 @@ pub fn build(s: &Survey) -> Result<Tree, Refused> {
 pub fn build_with_lists(s: &Survey) -> Result<Tree, Refused> {
     let tree = build(s)?;
     if tree.u_entries() > ENTRIES {
-        return Err(Refused(ROOM, 6));
+        return Err(Refused(ROOM, 6, None));
     }
     if tree.v_entries() > ENTRIES {
-        return Err(Refused(ROOM, 7));
+        return Err(Refused(ROOM, 7, None));
     }
     Ok(tree)
 }
@@ -162,11 +179,11 @@ fn keys_of(s: &Survey, tree: &Tree, points: &[f64]) -> Option<Vec<u64>> {
 /// The leaf of each target and the sum of steps; POINT or UNSTORED at the lowest index that fails.
 pub fn lookup(s: &Survey, tree: &Tree) -> Result<(Vec<u64>, u64), Refused> {
     for (index, point) in s.targets.chunks(s.axes).enumerate() {
-        if !inside(s, point) {
-            return Err(Refused(POINT, index as u64));
+        if let Some(wall) = wall(s, point) {
+            return Err(Refused(POINT, index as u64, Some(wall)));
         }
         if keys_of(s, tree, point).is_none() {
-            return Err(Refused(UNSTORED, index as u64));
+            return Err(Refused(UNSTORED, index as u64, None));
         }
     }
     let keys = keys_of(s, tree, &s.targets).expect("no point fails");

@@ -13,9 +13,13 @@ pub const ROOM: u64 = 8;
 pub const UNSTORED: u64 = 12;
 pub const FILE: u64 = 15;
 
-/// A refusal's number and value.
+/// A refusal's number and value, and the wall of 6 and 7.
 #[derive(Clone, Copy, Debug, PartialEq)]
-pub struct Refused(pub u64, pub u64);
+pub struct Refused(pub u64, pub u64, pub Option<Wall>);
+
+/// The first axis on which a point is outside, and 1, 2 or 3: not finite, below, above.
+#[derive(Clone, Copy, Debug, PartialEq)]
+pub struct Wall(pub usize, pub u64);
 
 #[derive(Clone, Debug)]
 pub struct Survey {
@@ -106,12 +110,12 @@ fn numbers(bytes: &[u8]) -> Vec<f64> {
 /// The survey that a file holds, or FILE or DIMS.
 pub fn read(bytes: &[u8]) -> Result<Survey, Refused> {
     if bytes.len() < TRAILER || bytes.len() > LONGEST {
-        return Err(Refused(FILE, 0));
+        return Err(Refused(FILE, 0, None));
     }
     let (rows, trailer) = bytes.split_at(bytes.len() - TRAILER);
     let axes = u32_at(trailer, 0) as usize;
     if !(1..=3).contains(&axes) {
-        return Err(Refused(DIMS, 0));
+        return Err(Refused(DIMS, 0, None));
     }
     let flags = u32_at(trailer, 4);
     let [back_to_sources, sources, back_to_targets, targets] =
@@ -122,7 +126,7 @@ pub fn read(bytes: &[u8]) -> Result<Survey, Refused> {
         || back_to_targets != targets * row
         || back_to_sources != sources * row + targets * row
     {
-        return Err(Refused(FILE, 0));
+        return Err(Refused(FILE, 0, None));
     }
     let (of_sources, of_targets) = rows.split_at((sources * row) as usize);
     Ok(Survey {
