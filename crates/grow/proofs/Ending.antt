@@ -8,7 +8,7 @@ use lib.ListN.{length, getD, set, take, drop, length-set, length-append}
 use lib.Pow.{low}
 use lib.Seq.{slice, take-suc, take-suc-set, drop-set-lt}
 use native.Mathlib.Numerals.{add-one}
-use Rattle.slices.specs.Lists.{filter, concatMap, Mem}
+use Rattle.slices.specs.Lists.{filter, concatMap, sum, Mem}
 use Rattle.slices.proofs.Counts.{here, there}
 use Rattle.morton.specs.Keys.{axesKnown}
 use Rattle.tree.specs.Nodes.{leaf}
@@ -23,12 +23,12 @@ use Rattle.growth.proofs.CellTotals.{total-sources}
 use Rattle.dealing.specs.Dealt.{wordOf}
 use Rattle.dealing.proofs.Laws.{map-join}
 use Rattle.grow.specs.Cells.{Points, splitting, sizeOf, within, ownIn, ownedBy}
-use Rattle.grow.specs.Rows.{Columns}
+use Rattle.grow.specs.Rows.{markOf, sumMarked, ownMarked, Marked, marked, Columns, columns, Spread}
 use Rattle.grow.specs.Setting.{Setting, Given}
-use Rattle.grow.specs.Steps.{Stands, Built, Grown, Coded, Grows, IndicesTaken}
+use Rattle.grow.specs.Steps.{Stands, Grown, sourceCodes, targetCodes, pointsOf, GrowsMarks, Grows, IndicesTaken}
 use Rattle.grow.proofs.Joins.{concat-same, concat-filter}
-use Rattle.grow.proofs.Putting.{map-agree}
-use Rattle.grow.proofs.Root.{pointsOf}
+use Rattle.grow.proofs.Putting.{map-agree, map-twice, owned-length}
+use Rattle.grow.proofs.Spreading.{own-told, sum-told}
 
 module _ (g : Rule) (p : Points) (z : Setting) (v : Given g z p) where
   abbrev keys : List ℕ
@@ -67,26 +67,57 @@ unfolding nodes
 nodes-are g s t = refl
 
 -- all is put
-pub grown : (g : Rule) (z : Setting) (p : Points) (work work′ : List ℕ) (s : Columns) → Given g z p → length work′ ≡ length work → p .beyond ≡ drop (2 * z .sources) work
-    → Stands g z p work′ s (z .sources) ([] ++ preorder g (p .sources) (p .targets) (2 * 8) 0) [] → Grown g z (p .sources) (p .targets) work work′ s
-grown g z p work work′ s v len behind r = done-so (subst (λ (xs : List ℕ). Stands g z p work′ s (z .sources) xs []) (nodes-are g (p .sources) (p .targets)) r)
-  where
-    done-so : Stands g z p work′ s (z .sources) (nodes g (p .sources) (p .targets)) [] → Grown g z (p .sources) (p .targets) work work′ s
-    done-so q = record {
+pub marks-grown : (g : Rule) (z : Setting) (work work′ : List ℕ) (s : Marked) → Stands g z (pointsOf z work) work′ s (z .sources) ([] ++ preorder g (sourceCodes z work) (targetCodes z work) (2 * 8) 0) []
+    → GrowsMarks g z work work′ s
+marks-grown g z work work′ s r = subst (λ (xs : List ℕ). Stands g z (pointsOf z work) work′ s (z .sources) xs []) (nodes-are g (sourceCodes z work) (targetCodes z work)) r
+
+module _ (g : Rule) (z : Setting) (work work′ key total : List ℕ) (n : ℕ) (q : GrowsMarks g z work work′ (marked key total n)) where
+  abbrev p : Points
+  p = pointsOf z work
+
+  abbrev all : List ℕ
+  all = nodes g (sourceCodes z work) (targetCodes z work)
+
+  -- the columns are full
+  pub grown-over : (own begin : List ℕ) → length work′ ≡ length work → z .room < n → Grows g z work work′ (columns key own begin total n)
+  grown-over own begin len h = record {
+    counted = q .rows .counted;
+    rows = λ few. absurd (omega arith);
+    words = λ few. absurd (omega arith);
+    kept = len;
+    beyond = q .behind .beyond;
+  }
+
+  -- there is room for all
+  module _ (few : n ≤ z .room) where
+    same : length all ≡ n
+    same = omega (arith, q .rows .counted)
+
+    marks-are : take n total ≡ map (λ k. markOf (sizeOf g p k) (splitting g p k)) all
+    marks-are = ap (λ (i : ℕ). take i total) (sym same) ∙ q .rows .filled (omega (arith, q .rows .counted)) .marks
+
+    owns-told : map ownMarked (take n total) ≡ map (ownIn g p) all
+    owns-told = ap (map ownMarked) marks-are ∙ map-twice ownMarked (λ k. markOf (sizeOf g p k) (splitting g p k)) all ∙ map-agree (λ k. ownMarked (markOf (sizeOf g p k) (splitting g p k))) (ownIn g p) all (λ k _. own-told (sizeOf g p k) (splitting g p k))
+
+    sums-told : map sumMarked (take n total) ≡ map (sizeOf g p) all
+    sums-told = ap (map sumMarked) marks-are ∙ map-twice sumMarked (λ k. markOf (sizeOf g p k) (splitting g p k)) all ∙ map-agree (λ k. sumMarked (markOf (sizeOf g p k) (splitting g p k))) (sizeOf g p) all (λ k _. sum-told (sizeOf g p k) (splitting g p k))
+
+    -- what spreading the marks asks
+    pub owned-few : sum (map ownMarked (take n total)) ≤ 1048576
+    owned-few = omega (arith, ap sum owns-told, owned-length g p all, q .ordered few .reached, q .behind .given .few)
+
+    pub grown-whole : (own begin total′ : List ℕ) → length work′ ≡ length work → Spread n total own begin total′ → Grows g z work work′ (columns key own begin total′ n)
+    grown-whole own begin total′ len r = record {
       counted = q .rows .counted;
-      rows = λ h.
-          let few : length (nodes g (p .sources) (p .targets)) ≤ z .room = omega (arith, q .rows .counted) in
-          let same : length (nodes g (p .sources) (p .targets)) ≡ s .number = omega (arith, q .rows .counted) in
-          let f = q .rows .filled few in
-          record {
-            keys = ap (λ (i : ℕ). take i (s .key)) (sym same) ∙ f .keys;
-            owns = ap (λ (i : ℕ). take i (s .own)) (sym same) ∙ f .owns ∙ owns-are g p z v;
-            begins = ap (λ (i : ℕ). take i (s .begin)) (sym same) ∙ f .begins ∙ ap beginColumn (owns-are g p z v);
-            totals = ap (λ (i : ℕ). take i (s .total)) (sym same) ∙ f .totals ∙ totals-are g p z v;
-          };
-      words = q .words .words ∙ ap (map (wordOf (p .sources))) (append-nil (ownedBy g p (nodes g (p .sources) (p .targets))) ∙ order-is g p z v);
+      rows = λ _. record {
+        keys = ap (λ (i : ℕ). take i key) (sym same) ∙ q .rows .filled (omega (arith, q .rows .counted)) .keys;
+        owns = r .owns ∙ owns-told ∙ owns-are g p z (q .behind .given);
+        begins = r .begins ∙ ap beginColumn (owns-told ∙ owns-are g p z (q .behind .given));
+        totals = r .totals ∙ sums-told ∙ totals-are g p z (q .behind .given);
+      };
+      words = λ _. q .ordered few .words .words ∙ ap (map (wordOf (sourceCodes z work))) (append-nil (ownedBy g p all) ∙ order-is g p z (q .behind .given));
       kept = len;
-      beyond = q .words .beyond ∙ behind;
+      beyond = q .behind .beyond;
     }
 
 -- ---- the indices of the words
@@ -99,11 +130,11 @@ indices-of codes (x ∷ xs) h = ap₂ (λ (a : ℕ) (t : List ℕ). a ∷ t) (wo
 
 -- what `take_indices` writes after a growth is the order column
 pub order-taken : (g : Rule) (z : Setting) (sources targets work work′ order order′ : List ℕ) (s : Columns) → length sources ≤ 1048576
-    → Grown g z sources targets work work′ s → IndicesTaken (z .sources) work′ order order′ → take (z .sources) order′ ≡ orderColumn (g .axes) (nodes g sources targets) sources
+    → Grown g z sources targets work work′ s → s .number ≤ z .room → IndicesTaken (z .sources) work′ order order′ → take (z .sources) order′ ≡ orderColumn (g .axes) (nodes g sources targets) sources
 unfolding orderColumn
-order-taken g z sources targets work work′ order order′ s few q t =
+order-taken g z sources targets work work′ order order′ s few q fits t =
     t .taken
-    ∙ ap (map (λ w. w % 1048576)) (q .words)
+    ∙ ap (map (λ w. w % 1048576)) (q .words fits)
     ∙ indices-of sources (orderColumn (g .axes) (nodes g sources targets) sources)
     (λ i m. let r = mem-concat (indicesIn (g .axes) sources) (filter (leaf (g .axes) (nodes g sources targets)) (nodes g sources targets)) i m in omega (arith, indices-hold (g .axes) sources (r .0) i (r .2) .0))
 

@@ -1,5 +1,6 @@
 pub mod Joins
 pub mod Putting
+pub mod Spreading
 pub mod Digits
 pub mod Loops
 pub mod Splitting
