@@ -1,104 +1,119 @@
--- The columns that a growth leaves, said of what was asked, with 0 in the unused places.
+-- The columns that a growth leaves, with 0 in the unused places; and that they are the columns that were asked for.
 use mathlib.Core.Path.{_≡_, refl, sym, ap, ap₂, subst, _∙_}
-use mathlib.Core.List.{List, _++_}
-use Prim.Native.Nat.{ℕ, _+_, _-_, _%_, _≤_, _<_}
+use mathlib.Core.List.{List, _++_, map}
+use Prim.Native.Nat.{ℕ, _*_, _+_, _-_, _%_, _≤_, _<_}
 use native.Mathlib.Omega.{arith}
-use lib.ListN.{length, take, replicate, length-map}
-use lib.Seq.{length-take-le, take-all}
+use lib.ListN.{length, take, drop, replicate, length-map}
+use lib.Seq.{length-take-le, length-slice, take-all}
 use Rattle.slices.specs.Lists.{filled}
 use Rattle.slices.specs.Order.{ascending}
-use Rattle.space.specs.Rows.{rowsOf}
+use Rattle.growth.specs.declared.Rule.{Rule}
 use Rattle.growth.specs.Columns.{ownColumn, beginColumn, orderColumn}
+use Rattle.growth.proofs.Runs.{length-own, length-begin}
 use Rattle.tree.specs.Totals.{totalColumn}
 use Rattle.growth.specs.Nodes.{nodes}
 use Rattle.laying.specs.Points.{codesOf}
-use Rattle.laying.proofs.Prepared.{Passed}
-use Rattle.laying.specs.Layout.{PointsLaid}
-use Rattle.grow.specs.Rows.{Columns}
-use Rattle.grow.specs.Setting.{Setting}
-use Rattle.grow.specs.Steps.{sourceCodes, Grown, Grows}
+use Rattle.parting.specs.Setting.{Setting}
+use Rattle.parting.specs.Parts.{sourceCodes, targetCodes, Coded}
+use Rattle.grow.specs.Rows.{sumMarked, ownMarked, Marked}
+use Rattle.grow.specs.Steps.{Grows}
 use Rattle.grow.proofs.Ending.{order-taken}
 use Rattle.build.specs.Asked.{Asked, ruleOf, builtKeys, builtOwn, builtBegins, builtTotals, builtOrder}
-use Rattle.build.specs.Outcomes.{Rooms, BuiltSlices}
+use Rattle.build.specs.Outcomes.{Rooms, rooms, BuiltSlices}
 use Rattle.build.specs.Summing.{indices}
+use Rattle.build.specs.Steps.{TreeLeft}
 use Rattle.build.proofs.Sorted.{nodes-any}
-use Rattle.build.proofs.Growing.{sources-few, targets-are}
 
--- the first n of a column, and 0 behind them
-pub cut-filled : (n room : ℕ) (out written column : List ℕ) → take n out ≡ column → n ≤ length out → length out ≡ room
-    → written ≡ take n out ++ replicate (length out - n) 0 → written ≡ filled room column
-cut-filled n room out written column e h l w =
-    let size : n ≡ length column = sym (length-take-le n out h) ∙ ap length e in
-    w ∙ ap₂ (λ (xs : List ℕ) (m : ℕ). xs ++ replicate m 0) e (ap₂ _-_ l size)
+-- the first entries of a column, and 0 behind them
+cut-filled : (n room : ℕ) (first written column : List ℕ) → first ≡ column → n ≡ length column → written ≡ first ++ replicate (room - n) 0 → written ≡ filled room column
+cut-filled n room first written column e size w = w ∙ ap₂ (λ (xs : List ℕ) (m : ℕ). xs ++ replicate m 0) e (ap (room -_) size)
 
-module _ (a : Asked) (room : ℕ) (p : Passed (a .box) (a .sources) (a .targets) (a .order) room) (work : List ℕ) (len : length work ≡ room) (laid : PointsLaid (a .box) (a .sources) (a .targets) work)
-    (most depth : ℕ) (sums work′ : List ℕ) (c : Columns) where
-  abbrev z : Setting
-  z = record { sources = rowsOf (a .box) (a .sources); targets = rowsOf (a .box) (a .targets); room = most; depth = depth; sums = sums }
+module _ (g : Rule) (z : Setting) (work work′ : List ℕ) (s : Marked) (coded : Coded g z work) (q : Grows g z work work′ s) where
+  abbrev src : List ℕ
+  src = sourceCodes z work
 
-  abbrev s : List ℕ
-  s = codesOf (a .box) (a .sources)
+  abbrev keys : List ℕ
+  keys = nodes g (sourceCodes z work) (targetCodes z work)
 
-  -- the growth of the codes in the work is that of the points
-  pub grown-asked : Grows (ruleOf a) (record { sources = rowsOf (a .box) (a .sources); targets = rowsOf (a .box) (a .targets); room = most; depth = depth; sums = sums }) work work′ c
-      → Grown (ruleOf a) (record { sources = rowsOf (a .box) (a .sources); targets = rowsOf (a .box) (a .targets); room = most; depth = depth; sums = sums }) (codesOf (a .box) (a .sources)) (ascending (codesOf (a .box) (a .targets))) work work′ c
-  grown-asked h =
-      subst (λ (xs : List ℕ). Grown (ruleOf a) z xs (ascending (codesOf (a .box) (a .targets))) work work′ c) (laid .sources-at)
-      (subst (λ (xs : List ℕ). Grown (ruleOf a) z (sourceCodes z work) xs work work′ c) (targets-are a room p work len laid) h)
+  pub grown-full : z .room < s .number → z .room < length (nodes g (sourceCodes z work) (targetCodes z work))
+  grown-full h = omega (arith, q .counted)
 
-  module _ (g : Grown (ruleOf a) (record { sources = rowsOf (a .box) (a .sources); targets = rowsOf (a .box) (a .targets); room = most; depth = depth; sums = sums }) (codesOf (a .box) (a .sources)) (ascending (codesOf (a .box) (a .targets))) work work′ c) where
-    abbrev zs : List ℕ
-    zs = nodes (ruleOf a) (codesOf (a .box) (a .sources)) (ascending (codesOf (a .box) (a .targets)))
+  module _ (fits : s .number ≤ z .room) where
+    pub grown-number : s .number ≡ length (nodes g (sourceCodes z work) (targetCodes z work))
+    grown-number = omega (arith, q .counted)
 
-    keys-are : zs ≡ builtKeys a
-    unfolding builtKeys
-    keys-are = nodes-any (ruleOf a) (codesOf (a .box) (a .sources)) (codesOf (a .box) (a .targets))
+    pub grown-keys : take (s .number) (s .key) ≡ nodes g (sourceCodes z work) (targetCodes z work)
+    grown-keys = q .rows fits .keys
 
-    pub grown-full : most < c .number → most < length (builtKeys a)
-    grown-full h = omega (arith, g .counted, ap length keys-are)
+    src-long : length src ≡ z .sources
+    src-long = length-slice (z .sources) (2 * z .sources) work (omega (arith, coded .beside)) ∙ omega arith
 
-    module _ (fits : c .number ≤ most) where
-      pub grown-number : c .number ≡ length (builtKeys a)
-      grown-number = omega (arith, g .counted, ap length keys-are)
+    words-long : length (take (z .sources) work′) ≡ z .sources
+    words-long = length-take-le (z .sources) work′ (omega (arith, q .kept, coded .beside))
 
-      pub keys-grown : take (c .number) (c .key) ≡ builtKeys a
-      keys-grown = g .rows fits .keys ∙ keys-are
+    order-grown : indices (take (z .sources) work′) ≡ orderColumn (g .axes) keys src
+    order-grown =
+        let words = take (z .sources) work′ in
+        let all : take (z .sources) (indices words) ≡ indices words = take-all (z .sources) (indices words) (omega (arith, length-map words (λ w. w % 1048576), words-long)) in
+        sym all
+        ∙ order-taken g z src (targetCodes z work) work work′ (indices words) (indices words) s (omega (arith, src-long, coded .few)) q fits (record { taken = all; rest = refl })
 
-      own-grown : take (c .number) (c .own) ≡ builtOwn a
-      unfolding builtOwn
-      own-grown = g .rows fits .owns ∙ ap (λ (ks : List ℕ). ownColumn (a .box .axes) ks s) keys-are
+    order-long : z .sources ≡ length (orderColumn (g .axes) keys src)
+    order-long = sym words-long ∙ sym (length-map (take (z .sources) work′) (λ w. w % 1048576)) ∙ ap length order-grown
 
-      begins-grown : take (c .number) (c .begin) ≡ builtBegins a
-      unfolding builtOwn builtBegins
-      begins-grown = g .rows fits .begins ∙ ap (λ (ks : List ℕ). beginColumn (ownColumn (a .box .axes) ks s)) keys-are
+    totals-long : length (totalColumn (g .axes) keys (ownColumn (g .axes) keys src)) ≡ length keys
+    totals-long = sym (ap length (q .rows fits .totals)) ∙ length-map (take (s .number) (s .mark)) sumMarked ∙ sym (length-map (take (s .number) (s .mark)) ownMarked) ∙ ap length (q .rows fits .owns) ∙ length-own (g .axes) keys src
 
-      totals-grown : take (c .number) (c .total) ≡ builtTotals a
-      unfolding builtOwn builtTotals
-      totals-grown = g .rows fits .totals ∙ ap (λ (ks : List ℕ). totalColumn (a .box .axes) ks (ownColumn (a .box .axes) ks s)) keys-are
+    pub tree-left : (r : Rooms) (works orders keyz owns begins totals : List ℕ) → length work ≡ r .work → works ≡ replicate (length work′) 0
+        → orders ≡ indices (take (z .sources) work′) ++ replicate (r .order - z .sources) 0
+        → keyz ≡ take (s .number) (s .key) ++ replicate (length (s .key) - s .number) 0 → length (s .key) ≡ r .keys
+        → owns ≡ map ownMarked (take (s .number) (s .mark)) ++ replicate (r .own - s .number) 0
+        → begins ≡ beginColumn (map ownMarked (take (s .number) (s .mark))) ++ replicate (r .begins - s .number) 0
+        → totals ≡ map sumMarked (take (s .number) (s .mark)) ++ replicate (length (s .mark) - s .number) 0 → length (s .mark) ≡ r .totals
+        → TreeLeft g (sourceCodes z work) (targetCodes z work) r works orders keyz owns begins totals
+    tree-left r works orders keyz owns begins totals lw iw io ik lk iown ib it lt = record {
+      worked = iw ∙ ap (λ (x : ℕ). replicate x 0) (q .kept ∙ lw);
+      ordered = cut-filled (z .sources) (r .order) (indices (take (z .sources) work′)) orders (orderColumn (g .axes) keys src) order-grown order-long io;
+      keyed = cut-filled (s .number) (r .keys) (take (s .number) (s .key)) keyz keys grown-keys grown-number (ik ∙ ap (λ (x : ℕ). take (s .number) (s .key) ++ replicate (x - s .number) 0) lk);
+      owned = cut-filled (s .number) (r .own) (map ownMarked (take (s .number) (s .mark))) owns (ownColumn (g .axes) keys src) (q .rows fits .owns) (grown-number ∙ sym (length-own (g .axes) keys src)) iown;
+      begun = cut-filled (s .number) (r .begins) (beginColumn (map ownMarked (take (s .number) (s .mark)))) begins (beginColumn (ownColumn (g .axes) keys src)) (ap beginColumn (q .rows fits .owns)) (grown-number ∙ sym (length-begin (g .axes) keys src)) ib;
+      summed = cut-filled (s .number) (r .totals) (map sumMarked (take (s .number) (s .mark))) totals (totalColumn (g .axes) keys (ownColumn (g .axes) keys src)) (q .rows fits .totals) (grown-number ∙ sym totals-long) (it ∙ ap (λ (x : ℕ). map sumMarked (take (s .number) (s .mark)) ++ replicate (x - s .number) 0) lt);
+    }
 
-      order-grown : indices (take (rowsOf (a .box) (a .sources)) work′) ≡ builtOrder a
-      unfolding builtOrder
-      order-grown =
-          let words = take (rowsOf (a .box) (a .sources)) work′ in
-          let all : take (rowsOf (a .box) (a .sources)) (indices words) ≡ indices words = take-all (rowsOf (a .box) (a .sources)) (indices words) (omega (arith, length-map words (λ w. w % 1048576), length-take-le (rowsOf (a .box) (a .sources)) work′ (omega (arith, g .kept, len, p .room)))) in
-          sym all
-          ∙ order-taken (ruleOf a) z s (ascending (codesOf (a .box) (a .targets))) work work′ (indices words) (indices words) c (sources-few a room p) g (record { taken = all; rest = refl })
-          ∙ ap (λ (ks : List ℕ). orderColumn (a .box .axes) ks s) keys-are
+-- slices as long as those give as much room
+pub rooms-same : (work work′ order order′ keys own begins totals : List ℕ) → length work′ ≡ length work → length order′ ≡ length order
+    → rooms work′ order′ keys own begins totals ≡ rooms work order keys own begins totals
+rooms-same work work′ order order′ keys own begins totals e f =
+    ap₂ (λ (x y : ℕ). record { work = x; order = y; keys = length keys; own = length own; begins = length begins; totals = length totals }) e f
 
-      pub columns-are : (r : Rooms) → r .work ≡ room → length (c .key) ≡ r .keys → length (c .own) ≡ r .own → length (c .begin) ≡ r .begins → length (c .total) ≡ r .totals
-          → c .number ≤ r .keys → c .number ≤ r .own → c .number ≤ r .begins → c .number ≤ r .totals
-          → (order work₂ order₂ key₂ own₂ begin₂ total₂ : List ℕ) → length order ≡ r .order → work₂ ≡ replicate (length work′) 0
-          → order₂ ≡ indices (take (rowsOf (a .box) (a .sources)) work′) ++ replicate (length order - rowsOf (a .box) (a .sources)) 0
-          → key₂ ≡ take (c .number) (c .key) ++ replicate (length (c .key) - c .number) 0 → own₂ ≡ take (c .number) (c .own) ++ replicate (length (c .own) - c .number) 0
-          → begin₂ ≡ take (c .number) (c .begin) ++ replicate (length (c .begin) - c .number) 0 → total₂ ≡ take (c .number) (c .total) ++ replicate (length (c .total) - c .number) 0
-          → BuiltSlices a r work₂ order₂ key₂ own₂ begin₂ total₂
-      columns-are r whole lk lo lb lt hk ho hb ht order work₂ order₂ key₂ own₂ begin₂ total₂ li iw io ik iown ib it = record {
-        worked = iw ∙ ap (λ (x : ℕ). replicate x 0) (g .kept ∙ len ∙ sym whole);
-        ordered =
-            let size : rowsOf (a .box) (a .sources) ≡ length (builtOrder a) = sym (length-take-le (rowsOf (a .box) (a .sources)) work′ (omega (arith, g .kept, len, p .room))) ∙ sym (length-map (take (rowsOf (a .box) (a .sources)) work′) (λ w. w % 1048576)) ∙ ap length order-grown in
-            io ∙ ap₂ (λ (xs : List ℕ) (m : ℕ). xs ++ replicate m 0) order-grown (ap₂ _-_ li size);
-        keyed = cut-filled (c .number) (r .keys) (c .key) key₂ (builtKeys a) keys-grown (omega (arith, lk, hk)) lk ik;
-        owned = cut-filled (c .number) (r .own) (c .own) own₂ (builtOwn a) own-grown (omega (arith, lo, ho)) lo iown;
-        begun = cut-filled (c .number) (r .begins) (c .begin) begin₂ (builtBegins a) begins-grown (omega (arith, lb, hb)) lb ib;
-        summed = cut-filled (c .number) (r .totals) (c .total) total₂ (builtTotals a) totals-grown (omega (arith, lt, ht)) lt it;
-      }
+-- ---- what was asked
+module _ (a : Asked) (s t : List ℕ) (sources-are : s ≡ codesOf (a .box) (a .sources)) (targets-are : t ≡ ascending (codesOf (a .box) (a .targets))) where
+  pub keys-asked : nodes (ruleOf a) s t ≡ builtKeys a
+  unfolding builtKeys
+  keys-asked = ap₂ (nodes (ruleOf a)) sources-are targets-are ∙ nodes-any (ruleOf a) (codesOf (a .box) (a .sources)) (codesOf (a .box) (a .targets))
+
+  own-asked : ownColumn (a .box .axes) (nodes (ruleOf a) s t) s ≡ builtOwn a
+  unfolding builtOwn
+  own-asked = ap₂ (ownColumn (a .box .axes)) keys-asked sources-are
+
+  begins-asked : beginColumn (ownColumn (a .box .axes) (nodes (ruleOf a) s t) s) ≡ builtBegins a
+  unfolding builtBegins
+  begins-asked = ap beginColumn own-asked
+
+  totals-asked : totalColumn (a .box .axes) (nodes (ruleOf a) s t) (ownColumn (a .box .axes) (nodes (ruleOf a) s t) s) ≡ builtTotals a
+  unfolding builtTotals
+  totals-asked = ap₂ (totalColumn (a .box .axes)) keys-asked own-asked
+
+  order-asked : orderColumn (a .box .axes) (nodes (ruleOf a) s t) s ≡ builtOrder a
+  unfolding builtOrder
+  order-asked = ap₂ (orderColumn (a .box .axes)) keys-asked sources-are
+
+  pub slices-built : (r : Rooms) (works orders keys owns begins totals : List ℕ) → TreeLeft (ruleOf a) s t r works orders keys owns begins totals → BuiltSlices a r works orders keys owns begins totals
+  slices-built r works orders keys owns begins totals l = record {
+    worked = l .worked;
+    ordered = l .ordered ∙ ap (filled (r .order)) order-asked;
+    keyed = l .keyed ∙ ap (filled (r .keys)) keys-asked;
+    owned = l .owned ∙ ap (filled (r .own)) own-asked;
+    begun = l .begun ∙ ap (filled (r .begins)) begins-asked;
+    summed = l .summed ∙ ap (filled (r .totals)) totals-asked;
+  }

@@ -14,7 +14,7 @@ use Rattle.morton.specs.Keys.{axesKnown}
 use Rattle.tree.specs.Nodes.{leaf}
 use Rattle.tree.specs.Totals.{totalIn, totalColumn}
 use Rattle.growth.specs.declared.Rule.{Rule}
-use Rattle.growth.specs.Columns.{ownColumn, beginColumn, indicesIn, orderColumn}
+use Rattle.growth.specs.Columns.{ownColumn, indicesIn, orderColumn}
 use Rattle.growth.proofs.Arranged.{indices-hold}
 use Rattle.growth.proofs.Leaves.{leaf-unsplit}
 use Rattle.growth.proofs.Joined.{mem-concat}
@@ -22,11 +22,13 @@ use Rattle.growth.specs.Nodes.{preorder, nodes}
 use Rattle.growth.proofs.CellTotals.{total-sources}
 use Rattle.dealing.specs.Dealt.{wordOf}
 use Rattle.dealing.proofs.Laws.{map-join}
-use Rattle.grow.specs.Cells.{Points, splitting, sizeOf, within, ownIn, ownedBy}
-use Rattle.grow.specs.Rows.{markOf, sumMarked, ownMarked, Marked, marked, Columns, columns, Spread}
-use Rattle.grow.specs.Setting.{Setting, Given}
-use Rattle.grow.specs.Steps.{Stands, Grown, sourceCodes, targetCodes, pointsOf, GrowsMarks, Grows, IndicesTaken}
-use Rattle.grow.proofs.Joins.{concat-same, concat-filter}
+use Rattle.parting.specs.Cells.{Points, splitting, sizeOf, within}
+use Rattle.grow.specs.Cells.{ownIn, ownedBy}
+use Rattle.grow.specs.Rows.{markOf, sumMarked, ownMarked, Marked}
+use Rattle.parting.specs.Setting.{Setting, Given}
+use Rattle.parting.specs.Parts.{sourceCodes, targetCodes, pointsOf}
+use Rattle.grow.specs.Steps.{Stands, Built, Grown, Grows, IndicesTaken}
+use Rattle.parting.proofs.Joins.{concat-same, concat-filter}
 use Rattle.grow.proofs.Putting.{map-agree, map-twice, owned-length}
 use Rattle.grow.proofs.Spreading.{own-told, sum-told}
 
@@ -67,58 +69,47 @@ unfolding nodes
 nodes-are g s t = refl
 
 -- all is put
-pub marks-grown : (g : Rule) (z : Setting) (work work′ : List ℕ) (s : Marked) → Stands g z (pointsOf z work) work′ s (z .sources) ([] ++ preorder g (sourceCodes z work) (targetCodes z work) (2 * 8) 0) []
-    → GrowsMarks g z work work′ s
-marks-grown g z work work′ s r = subst (λ (xs : List ℕ). Stands g z (pointsOf z work) work′ s (z .sources) xs []) (nodes-are g (sourceCodes z work) (targetCodes z work)) r
-
-module _ (g : Rule) (z : Setting) (work work′ key total : List ℕ) (n : ℕ) (q : GrowsMarks g z work work′ (marked key total n)) where
+module _ (g : Rule) (z : Setting) (work work′ : List ℕ) (s : Marked) (len : length work′ ≡ length work) where
   abbrev p : Points
   p = pointsOf z work
 
   abbrev all : List ℕ
   all = nodes g (sourceCodes z work) (targetCodes z work)
 
-  -- the columns are full
-  pub grown-over : (own begin : List ℕ) → length work′ ≡ length work → z .room < n → Grows g z work work′ (columns key own begin total n)
-  grown-over own begin len h = record {
-    counted = q .rows .counted;
-    rows = λ few. absurd (omega arith);
-    words = λ few. absurd (omega arith);
-    kept = len;
-    beyond = q .behind .beyond;
-  }
+  module _ (q : Stands g z (pointsOf z work) work′ s (z .sources) (nodes g (sourceCodes z work) (targetCodes z work)) []) where
+    -- there is room for all
+    module _ (few : s .number ≤ z .room) where
+      same : length all ≡ s .number
+      same = omega (arith, q .rows .counted)
 
-  -- there is room for all
-  module _ (few : n ≤ z .room) where
-    same : length all ≡ n
-    same = omega (arith, q .rows .counted)
+      marks-are : take (s .number) (s .mark) ≡ map (λ k. markOf (sizeOf g p k) (splitting g p k)) all
+      marks-are = ap (λ (i : ℕ). take i (s .mark)) (sym same) ∙ q .rows .filled (omega (arith, q .rows .counted)) .marks
 
-    marks-are : take n total ≡ map (λ k. markOf (sizeOf g p k) (splitting g p k)) all
-    marks-are = ap (λ (i : ℕ). take i total) (sym same) ∙ q .rows .filled (omega (arith, q .rows .counted)) .marks
+      told : (f h : ℕ → ℕ) → ((k : ℕ) → f (markOf (sizeOf g p k) (splitting g p k)) ≡ h k) → map f (take (s .number) (s .mark)) ≡ map h all
+      told f h e = ap (map f) marks-are ∙ map-twice f (λ k. markOf (sizeOf g p k) (splitting g p k)) all ∙ map-agree (λ k. f (markOf (sizeOf g p k) (splitting g p k))) h all (λ k _. e k)
 
-    owns-told : map ownMarked (take n total) ≡ map (ownIn g p) all
-    owns-told = ap (map ownMarked) marks-are ∙ map-twice ownMarked (λ k. markOf (sizeOf g p k) (splitting g p k)) all ∙ map-agree (λ k. ownMarked (markOf (sizeOf g p k) (splitting g p k))) (ownIn g p) all (λ k _. own-told (sizeOf g p k) (splitting g p k))
+      owns-told : map ownMarked (take (s .number) (s .mark)) ≡ map (ownIn g p) all
+      owns-told = told ownMarked (ownIn g p) (λ k. own-told (sizeOf g p k) (splitting g p k))
 
-    sums-told : map sumMarked (take n total) ≡ map (sizeOf g p) all
-    sums-told = ap (map sumMarked) marks-are ∙ map-twice sumMarked (λ k. markOf (sizeOf g p k) (splitting g p k)) all ∙ map-agree (λ k. sumMarked (markOf (sizeOf g p k) (splitting g p k))) (sizeOf g p) all (λ k _. sum-told (sizeOf g p k) (splitting g p k))
+      built : Built g (sourceCodes z work) (targetCodes z work) s
+      built = record {
+        keys = ap (λ (i : ℕ). take i (s .key)) (sym same) ∙ q .rows .filled (omega (arith, q .rows .counted)) .keys;
+        owns = owns-told ∙ owns-are g p z (q .behind .given);
+        totals = told sumMarked (sizeOf g p) (λ k. sum-told (sizeOf g p k) (splitting g p k)) ∙ totals-are g p z (q .behind .given);
+        few = omega (arith, ap sum owns-told, owned-length g p all, q .ordered few .reached, q .behind .given .few);
+      }
 
-    -- what spreading the marks asks
-    pub owned-few : sum (map ownMarked (take n total)) ≤ 1048576
-    owned-few = omega (arith, ap sum owns-told, owned-length g p all, q .ordered few .reached, q .behind .given .few)
-
-    pub grown-whole : (own begin total′ : List ℕ) → length work′ ≡ length work → Spread n total own begin total′ → Grows g z work work′ (columns key own begin total′ n)
-    grown-whole own begin total′ len r = record {
+    all-grown : Grows g z work work′ s
+    all-grown = record {
       counted = q .rows .counted;
-      rows = λ _. record {
-        keys = ap (λ (i : ℕ). take i key) (sym same) ∙ q .rows .filled (omega (arith, q .rows .counted)) .keys;
-        owns = r .owns ∙ owns-told ∙ owns-are g p z (q .behind .given);
-        begins = r .begins ∙ ap beginColumn (owns-told ∙ owns-are g p z (q .behind .given));
-        totals = r .totals ∙ sums-told ∙ totals-are g p z (q .behind .given);
-      };
-      words = λ _. q .ordered few .words .words ∙ ap (map (wordOf (sourceCodes z work))) (append-nil (ownedBy g p all) ∙ order-is g p z (q .behind .given));
+      rows = built;
+      words = λ few. q .ordered few .words .words ∙ ap (map (wordOf (sourceCodes z work))) (append-nil (ownedBy g p all) ∙ order-is g p z (q .behind .given));
       kept = len;
       beyond = q .behind .beyond;
     }
+
+  pub grown : Stands g z (pointsOf z work) work′ s (z .sources) ([] ++ preorder g (sourceCodes z work) (targetCodes z work) (2 * 8) 0) [] → Grows g z work work′ s
+  grown r = all-grown (subst (λ (xs : List ℕ). Stands g z p work′ s (z .sources) xs []) (nodes-are g (sourceCodes z work) (targetCodes z work)) r)
 
 -- ---- the indices of the words
 word-index : (codes : List ℕ) (i : ℕ) → i < 1048576 → wordOf codes i % 1048576 ≡ i
@@ -129,7 +120,7 @@ indices-of codes [] h = refl
 indices-of codes (x ∷ xs) h = ap₂ (λ (a : ℕ) (t : List ℕ). a ∷ t) (word-index codes x (h x (here x xs))) (indices-of codes xs (λ i m. h i (there x i xs m)))
 
 -- what `take_indices` writes after a growth is the order column
-pub order-taken : (g : Rule) (z : Setting) (sources targets work work′ order order′ : List ℕ) (s : Columns) → length sources ≤ 1048576
+pub order-taken : (g : Rule) (z : Setting) (sources targets work work′ order order′ : List ℕ) (s : Marked) → length sources ≤ 1048576
     → Grown g z sources targets work work′ s → s .number ≤ z .room → IndicesTaken (z .sources) work′ order order′ → take (z .sources) order′ ≡ orderColumn (g .axes) (nodes g sources targets) sources
 unfolding orderColumn
 order-taken g z sources targets work work′ order order′ s few q fits t =

@@ -14,9 +14,10 @@ use Rattle.dealing.proofs.Laws.{map-join}
 use Rattle.growth.specs.declared.Rule.{Rule}
 use Rattle.growth.specs.Columns.{beginColumn}
 use Rattle.growth.proofs.Arranged.{length-indices}
-use Rattle.grow.specs.Cells.{Points, splitting, sizeOf, within, ownIn, ownedBy}
+use Rattle.parting.specs.Cells.{Points, splitting, sizeOf, within}
+use Rattle.grow.specs.Cells.{ownIn, ownedBy}
 use Rattle.grow.specs.Rows.{markOf, marked, Filled, Holds}
-use Rattle.grow.proofs.Joins.{concat-one, concat-empty, concat-length, range-more}
+use Rattle.parting.proofs.Joins.{concat-one, concat-empty, concat-length, range-more}
 
 pub map-agree : (f h : ℕ → ℕ) (xs : List ℕ) → ((x : ℕ) → Mem x xs → f x ≡ h x) → map f xs ≡ map h xs
 map-agree f h [] e = refl

@@ -1,4 +1,4 @@
--- Rows put one after the other into the key column and a column of marks, and counted on when they are full; and the node columns that the marks tell.
+-- Rows put one after the other into the key column and a column of marks, and counted on when they are full; and the three columns that the marks tell.
 use mathlib.Core.Path.{_≡_}
 use mathlib.Core.Bool.{Bool, cond}
 use mathlib.Core.List.{List, [], _∷_, _++_, map}
@@ -7,7 +7,7 @@ use lib.Dec.{eqb}
 use lib.ListN.{length, take}
 use Rattle.growth.specs.declared.Rule.{Rule}
 use Rattle.growth.specs.Columns.{beginColumn}
-use Rattle.grow.specs.Cells.{Points, splitting, sizeOf}
+use Rattle.parting.specs.Cells.{Points, splitting, sizeOf}
 
 -- a row's mark: twice the sources in its cell, and one more where the cell does not split
 abbrev pub markOf : ℕ → Bool → ℕ
@@ -45,24 +45,6 @@ pub record Holds (g : Rule) (p : Points) (room : ℕ) (s : Marked) (done : List 
 abbrev pub PutsRow : ℕ → ℕ → ℕ → Bool → Marked → Marked → Type 0
 PutsRow room k sum split s t =
     (g : Rule) (p : Points) (done : List ℕ) → Holds g p room s done → sum ≡ sizeOf g p k → split ≡ splitting g p k → Holds g p room t (done ++ k ∷ [])
-
--- the node columns; and how many rows were put, or one more than the room
-pub record Columns : Type 0 where
-  pub key : List ℕ
-  pub own : List ℕ
-  pub begin : List ℕ
-  pub total : List ℕ
-  pub number : ℕ
-
-abbrev pub columns : List ℕ → List ℕ → List ℕ → List ℕ → ℕ → Columns
-columns key own begin total m = record { key = key; own = own; begin = begin; total = total; number = m }
-
--- each column has so many entries
-pub record Wide (room : ℕ) (s : Columns) : Type 0 where
-  pub keys : room ≤ length (s .key)
-  pub owns : room ≤ length (s .own)
-  pub begins : room ≤ length (s .begin)
-  pub totals : room ≤ length (s .total)
 
 -- the first n marks were spread out into three columns
 pub record Spread (n : ℕ) (marks own begin total : List ℕ) : Type 0 where

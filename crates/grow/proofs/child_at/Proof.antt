@@ -12,7 +12,7 @@ use Rattle.grow.proofs.child_at.Statement.{statement}
 use Rattle.grow.proofs.child_at.Tie as tie
 use Rattle.grow.proofs.child_at.Reads as reads
 use Rattle.grow.proofs.child_at.Lts as lts
-use Rattle.grow.proofs.sum_of.Reads as sum-of-reads
+use Rattle.parting.proofs.sum_of.Reads as sum-of-reads
 use Rattle.morton.proofs.keys.child_of.Reads as child-of-reads
 
 child-of-requires : tie.Need-child-of-requires

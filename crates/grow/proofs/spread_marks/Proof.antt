@@ -28,6 +28,9 @@ slice-read-mark c = search needs
 own-marked-requires : tie.Need-own-marked-requires Inv-loop μ-loop
 own-marked-requires c κs = search needs
 
+add-end : tie.Need-add-end Inv-loop μ-loop
+add-end c = let a = c .before .before .before .before .before .before .before .args in let s = c .before .before .before .before .before .before .before .pre in omega (arith, spreading-fits (a .n) (now (a .total)) (now (a .own)) (now (a .begin)) (s .0) (s .1) (s .2) (s .3) (c .before .before .before .loop .own) (c .before .before .before .loop .begin) (c .before .before .before .loop .total) (c .before .before .before .loop .at) (c .before .before .before .loop .i) (c .before .before .before .loop .inv) (c .before .before .loop-test .taken) (c .own-marked .result) (c .own-marked .ensures))
+
 mul-own : tie.Need-mul-own Inv-loop μ-loop
 mul-own c = search needs
 
@@ -45,9 +48,6 @@ mul-total c = search needs
 
 slice-write-total : tie.Need-slice-write-total Inv-loop μ-loop
 slice-write-total c = search needs
-
-add-at : tie.Need-add-at Inv-loop μ-loop
-add-at c = let a = c .before .before .before .before .before .before .before .args in let s = c .before .before .before .before .before .before .before .pre in omega (arith, spreading-fits (a .n) (now (a .total)) (now (a .own)) (now (a .begin)) (s .0) (s .1) (s .2) (s .3) (c .before .before .before .loop .own) (c .before .before .before .loop .begin) (c .before .before .before .loop .total) (c .before .before .before .loop .at) (c .before .before .before .loop .i) (c .before .before .before .loop .inv) (c .before .before .loop-test .taken) (c .own-marked .result) (c .own-marked .ensures))
 
 add-i : tie.Need-add-i Inv-loop μ-loop
 add-i c = search needs
@@ -72,4 +72,4 @@ returns c = let a = c .before .before .before .before .before .args in let s = c
 
 pub spread-marks-spec : {M : Type 1} → statement M
 spread-marks-spec =
-    tie.close (tie.spec Inv-loop μ-loop loop-holds mul-mark slice-read-mark own-marked-requires mul-own slice-write-own mul-begin slice-write-begin mul-total slice-write-total add-at add-i loop-less loop-again same-length same-length-2 same-length-3 returns)
+    tie.close (tie.spec Inv-loop μ-loop loop-holds mul-mark slice-read-mark own-marked-requires add-end mul-own slice-write-own mul-begin slice-write-begin mul-total slice-write-total add-i loop-less loop-again same-length same-length-2 same-length-3 returns)
