@@ -1,7 +1,7 @@
 -- The answers of a build, by the checks that have run.
 use mathlib.Core.Path.{_≡_, refl, sym, ap, ap₂, _∙_}
 use mathlib.Core.List.{List}
-use Prim.Native.Nat.{ℕ, _≤_, _<_}
+use Prim.Native.Nat.{ℕ, _+_, _≤_, _<_, min}
 use native.Mathlib.Omega.{arith}
 use lib.Dec.{leb}
 use lib.Ieee.{Float}
@@ -12,7 +12,8 @@ use Rattle.refusal.specs.declared.Refusal.the-variants.{Room}
 use Rattle.refusal.specs.declared.Outcome.{Outcome}
 use Rattle.refusal.specs.declared.Outcome.the-variants.{Done, Refused}
 use Rattle.refusal.specs.Chain.{ask, _then_}
-use Rattle.refusal.proofs.Chain.{never, asked, after-done, after-refused}
+use Rattle.refusal.proofs.Chain.{after-done, after-refused}
+use Rattle.slices.proofs.Tests.{same-test}
 use Rattle.tree.specs.Order.{depthOf}
 use Rattle.space.specs.declared.Box.{Box}
 use Rattle.space.specs.Rows.{rowsOf}
@@ -20,19 +21,11 @@ use Rattle.laying.specs.Outcomes.{askedOutcome, insideOutcome, workOutcome}
 use Rattle.build.specs.declared.Built.the-variants.{Tree, Refused as NotBuilt}
 use Rattle.build.specs.Asked.{Asked, builtKeys}
 use Rattle.build.specs.Outcomes.{columnOutcome, buildOutcome, treeOr}
-use Rattle.build.specs.Steps.{layOutcome, treeAnswer}
+use Rattle.build.specs.Steps.{layOutcome}
 
--- an answer that is a refusal, or a tree, tells the outcome
-pub told-refused : (o : Outcome) (key : List ℕ) (r : Refusal) → NotBuilt r ≡ treeOr o key → o ≡ Refused r
-told-refused Done key r e = let z : _≡_ {A = ℕ} 0 1 = cc in absurd (omega arith)
-told-refused (Refused q) key r e = cc
-
-pub told-tree : (o : Outcome) (key : List ℕ) (n depth : ℕ) → Tree n depth ≡ treeOr o key → o ≡ Done
-told-tree Done key n depth e = refl
-told-tree (Refused q) key n depth e = let z : _≡_ {A = ℕ} 0 1 = cc in absurd (omega arith)
-
-pub not-done : (o : Outcome) (key : List ℕ) (r : Refusal) → NotBuilt r ≡ treeOr o key → o ≡ Done → ⊥
-not-done o key r e d = never r (sym (told-refused o key r e) ∙ d)
+-- the answer of a build that is refused
+pub refusal-so : (o : Outcome) (key : List ℕ) (r : Refusal) → o ≡ Refused r → NotBuilt r ≡ treeOr o key
+refusal-so o key r e = sym (ap (λ q. treeOr q key) e)
 
 then-all : (o p q : Outcome) → o then (p then q) ≡ (o then p) then q
 then-all Done p q = refl
@@ -49,24 +42,23 @@ module _ (a : Asked) (work order nodes : ℕ) where
   unfolding columnOutcome
   parts = then-all (askedOutcome (a .box) (a .sources) (a .targets) (a .order) then insideOutcome (a .box) (a .sources) (a .targets) then workOutcome (a .box) (a .sources) (a .targets) work) (ask (leb (rowsOf (a .box) (a .sources)) order) (Room 2)) last
 
-  pub early-refused : (r : Refusal) → Refused r ≡ layOutcome (a .box) (a .sources) (a .targets) (a .order) work order → NotBuilt r ≡ treeOr (buildOutcome a work order nodes) (builtKeys a)
-  early-refused r e = sym (ap (λ o. treeOr o (builtKeys a)) (parts ∙ after-refused early last r (sym e)))
+  pub early-so : (r : Refusal) → Refused r ≡ layOutcome (a .box) (a .sources) (a .targets) (a .order) work order → Refused r ≡ buildOutcome a work order nodes
+  early-so r e = sym (parts ∙ after-refused early last r (sym e))
 
-  module _ (e : Done ≡ layOutcome (a .box) (a .sources) (a .targets) (a .order) work order) where
-    pub tree-answered : (keys : List ℕ) (room : ℕ) → keys ≡ builtKeys a → room ≡ nodes → treeAnswer keys room ≡ treeOr (buildOutcome a work order nodes) (builtKeys a)
-    tree-answered keys room k r = ap₂ (λ (ks : List ℕ) (n : ℕ). treeAnswer ks n) k r ∙ sym (ap (λ o. treeOr o (builtKeys a)) (parts ∙ after-done early last (sym e)))
+  -- n rows were counted, up to one more than the room
+  pub late-so : Done ≡ layOutcome (a .box) (a .sources) (a .targets) (a .order) work order → (n room : ℕ) (keys : List ℕ) → keys ≡ builtKeys a → room ≡ nodes → n ≡ min (length keys) (room + 1)
+      → ask (leb n room) (Room 3) ≡ buildOutcome a work order nodes
+  late-so e n room keys k r c = ap (λ b. ask b (Room 3)) same ∙ sym (parts ∙ after-done early last (sym e))
+    where
+      same : leb n room ≡ leb (length (builtKeys a)) nodes
+      same =
+          same-test (leb n room) (leb (length (builtKeys a)) nodes)
+          (λ h. let l = leb-true n room h in le-leb (length (builtKeys a)) nodes (omega (arith, l, c, r, ap length k)))
+          (λ h. let l = leb-true (length (builtKeys a)) nodes h in le-leb n room (omega (arith, l, c, r, ap length k)))
 
-    pub nodes-fit : buildOutcome a work order nodes ≡ Done → length (builtKeys a) ≤ nodes
-    nodes-fit d = leb-true (length (builtKeys a)) nodes (asked (leb (length (builtKeys a)) nodes) (Room 3) (sym (parts ∙ after-done early last (sym e)) ∙ d))
-
--- the answer of a growth
-pub rows-short : (keys : List ℕ) (room : ℕ) → room < length keys → NotBuilt (Room 3) ≡ treeAnswer keys room
-rows-short keys room h = sym (ap (λ b. treeOr (ask b (Room 3)) keys) (lt-leb (length keys) room h))
-
-pub tree-grown : (keys : List ℕ) (room n depth : ℕ) (first : List ℕ) → n ≡ length keys → n ≤ room → first ≡ keys → depth ≡ depthOf first → Tree n depth ≡ treeAnswer keys room
-tree-grown keys room n depth first e h f d =
-    ap₂ (λ (x y : ℕ). Tree x y) e (d ∙ ap depthOf f)
-    ∙ sym (ap (λ b. treeOr (ask b (Room 3)) keys) (le-leb (length keys) room (omega (arith, e, h))))
+-- the answer of a build that is not refused
+pub tree-so : (a : Asked) (o : Outcome) (n depth : ℕ) (first : List ℕ) → o ≡ Done → n ≡ length (builtKeys a) → first ≡ builtKeys a → depth ≡ depthOf first → Tree n depth ≡ treeOr o (builtKeys a)
+tree-so a o n depth first d e f g = ap₂ (λ (x y : ℕ). Tree x y) e (g ∙ ap depthOf f) ∙ sym (ap (λ q. treeOr q (builtKeys a)) d)
 
 -- where the points are laid out, their checks have passed
 module _ (b : Box) (s t : List Float) (order work room : ℕ) where

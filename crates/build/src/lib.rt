@@ -8,19 +8,19 @@ ghost use mathlib.Core.Path.{_≡_};
 ghost use mathlib.Core.Bool.{Bool};
 ghost use mathlib.Core.List.{_++_, map};
 ghost use Prim.Native.Nat.{ℕ, _-_, _≤_, min};
+ghost use lib.Dec.{leb};
 ghost use lib.ListN.{length, take, replicate};
 ghost use Rattle.slices.specs.Lists.{sum};
+ghost use Rattle.refusal.specs.declared.Refusal.the-variants.{Room};
 ghost use Rattle.refusal.specs.declared.Outcome.the-variants.{Done, Refused};
+ghost use Rattle.refusal.specs.Chain.{ask};
 ghost use Rattle.tree.specs.Order.{depthOf};
 ghost use Rattle.growth.specs.Columns.{beginColumn};
-ghost use Rattle.growth.specs.Nodes.{nodes};
-ghost use Rattle.parting.specs.Setting.{setting};
-ghost use Rattle.parting.specs.Parts.{sourceCodes, targetCodes, Coded};
 ghost use Rattle.grow.specs.Rows.{ownMarked, sumMarked};
 ghost use Rattle.build.specs.Asked.{used, asks, asksFor};
-ghost use Rattle.build.specs.Outcomes.{nodeRoom, rooms, buildCheck, buildAnswer, orderLeft, keysLeft, ownLeft, beginsLeft, totalsLeft, BuiltSlices};
+ghost use Rattle.build.specs.Outcomes.{nodeRoom, rooms, buildOutcome, buildAnswer, orderLeft, keysLeft, ownLeft, beginsLeft, totalsLeft};
 ghost use Rattle.build.specs.Summing.{Sourced, SumsMade, indices as indicesOf};
-ghost use Rattle.build.specs.Steps.{layOutcome, LaidOut, RoomFor, treeAnswer, TreeLeft};
+ghost use Rattle.build.specs.Steps.{layOutcome, LaidOut, TreeStarted};
 
 pub const MOST_NODES: usize = 1048576;
 
@@ -161,61 +161,64 @@ fn lay_out(
     }
 }
 
-// Grows the tree of the codes in the work, and fills the lent slices. Where the rows have no room the slices hold anything.
-fn grow_tree(
-    g: Rule,
-    z: Sizes,
-    work: &mut [u64],
-    indices: &mut [usize],
-    key: &mut [u64],
-    own: &mut [usize],
-    begin: &mut [usize],
-    total: &mut [usize],
-) -> Built
-    requires { ⌜ Coded g (setting z (now indices)) (now work) × (z .sources ≤ length (now indices)) × RoomFor (z .room) (now key) (now own) (now begin) (now total) ⌝ }
-    ensures { λ r. ⌜ r ≡ treeAnswer (nodes g (sourceCodes (setting z (now (indices .entry))) (now (work .entry))) (targetCodes (setting z (now (indices .entry))) (now (work .entry)))) (z .room) ⌝ }
-    ensures { λ _. ⌜ (length (nodes g (sourceCodes (setting z (now (indices .entry))) (now (work .entry))) (targetCodes (setting z (now (indices .entry))) (now (work .entry)))) ≤ z .room
-        → TreeLeft g (sourceCodes (setting z (now (indices .entry))) (now (work .entry))) (targetCodes (setting z (now (indices .entry))) (now (work .entry)))
-        (rooms (now (work .entry)) (now (indices .entry)) (now (key .entry)) (now (own .entry)) (now (begin .entry)) (now (total .entry)))
-        (now (work .exit)) (now (indices .exit)) (now (key .exit)) (now (own .exit)) (now (begin .exit)) (now (total .exit))) ⌝ }
-{
-    let n = grow::grow(g, z, indices, work, key, total);
-    if z.room < n {
-        return Built::Refused(Refusal::Room(3));
-    }
-    let depth = finish(z.sources, n, work, indices, key);
-    fill_columns(n, own, begin, total);
-    Built::Tree(n, depth)
+// Whether all rows are put; then how many sources and nodes there are.
+struct Started {
+    outcome: Outcome,
+    rows: usize,
+    nodes: usize,
 }
 
-// Builds the tree of the targets that are used. After a refusal the slices hold anything.
-fn attempt(
+// A refusal: nothing is counted.
+fn unstarted(refusal: Refusal) -> Started
+    ensures { λ r. ⌜ r .outcome ≡ Refused refusal ⌝ }
+{
+    Started {
+        outcome: Outcome::Refused(refusal),
+        rows: 0,
+        nodes: 0,
+    }
+}
+
+// Whether n nodes have room.
+fn settle(room: usize, rows: usize, n: usize) -> Started
+    ensures { λ r. ⌜ r .outcome ≡ ask (leb n room) (Room 3) ⌝ }
+    ensures { λ r. ⌜ (r .outcome ≡ Done → (r .rows ≡ rows) × (r .nodes ≡ n)) ⌝ }
+{
+    if room < n {
+        return unstarted(Refusal::Room(3));
+    }
+    Started {
+        outcome: Outcome::Done,
+        rows,
+        nodes: n,
+    }
+}
+
+// Lays the points out and grows their tree, with the marks of its rows in `mark`. After a refusal the slices hold anything.
+fn start(
     b: Box,
     sources: &[f64],
     targets: &[f64],
     limit: usize,
     order: usize,
     keep: bool,
+    refine: bool,
+    room: usize,
     work: &mut [u64],
     indices: &mut [usize],
     key: &mut [u64],
-    own: &mut [usize],
-    begin: &mut [usize],
-    total: &mut [usize],
-) -> Built
-    ensures { λ r. ⌜ r ≡ buildAnswer (asks b limit order keep (now (sources .entry)) (now (targets .entry)))
-        (rooms (now (work .entry)) (now (indices .entry)) (now (key .entry)) (now (own .entry)) (now (begin .entry)) (now (total .entry))) ⌝ }
-    ensures { λ _. ⌜ (buildCheck (asks b limit order keep (now (sources .entry)) (now (targets .entry)))
-        (rooms (now (work .entry)) (now (indices .entry)) (now (key .entry)) (now (own .entry)) (now (begin .entry)) (now (total .entry))) ≡ Done
-        → BuiltSlices (asks b limit order keep (now (sources .entry)) (now (targets .entry)))
-        (rooms (now (work .entry)) (now (indices .entry)) (now (key .entry)) (now (own .entry)) (now (begin .entry)) (now (total .entry)))
-        (now (work .exit)) (now (indices .exit)) (now (key .exit)) (now (own .exit)) (now (begin .exit)) (now (total .exit))) ⌝ }
+    mark: &mut [usize],
+) -> Started
+    requires { ⌜ (room ≤ length (now key)) × (room ≤ length (now mark)) ⌝ }
+    ensures { λ r. ⌜ r .outcome ≡ buildOutcome (asksFor b (now (sources .entry)) (now (targets .entry)) limit order keep refine) (length (now (work .entry))) (length (now (indices .entry))) room ⌝ }
+    ensures { λ r. ⌜ (r .outcome ≡ Done
+        → TreeStarted (asksFor b (now (sources .entry)) (now (targets .entry)) limit order keep refine) room (r .rows) (r .nodes) (now (work .exit)) (now (indices .exit)) (now (key .exit)) (now (mark .exit))) ⌝ }
 {
-    let room = node_room(key.len(), own.len(), begin.len(), total.len());
-    let laid = lay_out(b, sources, targets, order, room, work, indices);
+    let marked = used_targets(targets, keep, refine);
+    let laid = lay_out(b, sources, marked, order, room, work, indices);
     let outcome = laid.outcome;
     if let Outcome::Refused(refusal) = outcome {
-        return Built::Refused(refusal);
+        return unstarted(refusal);
     }
     let g = Rule {
         axes: b.axes,
@@ -223,7 +226,9 @@ fn attempt(
         order,
         keep,
     };
-    grow_tree(g, laid.sizes, work, indices, key, own, begin, total)
+    let z = laid.sizes;
+    let n = grow::grow(g, z, indices, work, key, mark);
+    settle(z.room, z.sources, n)
 }
 
 // Clears every lent slice.
@@ -281,26 +286,27 @@ pub fn build_tree(
     ensures { λ _. ⌜ now (total .exit) ≡ totalsLeft (asksFor b (now (sources .entry)) (now (targets .entry)) limit order keep refine)
         (rooms (now (work .entry)) (now (indices .entry)) (now (key .entry)) (now (own .entry)) (now (begin .entry)) (now (total .entry))) ⌝ }
 {
-    let marked = used_targets(targets, keep, refine);
-    let built = attempt(
+    let room = node_room(key.len(), own.len(), begin.len(), total.len());
+    let started = start(
         b,
         sources,
-        marked,
+        targets,
         limit,
         order,
         keep,
+        refine,
+        room,
         work,
         indices,
         key,
-        own,
-        begin,
         total,
     );
-    match built {
-        Built::Tree(nodes, depth) => Built::Tree(nodes, depth),
-        Built::Refused(refusal) => {
-            clear_all(work, indices, key, own, begin, total);
-            Built::Refused(refusal)
-        }
+    let outcome = started.outcome;
+    if let Outcome::Refused(refusal) = outcome {
+        clear_all(work, indices, key, own, begin, total);
+        return Built::Refused(refusal);
     }
+    let depth = finish(started.rows, started.nodes, work, indices, key);
+    fill_columns(started.nodes, own, begin, total);
+    Built::Tree(started.nodes, depth)
 }
