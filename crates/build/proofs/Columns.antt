@@ -3,12 +3,17 @@ use mathlib.Core.Path.{_≡_, refl, sym, ap, ap₂, subst, _∙_}
 use mathlib.Core.List.{List, _++_, map}
 use Prim.Native.Nat.{ℕ, _*_, _+_, _-_, _%_, _≤_, _<_}
 use native.Mathlib.Omega.{arith}
-use lib.ListN.{length, take, drop, replicate, length-map}
+use lib.ListN.{length, take, replicate, length-map}
 use lib.Seq.{length-take-le, length-slice, take-all}
+use Rattle.refusal.specs.declared.Refusal.{Refusal}
+use Rattle.refusal.specs.declared.Outcome.{Outcome}
+use Rattle.refusal.specs.declared.Outcome.the-variants.{Done, Refused}
+use Rattle.refusal.proofs.Left.{left-done, left-refused}
 use Rattle.slices.specs.Lists.{filled}
 use Rattle.slices.specs.Order.{ascending}
 use Rattle.growth.specs.Columns.{ownColumn, beginColumn, orderColumn}
 use Rattle.growth.proofs.Runs.{length-own, length-begin}
+use Rattle.tree.specs.Order.{depthOf}
 use Rattle.tree.specs.Totals.{totalColumn}
 use Rattle.growth.specs.Nodes.{nodes}
 use Rattle.laying.specs.Points.{codesOf}
@@ -18,10 +23,13 @@ use Rattle.grow.specs.Rows.{sumMarked, ownMarked, Marked}
 use Rattle.grow.specs.Steps.{Grows}
 use Rattle.grow.proofs.Ending.{order-taken}
 use Rattle.build.specs.Asked.{Asked, ruleOf, builtKeys, builtOwn, builtBegins, builtTotals, builtOrder}
-use Rattle.build.specs.Outcomes.{Rooms}
+use Rattle.build.specs.declared.Built.{Built}
+use Rattle.build.specs.declared.Built.the-variants.{Tree, Refused as NotBuilt}
+use Rattle.build.specs.Outcomes.{Rooms, buildCheck, buildAnswer, orderLeft, keysLeft, ownLeft, beginsLeft, totalsLeft}
 use Rattle.build.specs.Summing.{indices}
 use Rattle.build.specs.Steps.{TreeStarted, BuiltSlices}
 use Rattle.build.proofs.Sorted.{nodes-any}
+use Rattle.build.proofs.Answers.{refusal-so, tree-so}
 
 module _ (a : Asked) (z : Setting) (work work′ : List ℕ) (s : Marked) (coded : Coded (ruleOf a) z work) (q : Grows (ruleOf a) z work work′ s)
     (sources-are : sourceCodes z work ≡ codesOf (a .box) (a .sources)) (targets-are : targetCodes z work ≡ ascending (codesOf (a .box) (a .targets))) where
@@ -111,3 +119,60 @@ module _ (a : Asked) (room rows n : ℕ) (work order key mark : List ℕ) (q : T
     where
       begun-is : beginColumn (map ownMarked (take n mark)) ≡ builtBegins a
       begun-is = ap beginColumn (q .owns) ∙ own-begins a
+
+-- ---- the answer and the slices of a build
+abbrev pub Ended : Asked → Rooms → Built → List ℕ → List ℕ → List ℕ → List ℕ → List ℕ → List ℕ → Type 0
+Ended a r answer works orders keys owns begins totals =
+    (answer ≡ buildAnswer a r)
+    × ((works ≡ replicate (r .work) 0) × ((orders ≡ orderLeft a r) × ((keys ≡ keysLeft a r) × ((owns ≡ ownLeft a r) × ((begins ≡ beginsLeft a r) × (totals ≡ totalsLeft a r))))))
+
+module _ (a : Asked) (r : Rooms) (works orders keys owns begins totals : List ℕ) where
+  abbrev checked : Outcome
+  checked = buildCheck a r
+
+  pub refused-all : (q : Refusal) → buildCheck a r ≡ Refused q → (work order key own begin total : List ℕ)
+      → length work ≡ r .work → works ≡ replicate (length work) 0 → length order ≡ r .order → orders ≡ replicate (length order) 0
+      → length key ≡ r .keys → keys ≡ replicate (length key) 0 → length own ≡ r .own → owns ≡ replicate (length own) 0
+      → length begin ≡ r .begins → begins ≡ replicate (length begin) 0 → length total ≡ r .totals → totals ≡ replicate (length total) 0
+      → Ended a r (NotBuilt q) works orders keys owns begins totals
+  refused-all q d work order key own begin total lw iw li io lk ik lo iown lb ib lt it = (
+    refusal-so checked (builtKeys a) q d,
+    (
+      iw ∙ ap (λ (x : ℕ). replicate x 0) lw,
+      (
+        left-refused checked (r .order) (builtOrder a) orders q (length order) d li io,
+        (
+          left-refused checked (r .keys) (builtKeys a) keys q (length key) d lk ik,
+          (
+            left-refused checked (r .own) (builtOwn a) owns q (length own) d lo iown,
+            (
+              left-refused checked (r .begins) (builtBegins a) begins q (length begin) d lb ib,
+              left-refused checked (r .totals) (builtTotals a) totals q (length total) d lt it,
+            ),
+          ),
+        ),
+      ),
+    ),
+  )
+
+  pub built-all : buildCheck a r ≡ Done → (n depth : ℕ) (first : List ℕ) → n ≡ length (builtKeys a) → first ≡ builtKeys a → depth ≡ depthOf first → BuiltSlices a r works orders keys owns begins totals
+      → Ended a r (Tree n depth) works orders keys owns begins totals
+  built-all d n depth first e f g s = (
+    tree-so a checked n depth first d e f g,
+    (
+      s .worked,
+      (
+        left-done checked (r .order) (builtOrder a) orders d (s .ordered),
+        (
+          left-done checked (r .keys) (builtKeys a) keys d (s .keyed),
+          (
+            left-done checked (r .own) (builtOwn a) owns d (s .owned),
+            (
+              left-done checked (r .begins) (builtBegins a) begins d (s .begun),
+              left-done checked (r .totals) (builtTotals a) totals d (s .summed),
+            ),
+          ),
+        ),
+      ),
+    ),
+  )

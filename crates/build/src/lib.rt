@@ -231,25 +231,23 @@ fn start(
     settle(z.room, z.sources, n)
 }
 
-// Clears every lent slice.
-fn clear_all(
-    work: &mut [u64],
-    indices: &mut [usize],
-    key: &mut [u64],
-    own: &mut [usize],
-    begin: &mut [usize],
-    total: &mut [usize],
-)
+// Clears the work, the order column and the keys.
+fn clear_keys(work: &mut [u64], indices: &mut [usize], key: &mut [u64])
     ensures { λ _. ⌜ now (work .exit) ≡ replicate (length (now (work .entry))) 0 ⌝ }
     ensures { λ _. ⌜ now (indices .exit) ≡ replicate (length (now (indices .entry))) 0 ⌝ }
     ensures { λ _. ⌜ now (key .exit) ≡ replicate (length (now (key .entry))) 0 ⌝ }
-    ensures { λ _. ⌜ now (own .exit) ≡ replicate (length (now (own .entry))) 0 ⌝ }
-    ensures { λ _. ⌜ now (begin .exit) ≡ replicate (length (now (begin .entry))) 0 ⌝ }
-    ensures { λ _. ⌜ now (total .exit) ≡ replicate (length (now (total .entry))) 0 ⌝ }
 {
     slices::clear(work);
     slices::clear_usize(indices);
     slices::clear(key);
+}
+
+// Clears the columns beside the keys.
+fn clear_columns(own: &mut [usize], begin: &mut [usize], total: &mut [usize])
+    ensures { λ _. ⌜ now (own .exit) ≡ replicate (length (now (own .entry))) 0 ⌝ }
+    ensures { λ _. ⌜ now (begin .exit) ≡ replicate (length (now (begin .entry))) 0 ⌝ }
+    ensures { λ _. ⌜ now (total .exit) ≡ replicate (length (now (total .entry))) 0 ⌝ }
+{
     slices::clear_usize(own);
     slices::clear_usize(begin);
     slices::clear_usize(total);
@@ -303,7 +301,8 @@ pub fn build_tree(
     );
     let outcome = started.outcome;
     if let Outcome::Refused(refusal) = outcome {
-        clear_all(work, indices, key, own, begin, total);
+        clear_keys(work, indices, key);
+        clear_columns(own, begin, total);
         return Built::Refused(refusal);
     }
     let depth = finish(started.rows, started.nodes, work, indices, key);

@@ -2,19 +2,18 @@
 use mathlib.Core.Path.{refl, sym, ap, _∙_}
 use Prim.Native.Nat.{ℕ}
 use native.Mathlib.Omega.{arith}
-use lib.ListN.{length, take, replicate}
+use lib.ListN.{length, take}
 use denote.Ref.{now}
-use Rattle.refusal.proofs.Left.{left-done, left-refused}
-use Rattle.build.specs.Asked.{asksFor, builtKeys}
-use Rattle.build.specs.Outcomes.{nodeRoom, buildOutcome, rooms}
-use Rattle.build.proofs.Answers.{refusal-so, tree-so}
-use Rattle.build.proofs.Columns.{slices-built}
+use Rattle.build.specs.Asked.{asksFor}
+use Rattle.build.specs.Outcomes.{buildOutcome, rooms}
+use Rattle.build.proofs.Columns.{slices-built, refused-all, built-all}
 use borrow.Author.Needs.{needs}
 use Rattle.build.proofs.build_tree.Statement.{statement}
 use Rattle.build.proofs.build_tree.Tie as tie
 use Rattle.build.proofs.build_tree.Reads as reads
 use Rattle.build.proofs.build_tree.Lts as lts
-use Rattle.build.proofs.clear_all.Reads as clear-all-reads
+use Rattle.build.proofs.clear_columns.Reads as clear-columns-reads
+use Rattle.build.proofs.clear_keys.Reads as clear-keys-reads
 use Rattle.build.proofs.fill_columns.Reads as fill-columns-reads
 use Rattle.build.proofs.finish.Reads as finish-reads
 use Rattle.build.proofs.node_room.Reads as node-room-reads
@@ -29,29 +28,32 @@ start-requires c κs = (omega (arith, c .before .before .before .before .node-ro
 enum-known-outcome : tie.Need-enum-known-outcome
 enum-known-outcome c = search needs
 
-clear-all-requires : tie.Need-clear-all-requires
-clear-all-requires c κs = search needs
+clear-keys-requires : tie.Need-clear-keys-requires
+clear-keys-requires c κs = search needs
+
+clear-columns-requires : tie.Need-clear-columns-requires
+clear-columns-requires c κs = search needs
 
 same-length : tie.Need-same-length
-same-length c = c .before .before .before .before .before .before .before .before .before .before .before .before .clear-all .kept .0 ∙ c .before .before .before .before .before .before .before .before .before .before .before .before .before .before .before .before .before .before .before .before .before .before .before .before .before .before .before .before .before .before .start .kept .1 .1 .1 .1 .1 .1 .1 .1 .0
+same-length c = c .before .before .before .before .before .before .before .before .before .before .before .before .before .before .before .before .clear-keys .kept .0 ∙ c .before .before .before .before .before .before .before .before .before .before .before .before .before .before .before .before .before .before .before .before .before .before .before .before .before .before .before .before .before .before .before .start .kept .1 .1 .1 .1 .1 .1 .1 .1 .0
 
 same-length-2 : tie.Need-same-length-2
-same-length-2 c = c .before .before .before .before .before .before .before .before .before .before .before .before .clear-all .kept .1 .0 ∙ c .before .before .before .before .before .before .before .before .before .before .before .before .before .before .before .before .before .before .before .before .before .before .before .before .before .before .before .before .before .before .start .kept .1 .1 .1 .1 .1 .1 .1 .1 .1 .0
+same-length-2 c = c .before .before .before .before .before .before .before .before .before .before .before .before .before .before .before .before .clear-keys .kept .1 .0 ∙ c .before .before .before .before .before .before .before .before .before .before .before .before .before .before .before .before .before .before .before .before .before .before .before .before .before .before .before .before .before .before .before .start .kept .1 .1 .1 .1 .1 .1 .1 .1 .1 .0
 
 same-length-3 : tie.Need-same-length-3
-same-length-3 c = c .before .before .before .before .before .before .before .before .before .before .before .before .clear-all .kept .1 .1 .0 ∙ c .before .before .before .before .before .before .before .before .before .before .before .before .before .before .before .before .before .before .before .before .before .before .before .before .before .before .before .before .before .before .start .kept .1 .1 .1 .1 .1 .1 .1 .1 .1 .1 .0
+same-length-3 c = c .before .before .before .before .before .before .before .before .before .before .before .before .before .before .before .before .clear-keys .kept .1 .1 .0 ∙ c .before .before .before .before .before .before .before .before .before .before .before .before .before .before .before .before .before .before .before .before .before .before .before .before .before .before .before .before .before .before .before .start .kept .1 .1 .1 .1 .1 .1 .1 .1 .1 .1 .0
 
 same-length-4 : tie.Need-same-length-4
-same-length-4 c = c .before .before .before .before .before .before .before .before .before .before .before .before .clear-all .kept .1 .1 .1 .0
+same-length-4 c = c .before .before .before .before .before .before .clear-columns .kept .0
 
 same-length-5 : tie.Need-same-length-5
-same-length-5 c = c .before .before .before .before .before .before .before .before .before .before .before .before .clear-all .kept .1 .1 .1 .1 .0
+same-length-5 c = c .before .before .before .before .before .before .clear-columns .kept .1 .0
 
 same-length-6 : tie.Need-same-length-6
-same-length-6 c = c .before .before .before .before .before .before .before .before .before .before .before .before .clear-all .kept .1 .1 .1 .1 .1 .0 ∙ c .before .before .before .before .before .before .before .before .before .before .before .before .before .before .before .before .before .before .before .before .before .before .before .before .before .before .before .before .before .before .start .kept .1 .1 .1 .1 .1 .1 .1 .1 .1 .1 .1 .0
+same-length-6 c = c .before .before .before .before .before .before .clear-columns .kept .1 .1 .0 ∙ c .before .before .before .before .before .before .before .before .before .before .before .before .before .before .before .before .before .before .before .before .before .before .before .before .before .before .before .before .before .before .before .start .kept .1 .1 .1 .1 .1 .1 .1 .1 .1 .1 .1 .0
 
 returns : tie.Need-returns
-returns c = let a = c .before .before .before .before .before .before .before .before .before .before .before .before .before .before .before .before .before .before .before .before .before .before .before .before .before .before .before .before .before .before .before .before .before .before .before .before .before .before .before .before .before .before .before .before .args in let o = ap (λ (x : ℕ). buildOutcome (asksFor (a .b) (now (a .sources)) (now (a .targets)) (a .limit) (a .order) (a .keep) (a .refine)) (length (now (a .work))) (length (now (a .indices))) x) (sym (c .before .before .before .before .before .before .before .before .before .before .before .before .before .before .before .before .before .before .before .before .before .before .before .before .before .before .before .before .before .before .before .before .before .before .before .node-room .ensures)) ∙ sym (c .before .before .before .before .before .before .before .before .before .before .before .before .before .before .before .before .before .before .before .before .before .before .before .before .before .before .before .before .before .before .start .ensures .0) in let d = o ∙ c .before .before .before .before .before .before .before .before .before .before .before .before .before .before .before .before .before .before .before .before .outcome .given .1 in let z = c .before .before .before .before .before .before .before .before .before .before .before .before .clear-all .ensures in (refusal-so (buildOutcome (asksFor (a .b) (now (a .sources)) (now (a .targets)) (a .limit) (a .order) (a .keep) (a .refine)) (length (now (a .work))) (length (now (a .indices))) (nodeRoom (length (now (a .key))) (length (now (a .own))) (length (now (a .begin))) (length (now (a .total))))) (builtKeys (asksFor (a .b) (now (a .sources)) (now (a .targets)) (a .limit) (a .order) (a .keep) (a .refine))) (c .before .before .before .before .before .before .before .before .before .before .before .before .before .before .before .before .before .before .before .before .outcome .given .0 .0) d, (z .0 ∙ ap (λ (x : ℕ). replicate x 0) (c .before .before .before .before .before .before .before .before .before .before .before .before .before .before .before .before .before .before .before .before .before .before .before .before .before .before .before .before .before .before .start .kept .1 .1 .1 .1 .1 .1 .1 .1 .0), (left-refused _ (length (now (a .indices))) _ _ _ _ d (c .before .before .before .before .before .before .before .before .before .before .before .before .before .before .before .before .before .before .before .before .before .before .before .before .before .before .before .before .before .before .start .kept .1 .1 .1 .1 .1 .1 .1 .1 .1 .0) (z .1 .0), (left-refused _ (length (now (a .key))) _ _ _ _ d (c .before .before .before .before .before .before .before .before .before .before .before .before .before .before .before .before .before .before .before .before .before .before .before .before .before .before .before .before .before .before .start .kept .1 .1 .1 .1 .1 .1 .1 .1 .1 .1 .0) (z .1 .1 .0), (left-refused _ (length (now (a .own))) _ _ _ _ d (refl) (z .1 .1 .1 .0), (left-refused _ (length (now (a .begin))) _ _ _ _ d (refl) (z .1 .1 .1 .1 .0), left-refused _ (length (now (a .total))) _ _ _ _ d (c .before .before .before .before .before .before .before .before .before .before .before .before .before .before .before .before .before .before .before .before .before .before .before .before .before .before .before .before .before .before .start .kept .1 .1 .1 .1 .1 .1 .1 .1 .1 .1 .1 .0) (z .1 .1 .1 .1 .1)))))))
+returns c = let a = c .before .before .before .before .before .before .before .before .before .before .before .before .before .before .before .before .before .before .before .before .before .before .before .before .before .before .before .before .before .before .before .before .before .before .before .before .before .before .before .before .before .before .before .before .before .args in let o = ap (λ (x : ℕ). buildOutcome (asksFor (a .b) (now (a .sources)) (now (a .targets)) (a .limit) (a .order) (a .keep) (a .refine)) (length (now (a .work))) (length (now (a .indices))) x) (sym (c .before .before .before .before .before .before .before .before .before .before .before .before .before .before .before .before .before .before .before .before .before .before .before .before .before .before .before .before .before .before .before .before .before .before .before .before .node-room .ensures)) ∙ sym (c .before .before .before .before .before .before .before .before .before .before .before .before .before .before .before .before .before .before .before .before .before .before .before .before .before .before .before .before .before .before .before .start .ensures .0) in let z = c .before .before .before .before .before .before .before .before .before .before .before .before .before .before .before .before .clear-keys .ensures in let y = c .before .before .before .before .before .before .clear-columns .ensures in refused-all (asksFor (a .b) (now (a .sources)) (now (a .targets)) (a .limit) (a .order) (a .keep) (a .refine)) (rooms (now (a .work)) (now (a .indices)) (now (a .key)) (now (a .own)) (now (a .begin)) (now (a .total))) (c .before .before .before .before .before .before .before .before .before .before .before .before .before .before .before .before .clear-keys .last .0) (c .before .before .before .before .before .before .before .before .before .before .before .before .before .before .before .before .clear-keys .last .1 .0) (c .before .before .before .before .before .before .before .before .before .before .before .before .before .before .before .before .clear-keys .last .1 .1 .0) (c .before .before .before .before .before .before .clear-columns .last .0) (c .before .before .before .before .before .before .clear-columns .last .1 .0) (c .before .before .before .before .before .before .clear-columns .last .1 .1 .0) (c .before .before .before .before .before .before .before .before .before .before .before .before .before .before .before .before .before .before .before .before .before .outcome .given .0 .0) (o ∙ c .before .before .before .before .before .before .before .before .before .before .before .before .before .before .before .before .before .before .before .before .before .outcome .given .1) (c .before .before .before .before .before .before .before .before .before .before .before .before .before .before .before .before .before .before .before .before .before .before .before .before .before .before .before .before .before .before .before .start .last .1 .1 .1 .1 .1 .1 .1 .1 .0) (c .before .before .before .before .before .before .before .before .before .before .before .before .before .before .before .before .before .before .before .before .before .before .before .before .before .before .before .before .before .before .before .start .last .1 .1 .1 .1 .1 .1 .1 .1 .1 .0) (c .before .before .before .before .before .before .before .before .before .before .before .before .before .before .before .before .before .before .before .before .before .before .before .before .before .before .before .before .before .before .before .start .last .1 .1 .1 .1 .1 .1 .1 .1 .1 .1 .0) (now (a .own)) (now (a .begin)) (c .before .before .before .before .before .before .before .before .before .before .before .before .before .before .before .before .before .before .before .before .before .before .before .before .before .before .before .before .before .before .before .start .last .1 .1 .1 .1 .1 .1 .1 .1 .1 .1 .1 .0) (c .before .before .before .before .before .before .before .before .before .before .before .before .before .before .before .before .before .before .before .before .before .before .before .before .before .before .before .before .before .before .before .start .kept .1 .1 .1 .1 .1 .1 .1 .1 .0) (z .0) (c .before .before .before .before .before .before .before .before .before .before .before .before .before .before .before .before .before .before .before .before .before .before .before .before .before .before .before .before .before .before .before .start .kept .1 .1 .1 .1 .1 .1 .1 .1 .1 .0) (z .1 .0) (c .before .before .before .before .before .before .before .before .before .before .before .before .before .before .before .before .before .before .before .before .before .before .before .before .before .before .before .before .before .before .before .start .kept .1 .1 .1 .1 .1 .1 .1 .1 .1 .1 .0) (z .1 .1) refl (y .0) refl (y .1 .0) (c .before .before .before .before .before .before .before .before .before .before .before .before .before .before .before .before .before .before .before .before .before .before .before .before .before .before .before .before .before .before .before .start .kept .1 .1 .1 .1 .1 .1 .1 .1 .1 .1 .1 .0) (y .1 .1)
 
 enum-told : tie.Need-enum-told
 enum-told c = search needs
@@ -81,8 +83,8 @@ same-length-12 : tie.Need-same-length-12
 same-length-12 c = c .before .before .before .before .before .before .fill-columns .kept .1 .1 .1 .0 ∙ c .before .before .before .before .before .before .before .before .before .before .before .before .before .before .before .before .before .before .before .before .before .before .before .before .before .before .before .before .before .before .start .kept .1 .1 .1 .1 .1 .1 .1 .1 .1 .1 .1 .0
 
 returns-2 : tie.Need-returns-2
-returns-2 c = let a = c .before .before .before .before .before .before .before .before .before .before .before .before .before .before .before .before .before .before .before .before .before .before .before .before .before .before .before .before .before .before .before .before .before .before .before .before .before .before .before .before .before .before .before .before .args in let st = c .before .before .before .before .before .before .before .before .before .before .before .before .before .before .before .before .before .before .before .before .before .before .before .before .before .before .before .before .before .before .start .ensures .1 (c .before .before .before .before .before .before .before .before .before .before .before .before .before .before .before .before .before .before .before .before .enum-told .given .1) in let o = ap (λ (x : ℕ). buildOutcome (asksFor (a .b) (now (a .sources)) (now (a .targets)) (a .limit) (a .order) (a .keep) (a .refine)) (length (now (a .work))) (length (now (a .indices))) x) (sym (c .before .before .before .before .before .before .before .before .before .before .before .before .before .before .before .before .before .before .before .before .before .before .before .before .before .before .before .before .before .before .before .before .before .before .before .node-room .ensures)) ∙ sym (c .before .before .before .before .before .before .before .before .before .before .before .before .before .before .before .before .before .before .before .before .before .before .before .before .before .before .before .before .before .before .start .ensures .0) in let d = o ∙ c .before .before .before .before .before .before .before .before .before .before .before .before .before .before .before .before .before .before .before .before .enum-told .given .1 in let f = slices-built (asksFor (a .b) (now (a .sources)) (now (a .targets)) (a .limit) (a .order) (a .keep) (a .refine)) (c .before .before .before .before .before .before .before .before .before .before .before .before .before .before .before .before .before .before .before .before .before .before .before .before .before .before .before .before .before .before .before .before .before .before .before .node-room .result) (c .before .before .before .before .before .before .before .before .before .before .before .before .before .before .before .before .before .before .before .before .before .before .before .before .before .before .before .before .before .before .start .result .rows) (c .before .before .before .before .before .before .before .before .before .before .before .before .before .before .before .before .before .before .before .before .before .before .before .before .before .before .before .before .before .before .start .result .nodes) (c .before .before .before .before .before .before .before .before .before .before .before .before .before .before .before .before .before .before .before .before .before .before .before .before .before .before .before .before .before .before .start .last .1 .1 .1 .1 .1 .1 .1 .1 .0) (c .before .before .before .before .before .before .before .before .before .before .before .before .before .before .before .before .before .before .before .before .before .before .before .before .before .before .before .before .before .before .start .last .1 .1 .1 .1 .1 .1 .1 .1 .1 .0) (c .before .before .before .before .before .before .before .before .before .before .before .before .before .before .before .before .before .before .before .before .before .before .before .before .before .before .before .before .before .before .start .last .1 .1 .1 .1 .1 .1 .1 .1 .1 .1 .0) (c .before .before .before .before .before .before .before .before .before .before .before .before .before .before .before .before .before .before .before .before .before .before .before .before .before .before .before .before .before .before .start .last .1 .1 .1 .1 .1 .1 .1 .1 .1 .1 .1 .0) st (rooms (now (a .work)) (now (a .indices)) (now (a .key)) (now (a .own)) (now (a .begin)) (now (a .total))) (c .before .before .before .before .before .before .before .before .before .before .before .before .before .before .before .before .finish .last .1 .1 .0) (c .before .before .before .before .before .before .before .before .before .before .before .before .before .before .before .before .finish .last .1 .1 .1 .0) (c .before .before .before .before .before .before .before .before .before .before .before .before .before .before .before .before .finish .last .1 .1 .1 .1 .0) (c .before .before .before .before .before .before .fill-columns .last .1 .0) (c .before .before .before .before .before .before .fill-columns .last .1 .1 .0) (c .before .before .before .before .before .before .fill-columns .last .1 .1 .1 .0) (c .before .before .before .before .before .before .before .before .before .before .before .before .before .before .before .before .before .before .before .before .before .before .before .before .before .before .before .before .before .before .start .kept .1 .1 .1 .1 .1 .1 .1 .1 .0) (c .before .before .before .before .before .before .before .before .before .before .before .before .before .before .before .before .finish .ensures .1 .0) (c .before .before .before .before .before .before .before .before .before .before .before .before .before .before .before .before .before .before .before .before .before .before .before .before .before .before .before .before .before .before .start .kept .1 .1 .1 .1 .1 .1 .1 .1 .1 .0) (c .before .before .before .before .before .before .before .before .before .before .before .before .before .before .before .before .finish .ensures .1 .1 .0) (c .before .before .before .before .before .before .before .before .before .before .before .before .before .before .before .before .before .before .before .before .before .before .before .before .before .before .before .before .before .before .start .kept .1 .1 .1 .1 .1 .1 .1 .1 .1 .1 .0) (omega (arith, st .in-room, c .before .before .before .before .before .before .before .before .before .before .before .before .before .before .before .before .before .before .before .before .before .before .before .before .before .before .before .before .before .before .before .before .before .before .before .node-room .ensures, c .before .before .before .before .before .before .before .before .before .before .before .before .before .before .before .before .before .before .before .before .before .before .before .before .before .before .before .before .before .before .start .kept .1 .1 .1 .1 .1 .1 .1 .1 .1 .1 .0)) (c .before .before .before .before .before .before .before .before .before .before .before .before .before .before .before .before .finish .ensures .1 .1 .1) (c .before .before .before .before .before .before .fill-columns .ensures .0) (c .before .before .before .before .before .before .fill-columns .ensures .1 .0) (c .before .before .before .before .before .before .before .before .before .before .before .before .before .before .before .before .before .before .before .before .before .before .before .before .before .before .before .before .before .before .start .kept .1 .1 .1 .1 .1 .1 .1 .1 .1 .1 .1 .0) (omega (arith, st .in-room, c .before .before .before .before .before .before .before .before .before .before .before .before .before .before .before .before .before .before .before .before .before .before .before .before .before .before .before .before .before .before .before .before .before .before .before .node-room .ensures, c .before .before .before .before .before .before .before .before .before .before .before .before .before .before .before .before .before .before .before .before .before .before .before .before .before .before .before .before .before .before .start .kept .1 .1 .1 .1 .1 .1 .1 .1 .1 .1 .1 .0)) (c .before .before .before .before .before .before .fill-columns .ensures .1 .1) in (tree-so (asksFor (a .b) (now (a .sources)) (now (a .targets)) (a .limit) (a .order) (a .keep) (a .refine)) (buildOutcome (asksFor (a .b) (now (a .sources)) (now (a .targets)) (a .limit) (a .order) (a .keep) (a .refine)) (length (now (a .work))) (length (now (a .indices))) (nodeRoom (length (now (a .key))) (length (now (a .own))) (length (now (a .begin))) (length (now (a .total))))) (c .before .before .before .before .before .before .before .before .before .before .before .before .before .before .before .before .before .before .before .before .before .before .before .before .before .before .before .before .before .before .start .result .nodes) (c .before .before .before .before .before .before .before .before .before .before .before .before .before .before .before .before .finish .result) (take (c .before .before .before .before .before .before .before .before .before .before .before .before .before .before .before .before .before .before .before .before .before .before .before .before .before .before .before .before .before .before .start .result .nodes) (c .before .before .before .before .before .before .before .before .before .before .before .before .before .before .before .before .before .before .before .before .before .before .before .before .before .before .before .before .before .before .start .last .1 .1 .1 .1 .1 .1 .1 .1 .1 .1 .0)) d (st .number) (st .keys) (c .before .before .before .before .before .before .before .before .before .before .before .before .before .before .before .before .finish .ensures .0), (f .worked, (left-done _ (length (now (a .indices))) _ _ d (f .ordered), (left-done _ (length (now (a .key))) _ _ d (f .keyed), (left-done _ (length (now (a .own))) _ _ d (f .owned), (left-done _ (length (now (a .begin))) _ _ d (f .begun), left-done _ (length (now (a .total))) _ _ d (f .summed)))))))
+returns-2 c = let a = c .before .before .before .before .before .before .before .before .before .before .before .before .before .before .before .before .before .before .before .before .before .before .before .before .before .before .before .before .before .before .before .before .before .before .before .before .before .before .before .before .before .before .before .before .args in let st = c .before .before .before .before .before .before .before .before .before .before .before .before .before .before .before .before .before .before .before .before .before .before .before .before .before .before .before .before .before .before .start .ensures .1 (c .before .before .before .before .before .before .before .before .before .before .before .before .before .before .before .before .before .before .before .before .enum-told .given .1) in let o = ap (λ (x : ℕ). buildOutcome (asksFor (a .b) (now (a .sources)) (now (a .targets)) (a .limit) (a .order) (a .keep) (a .refine)) (length (now (a .work))) (length (now (a .indices))) x) (sym (c .before .before .before .before .before .before .before .before .before .before .before .before .before .before .before .before .before .before .before .before .before .before .before .before .before .before .before .before .before .before .before .before .before .before .before .node-room .ensures)) ∙ sym (c .before .before .before .before .before .before .before .before .before .before .before .before .before .before .before .before .before .before .before .before .before .before .before .before .before .before .before .before .before .before .start .ensures .0) in built-all (asksFor (a .b) (now (a .sources)) (now (a .targets)) (a .limit) (a .order) (a .keep) (a .refine)) (rooms (now (a .work)) (now (a .indices)) (now (a .key)) (now (a .own)) (now (a .begin)) (now (a .total))) (c .before .before .before .before .before .before .before .before .before .before .before .before .before .before .before .before .finish .last .1 .1 .0) (c .before .before .before .before .before .before .before .before .before .before .before .before .before .before .before .before .finish .last .1 .1 .1 .0) (c .before .before .before .before .before .before .before .before .before .before .before .before .before .before .before .before .finish .last .1 .1 .1 .1 .0) (c .before .before .before .before .before .before .fill-columns .last .1 .0) (c .before .before .before .before .before .before .fill-columns .last .1 .1 .0) (c .before .before .before .before .before .before .fill-columns .last .1 .1 .1 .0) (o ∙ c .before .before .before .before .before .before .before .before .before .before .before .before .before .before .before .before .before .before .before .before .enum-told .given .1) (c .before .before .before .before .before .before .before .before .before .before .before .before .before .before .before .before .before .before .before .before .before .before .before .before .before .before .before .before .before .before .start .result .nodes) (c .before .before .before .before .before .before .before .before .before .before .before .before .before .before .before .before .finish .result) (take (c .before .before .before .before .before .before .before .before .before .before .before .before .before .before .before .before .before .before .before .before .before .before .before .before .before .before .before .before .before .before .start .result .nodes) (c .before .before .before .before .before .before .before .before .before .before .before .before .before .before .before .before .before .before .before .before .before .before .before .before .before .before .before .before .before .before .start .last .1 .1 .1 .1 .1 .1 .1 .1 .1 .1 .0)) (st .number) (st .keys) (c .before .before .before .before .before .before .before .before .before .before .before .before .before .before .before .before .finish .ensures .0) (slices-built (asksFor (a .b) (now (a .sources)) (now (a .targets)) (a .limit) (a .order) (a .keep) (a .refine)) (c .before .before .before .before .before .before .before .before .before .before .before .before .before .before .before .before .before .before .before .before .before .before .before .before .before .before .before .before .before .before .before .before .before .before .before .node-room .result) (c .before .before .before .before .before .before .before .before .before .before .before .before .before .before .before .before .before .before .before .before .before .before .before .before .before .before .before .before .before .before .start .result .rows) (c .before .before .before .before .before .before .before .before .before .before .before .before .before .before .before .before .before .before .before .before .before .before .before .before .before .before .before .before .before .before .start .result .nodes) (c .before .before .before .before .before .before .before .before .before .before .before .before .before .before .before .before .before .before .before .before .before .before .before .before .before .before .before .before .before .before .start .last .1 .1 .1 .1 .1 .1 .1 .1 .0) (c .before .before .before .before .before .before .before .before .before .before .before .before .before .before .before .before .before .before .before .before .before .before .before .before .before .before .before .before .before .before .start .last .1 .1 .1 .1 .1 .1 .1 .1 .1 .0) (c .before .before .before .before .before .before .before .before .before .before .before .before .before .before .before .before .before .before .before .before .before .before .before .before .before .before .before .before .before .before .start .last .1 .1 .1 .1 .1 .1 .1 .1 .1 .1 .0) (c .before .before .before .before .before .before .before .before .before .before .before .before .before .before .before .before .before .before .before .before .before .before .before .before .before .before .before .before .before .before .start .last .1 .1 .1 .1 .1 .1 .1 .1 .1 .1 .1 .0) st (rooms (now (a .work)) (now (a .indices)) (now (a .key)) (now (a .own)) (now (a .begin)) (now (a .total))) (c .before .before .before .before .before .before .before .before .before .before .before .before .before .before .before .before .finish .last .1 .1 .0) (c .before .before .before .before .before .before .before .before .before .before .before .before .before .before .before .before .finish .last .1 .1 .1 .0) (c .before .before .before .before .before .before .before .before .before .before .before .before .before .before .before .before .finish .last .1 .1 .1 .1 .0) (c .before .before .before .before .before .before .fill-columns .last .1 .0) (c .before .before .before .before .before .before .fill-columns .last .1 .1 .0) (c .before .before .before .before .before .before .fill-columns .last .1 .1 .1 .0) (c .before .before .before .before .before .before .before .before .before .before .before .before .before .before .before .before .before .before .before .before .before .before .before .before .before .before .before .before .before .before .start .kept .1 .1 .1 .1 .1 .1 .1 .1 .0) (c .before .before .before .before .before .before .before .before .before .before .before .before .before .before .before .before .finish .ensures .1 .0) (c .before .before .before .before .before .before .before .before .before .before .before .before .before .before .before .before .before .before .before .before .before .before .before .before .before .before .before .before .before .before .start .kept .1 .1 .1 .1 .1 .1 .1 .1 .1 .0) (c .before .before .before .before .before .before .before .before .before .before .before .before .before .before .before .before .finish .ensures .1 .1 .0) (c .before .before .before .before .before .before .before .before .before .before .before .before .before .before .before .before .before .before .before .before .before .before .before .before .before .before .before .before .before .before .start .kept .1 .1 .1 .1 .1 .1 .1 .1 .1 .1 .0) (omega (arith, st .in-room, c .before .before .before .before .before .before .before .before .before .before .before .before .before .before .before .before .before .before .before .before .before .before .before .before .before .before .before .before .before .before .before .before .before .before .before .node-room .ensures, c .before .before .before .before .before .before .before .before .before .before .before .before .before .before .before .before .before .before .before .before .before .before .before .before .before .before .before .before .before .before .start .kept .1 .1 .1 .1 .1 .1 .1 .1 .1 .1 .0)) (c .before .before .before .before .before .before .before .before .before .before .before .before .before .before .before .before .finish .ensures .1 .1 .1) (c .before .before .before .before .before .before .fill-columns .ensures .0) (c .before .before .before .before .before .before .fill-columns .ensures .1 .0) (c .before .before .before .before .before .before .before .before .before .before .before .before .before .before .before .before .before .before .before .before .before .before .before .before .before .before .before .before .before .before .start .kept .1 .1 .1 .1 .1 .1 .1 .1 .1 .1 .1 .0) (omega (arith, st .in-room, c .before .before .before .before .before .before .before .before .before .before .before .before .before .before .before .before .before .before .before .before .before .before .before .before .before .before .before .before .before .before .before .before .before .before .before .node-room .ensures, c .before .before .before .before .before .before .before .before .before .before .before .before .before .before .before .before .before .before .before .before .before .before .before .before .before .before .before .before .before .before .start .kept .1 .1 .1 .1 .1 .1 .1 .1 .1 .1 .1 .0)) (c .before .before .before .before .before .before .fill-columns .ensures .1 .1))
 
 pub build-tree-spec : {M : Type 1} → statement M
 build-tree-spec =
-    tie.close (tie.spec node-room-requires start-requires enum-known-outcome clear-all-requires same-length same-length-2 same-length-3 same-length-4 same-length-5 same-length-6 returns enum-told finish-requires fill-columns-requires same-length-7 same-length-8 same-length-9 same-length-10 same-length-11 same-length-12 returns-2)
+    tie.close (tie.spec node-room-requires start-requires enum-known-outcome clear-keys-requires clear-columns-requires same-length same-length-2 same-length-3 same-length-4 same-length-5 same-length-6 returns enum-told finish-requires fill-columns-requires same-length-7 same-length-8 same-length-9 same-length-10 same-length-11 same-length-12 returns-2)
