@@ -1,60 +1,75 @@
 -- The answers of a build, by the checks that have run.
 use mathlib.Core.Path.{_≡_, refl, sym, ap, ap₂, _∙_}
 use mathlib.Core.List.{List}
-use Prim.Native.Nat.{ℕ, _-_, _≤_, _<_}
+use Prim.Native.Nat.{ℕ, _+_, _≤_, _<_, min}
 use native.Mathlib.Omega.{arith}
 use lib.Dec.{leb}
+use lib.Ieee.{Float}
 use lib.ListN.{length}
-use borrow.Author.Tests.{le-leb, lt-leb}
+use borrow.Author.Tests.{leb-true, le-leb, lt-leb}
 use Rattle.refusal.specs.declared.Refusal.{Refusal}
 use Rattle.refusal.specs.declared.Refusal.the-variants.{Room}
 use Rattle.refusal.specs.declared.Outcome.{Outcome}
 use Rattle.refusal.specs.declared.Outcome.the-variants.{Done, Refused}
 use Rattle.refusal.specs.Chain.{ask, _then_}
-use Rattle.refusal.proofs.Chain.{never}
+use Rattle.refusal.proofs.Chain.{after-done, after-refused}
+use Rattle.slices.proofs.Tests.{same-test}
 use Rattle.tree.specs.Order.{depthOf}
+use Rattle.space.specs.declared.Box.{Box}
 use Rattle.space.specs.Rows.{rowsOf}
 use Rattle.laying.specs.Outcomes.{askedOutcome, insideOutcome, workOutcome}
 use Rattle.build.specs.declared.Built.the-variants.{Tree, Refused as NotBuilt}
 use Rattle.build.specs.Asked.{Asked, builtKeys}
 use Rattle.build.specs.Outcomes.{columnOutcome, buildOutcome, treeOr}
+use Rattle.build.specs.Steps.{layOutcome}
 
--- an answer that is a refusal, or a tree, tells the outcome
-pub told-refused : (o : Outcome) (key : List ℕ) (r : Refusal) → NotBuilt r ≡ treeOr o key → o ≡ Refused r
-told-refused Done key r e = let z : _≡_ {A = ℕ} 0 1 = cc in absurd (omega arith)
-told-refused (Refused q) key r e = cc
+-- the answer of a build that is refused
+pub refusal-so : (o : Outcome) (key : List ℕ) (r : Refusal) → o ≡ Refused r → NotBuilt r ≡ treeOr o key
+refusal-so o key r e = sym (ap (λ q. treeOr q key) e)
 
-pub told-tree : (o : Outcome) (key : List ℕ) (n depth : ℕ) → Tree n depth ≡ treeOr o key → o ≡ Done
-told-tree Done key n depth e = refl
-told-tree (Refused q) key n depth e = let z : _≡_ {A = ℕ} 0 1 = cc in absurd (omega arith)
-
-pub not-done : (o : Outcome) (key : List ℕ) (r : Refusal) → NotBuilt r ≡ treeOr o key → o ≡ Done → ⊥
-not-done o key r e d = never r (sym (told-refused o key r e) ∙ d)
+then-all : (o p q : Outcome) → o then (p then q) ≡ (o then p) then q
+then-all Done p q = refl
+then-all (Refused r) p q = refl
 
 module _ (a : Asked) (work order nodes : ℕ) where
+  abbrev early : Outcome
+  early = layOutcome (a .box) (a .sources) (a .targets) (a .order) work order
+
+  abbrev last : Outcome
+  last = ask (leb (length (builtKeys a)) nodes) (Room 3)
+
+  parts : buildOutcome a work order nodes ≡ early then last
+  unfolding columnOutcome
+  parts = then-all (askedOutcome (a .box) (a .sources) (a .targets) (a .order) then insideOutcome (a .box) (a .sources) (a .targets) then workOutcome (a .box) (a .sources) (a .targets) work) (ask (leb (rowsOf (a .box) (a .sources)) order) (Room 2)) last
+
+  pub early-so : (r : Refusal) → Refused r ≡ layOutcome (a .box) (a .sources) (a .targets) (a .order) work order → Refused r ≡ buildOutcome a work order nodes
+  early-so r e = sym (parts ∙ after-refused early last r (sym e))
+
+  -- n rows were counted, up to one more than the room
+  pub late-so : Done ≡ layOutcome (a .box) (a .sources) (a .targets) (a .order) work order → (n room : ℕ) (keys : List ℕ) → keys ≡ builtKeys a → room ≡ nodes → n ≡ min (length keys) (room + 1)
+      → ask (leb n room) (Room 3) ≡ buildOutcome a work order nodes
+  late-so e n room keys k r c = ap (λ b. ask b (Room 3)) same ∙ sym (parts ∙ after-done early last (sym e))
+    where
+      same : leb n room ≡ leb (length (builtKeys a)) nodes
+      same =
+          same-test (leb n room) (leb (length (builtKeys a)) nodes)
+          (λ h. let l = leb-true n room h in le-leb (length (builtKeys a)) nodes (omega (arith, l, c, r, ap length k)))
+          (λ h. let l = leb-true (length (builtKeys a)) nodes h in le-leb n room (omega (arith, l, c, r, ap length k)))
+
+-- the answer of a build that is not refused
+pub tree-so : (a : Asked) (o : Outcome) (n depth : ℕ) (first : List ℕ) → o ≡ Done → n ≡ length (builtKeys a) → first ≡ builtKeys a → depth ≡ depthOf first → Tree n depth ≡ treeOr o (builtKeys a)
+tree-so a o n depth first d e f g = ap₂ (λ (x y : ℕ). Tree x y) e (g ∙ ap depthOf f) ∙ sym (ap (λ q. treeOr q (builtKeys a)) d)
+
+-- where the points are laid out, their checks have passed
+module _ (b : Box) (s t : List Float) (order work room : ℕ) where
   abbrev checks : Outcome
-  checks = askedOutcome (a .box) (a .sources) (a .targets) (a .order) then insideOutcome (a .box) (a .sources) (a .targets) then workOutcome (a .box) (a .sources) (a .targets) work
+  checks = askedOutcome b s t order then insideOutcome b s t then workOutcome b s t work
 
-  pub early-refused : (r : Refusal) → checks ≡ Refused r → NotBuilt r ≡ treeOr (buildOutcome a work order nodes) (builtKeys a)
-  early-refused r e = sym (ap (λ q. treeOr (q then columnOutcome a order nodes) (builtKeys a)) e)
+  pub refused-so : (r : Refusal) (o : Outcome) → o ≡ Refused r → checks ≡ Refused r → o ≡ layOutcome b s t order work room
+  refused-so r o e c = e ∙ sym (after-refused checks (ask (leb (rowsOf b s) room) (Room 2)) r c)
 
-  module _ (o : checks ≡ Done) where
-    late : treeOr (buildOutcome a work order nodes) (builtKeys a) ≡ treeOr (columnOutcome a order nodes) (builtKeys a)
-    late = ap (λ q. treeOr (q then columnOutcome a order nodes) (builtKeys a)) o
+  pub short-so : (o : Outcome) → o ≡ Refused (Room 2) → checks ≡ Done → room < rowsOf b s → o ≡ layOutcome b s t order work room
+  short-so o e c h = e ∙ sym (after-done checks (ask (leb (rowsOf b s) room) (Room 2)) c ∙ ap (λ x. ask x (Room 2)) (lt-leb (rowsOf b s) room h))
 
-    pub order-short : order < rowsOf (a .box) (a .sources) → NotBuilt (Room 2) ≡ treeOr (buildOutcome a work order nodes) (builtKeys a)
-    unfolding columnOutcome
-    order-short h = sym (late ∙ ap (λ b. treeOr (ask b (Room 2) then ask (leb (length (builtKeys a)) nodes) (Room 3)) (builtKeys a)) (lt-leb (rowsOf (a .box) (a .sources)) order h))
-
-    module _ (fits : rowsOf (a .box) (a .sources) ≤ order) where
-      last : treeOr (buildOutcome a work order nodes) (builtKeys a) ≡ treeOr (ask (leb (length (builtKeys a)) nodes) (Room 3)) (builtKeys a)
-      unfolding columnOutcome
-      last = late ∙ ap (λ b. treeOr (ask b (Room 2) then ask (leb (length (builtKeys a)) nodes) (Room 3)) (builtKeys a)) (le-leb (rowsOf (a .box) (a .sources)) order fits)
-
-      pub nodes-short : nodes < length (builtKeys a) → NotBuilt (Room 3) ≡ treeOr (buildOutcome a work order nodes) (builtKeys a)
-      nodes-short h = sym (last ∙ ap (λ b. treeOr (ask b (Room 3)) (builtKeys a)) (lt-leb (length (builtKeys a)) nodes h))
-
-      pub tree-built : (n depth : ℕ) (key : List ℕ) → key ≡ builtKeys a → n ≡ length (builtKeys a) → n ≤ nodes → depth ≡ depthOf key → Tree n depth ≡ treeOr (buildOutcome a work order nodes) (builtKeys a)
-      tree-built n depth key k e h d =
-          ap₂ (λ (x y : ℕ). Tree x y) e (d ∙ ap depthOf k)
-          ∙ sym (last ∙ ap (λ b. treeOr (ask b (Room 3)) (builtKeys a)) (le-leb (length (builtKeys a)) nodes (omega (arith, e, h))))
+  pub laid-so : checks ≡ Done → rowsOf b s ≤ room → Done ≡ layOutcome b s t order work room
+  laid-so c h = sym (after-done checks (ask (leb (rowsOf b s) room) (Room 2)) c ∙ ap (λ x. ask x (Room 2)) (le-leb (rowsOf b s) room h))

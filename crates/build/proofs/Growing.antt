@@ -25,9 +25,9 @@ use Rattle.refine.proofs.Made.{summable}
 use Rattle.laying.specs.Points.{codesOf}
 use Rattle.laying.proofs.Prepared.{Passed}
 use Rattle.laying.specs.Layout.{PointsLaid}
-use Rattle.grow.specs.Steps.{Coded}
-use Rattle.build.specs.Asked.{Asked, ruleOf}
+use Rattle.build.specs.Asked.{Asked}
 use Rattle.build.specs.Summing.{Sourced, SumsMade}
+use Rattle.build.specs.Steps.{LaidOut}
 
 -- a part that is lent is the slice up to its end
 pub slice-lent : (a t e : ℕ) (s : List ℕ) → e ≡ a + t → take t (drop a s) ≡ slice a e s
@@ -81,13 +81,10 @@ module _ (a : Asked) (room : ℕ) (p : Passed (a .box) (a .sources) (a .targets)
   s-long : length s ≡ n
   s-long = codes-length n (frameOf (a .box)) (a .sources)
 
-  pub sources-few : length (codesOf (a .box) (a .sources)) ≤ 1048576
-  sources-few = omega (arith, s-long, p .call .few)
-
   some-targets : 0 < rowsOf (a .box) (a .targets) → a .order ≤ 64
   some-targets h = p .call .fits (omega (arith, h, native.Mathlib.Nat.div-le-self (length (a .targets)) (a .box .axes)))
 
-  pub box-known : axesKnown (a .box .axes) ≡ true
+  box-known : axesKnown (a .box .axes) ≡ true
   box-known = axes-known (a .box .axes) (p .call .box .least) (p .call .box .most)
 
   module _ (work : List ℕ) (len : length work ≡ room) (laid : PointsLaid (a .box) (a .sources) (a .targets) work) where
@@ -98,21 +95,27 @@ module _ (a : Asked) (room : ℕ) (p : Passed (a .box) (a .sources) (a .targets)
     pub work-sourced : (order : ℕ) → rowsOf (a .box) (a .sources) ≤ order → Sourced (a .box .axes) (rowsOf (a .box) (a .sources)) work order
     work-sourced order h = record { most = p .call .box .most; few = p .call .few; inside = omega (arith, p .room, len); below = sources-below; fits = h }
 
-    pub targets-are : take (rowsOf (a .box) (a .targets)) (drop (2 * rowsOf (a .box) (a .sources)) work) ≡ ascending (codesOf (a .box) (a .targets))
-    targets-are = slice-lent (2 * n) k (2 * n + k) work refl ∙ laid .targets-at
+    targets-at : take (rowsOf (a .box) (a .targets)) (drop (2 * rowsOf (a .box) (a .sources)) work) ≡ ascending (codesOf (a .box) (a .targets))
+    targets-at = slice-lent (2 * n) k (2 * n + k) work refl ∙ laid .targets-at
 
-    pub work-coded : (nodes depth : ℕ) (sums : List ℕ) → SumsMade (a .box .axes) (rowsOf (a .box) (a .sources)) (rowsOf (a .box) (a .targets)) work depth sums
-        → Coded (ruleOf a) (record { sources = rowsOf (a .box) (a .sources); targets = rowsOf (a .box) (a .targets); room = nodes; depth = depth; sums = sums }) work
-    work-coded nodes depth sums made = record {
-      known = box-known;
-      few = p .call .few;
-      beside = omega (arith, p .room, len);
-      codes = sources-below;
-      refined = λ h. record {
-        order = some-targets h;
-        few = p .call .fewer;
-        sorted = subst Sorted (sym targets-are) (ascending-sorted t);
-        deep = made .deep h;
-        sums = made .made h;
+    pub work-laid : (depth nodes : ℕ) (sums : List ℕ) → rowsOf (a .box) (a .sources) ≤ length sums → SumsMade (a .box .axes) (rowsOf (a .box) (a .sources)) (rowsOf (a .box) (a .targets)) work depth sums
+        → LaidOut a nodes (record { sources = rowsOf (a .box) (a .sources); targets = rowsOf (a .box) (a .targets); room = nodes; depth = depth }) work sums
+    work-laid depth nodes sums fits made = record {
+      room-is = refl;
+      fits = fits;
+      coded = record {
+        known = box-known;
+        few = p .call .few;
+        beside = omega (arith, p .room, len);
+        codes = sources-below;
+        refined = λ h. record {
+          order = some-targets h;
+          few = p .call .fewer;
+          sorted = subst Sorted (sym targets-at) (ascending-sorted t);
+          deep = made .deep h;
+          sums = made .made h;
+        };
       };
+      sources-are = laid .sources-at;
+      targets-are = targets-at;
     }

@@ -1,3 +1,4 @@
 pub mod Asked
 pub mod Outcomes
 pub mod Summing
+pub mod Steps

@@ -1,15 +1,13 @@
 -- Document 01: the refusals of a build, in the order 1, 2, 3, 4, 5, 6, 7, 8, and what it leaves in the lent slices.
-use mathlib.Core.Path.{_≡_}
 use mathlib.Core.List.{List}
 use Prim.Native.Nat.{ℕ, min}
 use lib.Dec.{leb}
-use lib.ListN.{length, replicate}
+use lib.ListN.{length}
 use Rattle.refusal.specs.declared.Refusal.the-variants.{Room}
 use Rattle.refusal.specs.declared.Outcome.{Outcome}
 use Rattle.refusal.specs.declared.Outcome.the-variants.{Done, Refused}
 use Rattle.refusal.specs.Chain.{ask, _then_}
 use Rattle.refusal.specs.Left.{left}
-use Rattle.slices.specs.Lists.{filled}
 use Rattle.tree.specs.Order.{depthOf}
 use Rattle.space.specs.Rows.{rowsOf}
 use Rattle.laying.specs.Outcomes.{askedOutcome, insideOutcome, workOutcome}
@@ -73,12 +71,3 @@ module _ (a : Asked) (r : Rooms) where
 
   abbrev pub totalsLeft : List ℕ
   totalsLeft = left buildCheck (r .totals) (builtTotals a)
-
--- the slices after a build that is not refused
-pub record BuiltSlices (a : Asked) (r : Rooms) (works orders keys owns begins totals : List ℕ) : Type 0 where
-  pub worked : works ≡ replicate (r .work) 0
-  pub ordered : orders ≡ filled (r .order) (builtOrder a)
-  pub keyed : keys ≡ filled (r .keys) (builtKeys a)
-  pub owned : owns ≡ filled (r .own) (builtOwn a)
-  pub begun : begins ≡ filled (r .begins) (builtBegins a)
-  pub summed : totals ≡ filled (r .totals) (builtTotals a)

@@ -8,13 +8,13 @@ use lib.ListN.{length, getD, set, take, drop, length-set, length-append}
 use lib.Pow.{low}
 use lib.Seq.{slice, take-suc, take-suc-set, drop-set-lt}
 use native.Mathlib.Numerals.{add-one}
-use Rattle.slices.specs.Lists.{filter, concatMap, Mem}
+use Rattle.slices.specs.Lists.{filter, concatMap, sum, Mem}
 use Rattle.slices.proofs.Counts.{here, there}
 use Rattle.morton.specs.Keys.{axesKnown}
 use Rattle.tree.specs.Nodes.{leaf}
 use Rattle.tree.specs.Totals.{totalIn, totalColumn}
 use Rattle.growth.specs.declared.Rule.{Rule}
-use Rattle.growth.specs.Columns.{ownColumn, beginColumn, indicesIn, orderColumn}
+use Rattle.growth.specs.Columns.{ownColumn, indicesIn, orderColumn}
 use Rattle.growth.proofs.Arranged.{indices-hold}
 use Rattle.growth.proofs.Leaves.{leaf-unsplit}
 use Rattle.growth.proofs.Joined.{mem-concat}
@@ -22,13 +22,15 @@ use Rattle.growth.specs.Nodes.{preorder, nodes}
 use Rattle.growth.proofs.CellTotals.{total-sources}
 use Rattle.dealing.specs.Dealt.{wordOf}
 use Rattle.dealing.proofs.Laws.{map-join}
-use Rattle.grow.specs.Cells.{Points, splitting, sizeOf, within, ownIn, ownedBy}
-use Rattle.grow.specs.Rows.{Columns}
-use Rattle.grow.specs.Setting.{Setting, Given}
-use Rattle.grow.specs.Steps.{Stands, Built, Grown, Coded, Grows, IndicesTaken}
-use Rattle.grow.proofs.Joins.{concat-same, concat-filter}
-use Rattle.grow.proofs.Putting.{map-agree}
-use Rattle.grow.proofs.Root.{pointsOf}
+use Rattle.parting.specs.Cells.{Points, splitting, sizeOf, within}
+use Rattle.grow.specs.Cells.{ownIn, ownedBy}
+use Rattle.grow.specs.Rows.{markOf, sumMarked, ownMarked, Marked}
+use Rattle.parting.specs.Setting.{Setting, Given}
+use Rattle.parting.specs.Parts.{sourceCodes, targetCodes, pointsOf}
+use Rattle.grow.specs.Steps.{Stands, Built, Grown, Grows, IndicesTaken}
+use Rattle.parting.proofs.Joins.{concat-same, concat-filter}
+use Rattle.grow.proofs.Putting.{map-agree, map-twice, owned-length}
+use Rattle.grow.proofs.Spreading.{own-told, sum-told}
 
 module _ (g : Rule) (p : Points) (z : Setting) (v : Given g z p) where
   abbrev keys : List ℕ
@@ -67,27 +69,47 @@ unfolding nodes
 nodes-are g s t = refl
 
 -- all is put
-pub grown : (g : Rule) (z : Setting) (p : Points) (work work′ : List ℕ) (s : Columns) → Given g z p → length work′ ≡ length work → p .beyond ≡ drop (2 * z .sources) work
-    → Stands g z p work′ s (z .sources) ([] ++ preorder g (p .sources) (p .targets) (2 * 8) 0) [] → Grown g z (p .sources) (p .targets) work work′ s
-grown g z p work work′ s v len behind r = done-so (subst (λ (xs : List ℕ). Stands g z p work′ s (z .sources) xs []) (nodes-are g (p .sources) (p .targets)) r)
-  where
-    done-so : Stands g z p work′ s (z .sources) (nodes g (p .sources) (p .targets)) [] → Grown g z (p .sources) (p .targets) work work′ s
-    done-so q = record {
+module _ (g : Rule) (z : Setting) (work work′ : List ℕ) (s : Marked) (len : length work′ ≡ length work) where
+  abbrev p : Points
+  p = pointsOf z work
+
+  abbrev all : List ℕ
+  all = nodes g (sourceCodes z work) (targetCodes z work)
+
+  module _ (q : Stands g z (pointsOf z work) work′ s (z .sources) (nodes g (sourceCodes z work) (targetCodes z work)) []) where
+    -- there is room for all
+    module _ (few : s .number ≤ z .room) where
+      same : length all ≡ s .number
+      same = omega (arith, q .rows .counted)
+
+      marks-are : take (s .number) (s .mark) ≡ map (λ k. markOf (sizeOf g p k) (splitting g p k)) all
+      marks-are = ap (λ (i : ℕ). take i (s .mark)) (sym same) ∙ q .rows .filled (omega (arith, q .rows .counted)) .marks
+
+      told : (f h : ℕ → ℕ) → ((k : ℕ) → f (markOf (sizeOf g p k) (splitting g p k)) ≡ h k) → map f (take (s .number) (s .mark)) ≡ map h all
+      told f h e = ap (map f) marks-are ∙ map-twice f (λ k. markOf (sizeOf g p k) (splitting g p k)) all ∙ map-agree (λ k. f (markOf (sizeOf g p k) (splitting g p k))) h all (λ k _. e k)
+
+      owns-told : map ownMarked (take (s .number) (s .mark)) ≡ map (ownIn g p) all
+      owns-told = told ownMarked (ownIn g p) (λ k. own-told (sizeOf g p k) (splitting g p k))
+
+      built : Built g (sourceCodes z work) (targetCodes z work) s
+      built = record {
+        keys = ap (λ (i : ℕ). take i (s .key)) (sym same) ∙ q .rows .filled (omega (arith, q .rows .counted)) .keys;
+        owns = owns-told ∙ owns-are g p z (q .behind .given);
+        totals = told sumMarked (sizeOf g p) (λ k. sum-told (sizeOf g p k) (splitting g p k)) ∙ totals-are g p z (q .behind .given);
+        few = omega (arith, ap sum owns-told, owned-length g p all, q .ordered few .reached, q .behind .given .few);
+      }
+
+    all-grown : Grows g z work work′ s
+    all-grown = record {
       counted = q .rows .counted;
-      rows = λ h.
-          let few : length (nodes g (p .sources) (p .targets)) ≤ z .room = omega (arith, q .rows .counted) in
-          let same : length (nodes g (p .sources) (p .targets)) ≡ s .number = omega (arith, q .rows .counted) in
-          let f = q .rows .filled few in
-          record {
-            keys = ap (λ (i : ℕ). take i (s .key)) (sym same) ∙ f .keys;
-            owns = ap (λ (i : ℕ). take i (s .own)) (sym same) ∙ f .owns ∙ owns-are g p z v;
-            begins = ap (λ (i : ℕ). take i (s .begin)) (sym same) ∙ f .begins ∙ ap beginColumn (owns-are g p z v);
-            totals = ap (λ (i : ℕ). take i (s .total)) (sym same) ∙ f .totals ∙ totals-are g p z v;
-          };
-      words = q .words .words ∙ ap (map (wordOf (p .sources))) (append-nil (ownedBy g p (nodes g (p .sources) (p .targets))) ∙ order-is g p z v);
+      rows = built;
+      words = λ few. q .ordered few .words .words ∙ ap (map (wordOf (sourceCodes z work))) (append-nil (ownedBy g p all) ∙ order-is g p z (q .behind .given));
       kept = len;
-      beyond = q .words .beyond ∙ behind;
+      beyond = q .behind .beyond;
     }
+
+  pub grown : Stands g z (pointsOf z work) work′ s (z .sources) ([] ++ preorder g (sourceCodes z work) (targetCodes z work) (2 * 8) 0) [] → Grows g z work work′ s
+  grown r = all-grown (subst (λ (xs : List ℕ). Stands g z p work′ s (z .sources) xs []) (nodes-are g (sourceCodes z work) (targetCodes z work)) r)
 
 -- ---- the indices of the words
 word-index : (codes : List ℕ) (i : ℕ) → i < 1048576 → wordOf codes i % 1048576 ≡ i
@@ -98,12 +120,12 @@ indices-of codes [] h = refl
 indices-of codes (x ∷ xs) h = ap₂ (λ (a : ℕ) (t : List ℕ). a ∷ t) (word-index codes x (h x (here x xs))) (indices-of codes xs (λ i m. h i (there x i xs m)))
 
 -- what `take_indices` writes after a growth is the order column
-pub order-taken : (g : Rule) (z : Setting) (sources targets work work′ order order′ : List ℕ) (s : Columns) → length sources ≤ 1048576
-    → Grown g z sources targets work work′ s → IndicesTaken (z .sources) work′ order order′ → take (z .sources) order′ ≡ orderColumn (g .axes) (nodes g sources targets) sources
+pub order-taken : (g : Rule) (z : Setting) (sources targets work work′ order order′ : List ℕ) (s : Marked) → length sources ≤ 1048576
+    → Grown g z sources targets work work′ s → s .number ≤ z .room → IndicesTaken (z .sources) work′ order order′ → take (z .sources) order′ ≡ orderColumn (g .axes) (nodes g sources targets) sources
 unfolding orderColumn
-order-taken g z sources targets work work′ order order′ s few q t =
+order-taken g z sources targets work work′ order order′ s few q fits t =
     t .taken
-    ∙ ap (map (λ w. w % 1048576)) (q .words)
+    ∙ ap (map (λ w. w % 1048576)) (q .words fits)
     ∙ indices-of sources (orderColumn (g .axes) (nodes g sources targets) sources)
     (λ i m. let r = mem-concat (indicesIn (g .axes) sources) (filter (leaf (g .axes) (nodes g sources targets)) (nodes g sources targets)) i m in omega (arith, indices-hold (g .axes) sources (r .0) i (r .2) .0))
 

@@ -1,14 +1,6 @@
-pub mod Joins
 pub mod Putting
-pub mod Digits
-pub mod Loops
-pub mod Splitting
-pub mod Aiming
-pub mod Parted
-pub mod Words
-pub mod Choosing
-pub mod Dealing
+pub mod Spreading
 pub mod Turns
 pub mod Stepping
-pub mod Root
+pub mod Starting
 pub mod Ending

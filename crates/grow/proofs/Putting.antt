@@ -1,4 +1,4 @@
--- One row more in each of the node columns.
+-- One row more in the key column and the marks; and what the nodes own.
 use mathlib.Core.Path.{_≡_, refl, sym, ap, ap₂, subst, _∙_}
 use mathlib.Core.Bool.{Bool, true, false, cond}
 use mathlib.Core.List.{List, [], _∷_, _++_, map}
@@ -14,13 +14,18 @@ use Rattle.dealing.proofs.Laws.{map-join}
 use Rattle.growth.specs.declared.Rule.{Rule}
 use Rattle.growth.specs.Columns.{beginColumn}
 use Rattle.growth.proofs.Arranged.{length-indices}
-use Rattle.grow.specs.Cells.{Points, splitting, sizeOf, within, ownIn, ownedBy}
-use Rattle.grow.specs.Rows.{Columns, columns, Wide, Filled, Holds}
-use Rattle.grow.proofs.Joins.{concat-one, concat-empty, concat-length, range-more}
+use Rattle.parting.specs.Cells.{Points, splitting, sizeOf, within}
+use Rattle.grow.specs.Cells.{ownIn, ownedBy}
+use Rattle.grow.specs.Rows.{markOf, marked, Filled, Holds}
+use Rattle.parting.proofs.Joins.{concat-one, concat-empty, concat-length, range-more}
 
 pub map-agree : (f h : ℕ → ℕ) (xs : List ℕ) → ((x : ℕ) → Mem x xs → f x ≡ h x) → map f xs ≡ map h xs
 map-agree f h [] e = refl
 map-agree f h (x ∷ xs) e = ap₂ (λ (a : ℕ) (t : List ℕ). a ∷ t) (e x (here x xs)) (map-agree f h xs (λ y m. e y (there x y xs m)))
+
+pub map-twice : (f h : ℕ → ℕ) (xs : List ℕ) → map f (map h xs) ≡ map (λ x. f (h x)) xs
+map-twice f h [] = refl
+map-twice f h (x ∷ xs) = ap (λ (t : List ℕ). f (h x) ∷ t) (map-twice f h xs)
 
 -- the begin of one more node is the sum of all before it
 pub begin-more : (own : List ℕ) (x : ℕ) → beginColumn (own ++ x ∷ []) ≡ beginColumn own ++ sum own ∷ []
@@ -61,56 +66,42 @@ module _ (g : Rule) (p : Points) where
   owned-length done = concat-length (λ k. cond (splitting g p k) [] (within g p k)) (ownIn g p) done owned-size
 
 -- ---- a column
-column : (xs col : List ℕ) (n x : ℕ) → take n col ≡ xs → n < length col → take (suc n) (set col n x) ≡ xs ++ x ∷ []
+pub column : (xs col : List ℕ) (n x : ℕ) → take n col ≡ xs → n < length col → take (suc n) (set col n x) ≡ xs ++ x ∷ []
 column xs col n x e l = take-suc-set col n x l ∙ ap (λ (t : List ℕ). t ++ x ∷ []) e
 
-module _ (g : Rule) (p : Points) (room k own at total : ℕ) (key ow beg tot : List ℕ) (m : ℕ) (done : List ℕ)
-    (h : Holds g p room (columns key ow beg tot m) done) (is-own : own ≡ ownIn g p k) (is-at : at ≡ length (ownedBy g p done)) (is-total : total ≡ sizeOf g p k) where
+module _ (g : Rule) (p : Points) (room k sum : ℕ) (split : Bool) (key mark : List ℕ) (m : ℕ) (done : List ℕ)
+    (h : Holds g p room (marked key mark m) done) (is-sum : sum ≡ sizeOf g p k) (is-split : split ≡ splitting g p k) where
+  abbrev marks : List ℕ → List ℕ
+  marks ks = map (λ k. markOf (sizeOf g p k) (splitting g p k)) ks
+
   one-more : length (done ++ k ∷ []) ≡ suc (length done)
   one-more = length-append done (k ∷ []) ∙ omega arith
 
-  pub row-put : m < room → Holds g p room (columns (set key m k) (set ow m own) (set beg m at) (set tot m total) (m + 1)) (done ++ k ∷ [])
-  row-put l = record {
-    wide = record {
-      keys = omega (arith, length-set key m k, h .wide .keys);
-      owns = omega (arith, length-set ow m own, h .wide .owns);
-      begins = omega (arith, length-set beg m at, h .wide .begins);
-      totals = omega (arith, length-set tot m total, h .wide .totals);
-    };
+  pub row-put : (x : ℕ) → x ≡ markOf sum split → m < room → Holds g p room (marked (set key m k) (set mark m x) (m + 1)) (done ++ k ∷ [])
+  row-put x is l = record {
+    key-room = omega (arith, length-set key m k, h .key-room);
+    mark-room = omega (arith, length-set mark m x, h .mark-room);
     counted = omega (arith, one-more, h .counted);
-    filled = λ r. subst (λ (n : ℕ). Filled g p (columns (set key n k) (set ow n own) (set beg n at) (set tot n total) (m + 1)) (done ++ k ∷ [])) (sym same) (rows (h .filled (omega (arith, one-more))));
+    filled = λ r. subst (λ (n : ℕ). Filled g p (marked (set key n k) (set mark n x) (m + 1)) (done ++ k ∷ [])) (sym same) (rows (h .filled (omega (arith, one-more))));
   }
     where
       same : m ≡ length done
       same = omega (arith, h .counted)
 
-      n : ℕ
-      n = length done
-
-      rows : Filled g p (columns key ow beg tot m) done → Filled g p (columns (set key (length done) k) (set ow (length done) own) (set beg (length done) at) (set tot (length done) total) (m + 1)) (done ++ k ∷ [])
+      rows : Filled g p (marked key mark m) done → Filled g p (marked (set key (length done) k) (set mark (length done) x) (m + 1)) (done ++ k ∷ [])
       rows f = record {
-        keys = ap (λ (i : ℕ). take i (set key (length done) k)) one-more ∙ column done key (length done) k (f .keys) (omega (arith, h .wide .keys, same));
-        owns =
-            ap (λ (i : ℕ). take i (set ow (length done) own)) one-more
-            ∙ column (map (ownIn g p) done) ow (length done) own (f .owns) (omega (arith, h .wide .owns, same))
-            ∙ ap (λ (x : ℕ). map (ownIn g p) done ++ x ∷ []) is-own
-            ∙ sym (map-join (ownIn g p) done (k ∷ []));
-        begins =
-            ap (λ (i : ℕ). take i (set beg (length done) at)) one-more
-            ∙ column (beginColumn (map (ownIn g p) done)) beg (length done) at (f .begins) (omega (arith, h .wide .begins, same))
-            ∙ ap (λ (x : ℕ). beginColumn (map (ownIn g p) done) ++ x ∷ []) (is-at ∙ owned-length g p done)
-            ∙ sym (begin-more (map (ownIn g p) done) (ownIn g p k))
-            ∙ ap beginColumn (sym (map-join (ownIn g p) done (k ∷ [])));
-        totals =
-            ap (λ (i : ℕ). take i (set tot (length done) total)) one-more
-            ∙ column (map (sizeOf g p) done) tot (length done) total (f .totals) (omega (arith, h .wide .totals, same))
-            ∙ ap (λ (x : ℕ). map (sizeOf g p) done ++ x ∷ []) is-total
-            ∙ sym (map-join (sizeOf g p) done (k ∷ []));
+        keys = ap (λ (i : ℕ). take i (set key (length done) k)) one-more ∙ column done key (length done) k (f .keys) (omega (arith, h .key-room, same));
+        marks =
+            ap (λ (i : ℕ). take i (set mark (length done) x)) one-more
+            ∙ column (marks done) mark (length done) x (f .marks) (omega (arith, h .mark-room, same))
+            ∙ ap (λ (y : ℕ). marks done ++ y ∷ []) (is ∙ ap₂ markOf is-sum is-split)
+            ∙ sym (map-join (λ k. markOf (sizeOf g p k) (splitting g p k)) done (k ∷ []));
       }
 
-  pub row-full : room ≤ m → Holds g p room (columns key ow beg tot (room + 1)) (done ++ k ∷ [])
+  pub row-full : room ≤ m → Holds g p room (marked key mark (room + 1)) (done ++ k ∷ [])
   row-full l = record {
-    wide = record { keys = h .wide .keys; owns = h .wide .owns; begins = h .wide .begins; totals = h .wide .totals };
+    key-room = h .key-room;
+    mark-room = h .mark-room;
     counted = omega (arith, one-more, h .counted);
     filled = λ r. absurd (omega (arith, one-more, h .counted));
   }

@@ -20,7 +20,7 @@ slice-reshare-prefix-depth-of : tie.Need-slice-reshare-prefix-depth-of
 slice-reshare-prefix-depth-of c = search needs
 
 slice-aggregate-depth-of : tie.Need-slice-aggregate-depth-of
-slice-aggregate-depth-of c = let s = c .before .before .before .before .before .before .before in sym (length-take-le (s .args .n) (now (s .args .key)) (s .pre .2))
+slice-aggregate-depth-of c = let a = c .before .before .before .before .args in sym (length-take-le (a .n) (now (a .key)) (c .before .before .before .before .pre .2))
 
 depth-of-requires : tie.Need-depth-of-requires
 depth-of-requires c κs = search needs
@@ -37,15 +37,6 @@ clear-requires c κs = search needs
 clear-from-requires : tie.Need-clear-from-requires
 clear-from-requires c κs = search needs
 
-clear-from-usize-requires-2 : tie.Need-clear-from-usize-requires-2
-clear-from-usize-requires-2 c κs = search needs
-
-clear-from-usize-requires-3 : tie.Need-clear-from-usize-requires-3
-clear-from-usize-requires-3 c κs = search needs
-
-clear-from-usize-requires-4 : tie.Need-clear-from-usize-requires-4
-clear-from-usize-requires-4 c κs = search needs
-
 same-length : tie.Need-same-length
 same-length c = search needs
 
@@ -55,18 +46,9 @@ same-length-2 c = search needs
 same-length-3 : tie.Need-same-length-3
 same-length-3 c = search needs
 
-same-length-4 : tie.Need-same-length-4
-same-length-4 c = search needs
-
-same-length-5 : tie.Need-same-length-5
-same-length-5 c = search needs
-
-same-length-6 : tie.Need-same-length-6
-same-length-6 c = search needs
-
 returns : tie.Need-returns
-returns c = let a = c .before .before .before .before .before .before .before .before .before .before .before .before .before .before .before .before .before .before .before .before .before .before .before .before .before .before .before .before .before .before .before .before .before .before .before .before .before .args in (c .before .before .before .before .before .before .before .before .before .before .before .before .before .before .before .before .before .before .before .before .before .before .before .before .before .before .before .before .before .depth-of .ensures, (c .before .before .before .before .before .before .before .before .before .before .before .before .before .before .before .before .before .before .clear .ensures, (c .before .before .before .before .before .before .before .before .before .before .before .before .before .before .before .before .before .before .before .before .before .before .clear-from-usize .ensures ∙ ap₂ (λ (xs : List ℕ) (m : ℕ). xs ++ replicate m 0) (c .before .before .before .before .before .before .before .before .before .before .before .before .before .before .before .before .before .before .before .before .before .before .before .before .before .before .take-indices .ensures .taken) (ap (λ (m : ℕ). m - a .rows) (c .before .before .before .before .before .before .before .before .before .before .before .before .before .before .before .before .before .before .before .before .before .before .before .before .before .before .take-indices .kept .1 .1 .0)), (c .before .before .before .before .before .before .before .before .before .before .before .before .before .before .clear-from .ensures, (c .before .before .before .before .before .before .before .before .before .before .clear-from-usize2 .ensures, (c .before .before .before .before .before .before .clear-from-usize3 .ensures, c .before .before .clear-from-usize4 .ensures))))))
+returns c = let a = c .before .before .before .before .before .before .before .before .before .before .before .before .before .before .before .before .before .before .before .before .before .before .args in (c .before .before .before .before .before .before .before .before .before .before .before .before .before .before .before .before .before .depth-of .ensures, (c .before .before .before .before .before .before .clear .ensures, (c .before .before .before .before .before .before .before .before .before .before .clear-from-usize .ensures ∙ ap₂ (λ (xs : List ℕ) (m : ℕ). xs ++ replicate m 0) (c .before .before .before .before .before .before .before .before .before .before .before .before .before .before .take-indices .ensures .taken) (ap (λ (m : ℕ). m - a .rows) (c .before .before .before .before .before .before .before .before .before .before .before .before .before .before .take-indices .kept .1 .1 .0)), c .before .before .clear-from .ensures)))
 
 pub finish-spec : {M : Type 1} → statement M
 finish-spec =
-    tie.close (tie.spec slice-reshare-prefix-depth-of slice-aggregate-depth-of depth-of-requires take-indices-requires clear-from-usize-requires clear-requires clear-from-requires clear-from-usize-requires-2 clear-from-usize-requires-3 clear-from-usize-requires-4 same-length same-length-2 same-length-3 same-length-4 same-length-5 same-length-6 returns)
+    tie.close (tie.spec slice-reshare-prefix-depth-of slice-aggregate-depth-of depth-of-requires take-indices-requires clear-from-usize-requires clear-requires clear-from-requires same-length same-length-2 same-length-3 returns)

@@ -1,0 +1,10 @@
+pub mod Joins
+pub mod Digits
+pub mod Loops
+pub mod Splitting
+pub mod Aiming
+pub mod Parted
+pub mod Words
+pub mod Choosing
+pub mod Dealing
+pub mod Root

@@ -1,0 +1,4 @@
+pub mod Pairs
+pub mod Cells
+pub mod Setting
+pub mod Parts
