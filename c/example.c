@@ -39,8 +39,11 @@ static void stop_if_refused(lohandema_ended ended)
 {
     if (ended.number == LOHANDEMA_DONE)
         return;
-    fprintf(stderr, "example: refused %" PRIu32 " %s, value %zu: %s\n", ended.number, lohandema_refusal_name(ended.number),
-            ended.value, lohandema_refusal_sentence(ended.number));
+    fprintf(stderr, "example: refused %" PRIu32 " %s, value %zu", ended.number, lohandema_refusal_name(ended.number),
+            ended.value);
+    if (ended.reason != 0)
+        fprintf(stderr, ", axis %d, %s", ended.axis, lohandema_reason_name(ended.reason));
+    fprintf(stderr, ": %s\n", lohandema_refusal_sentence(ended.number));
     exit(1);
 }
 

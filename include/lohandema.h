@@ -142,9 +142,9 @@ static inline const char *lohandema_refusal_sentence(uint64_t number)
         "there are more than 1048576 points or keys: pass fewer",
         "the order is not from 1 to 64: pass such an order, or no targets",
         "a source lies outside the box or is not a finite number, and value, axis and reason say which, where and why: "
-        "enlarge the box or remove the source",
+        "enlarge the box, or mend or remove the source",
         "a target or looked-up point lies outside the box or is not a finite number, and value, axis and reason say which, "
-        "where and why: enlarge the box or remove the point",
+        "where and why: enlarge the box, or mend or remove the point",
         "a lent slice is short, and the value says which: lend a longer one, or, where the most was lent, raise the limit",
         "a key or level is not valid, or an anchor lies off its level: pass a level of at most 16 and what belongs to it",
         "the root has no parent and no siblings: ask of a key of level 1 or more",

@@ -18,7 +18,7 @@ NODE = re.compile(" ".join([ONE] * 3) + " U" + ROW + " V" + ROW)
 
 
 class NoTree(Refused):
-    """A listing that says that the program refused the survey."""
+    """A listing that says that the program refused the survey, or a survey that it refuses."""
 
 
 @dataclass
@@ -72,7 +72,6 @@ class Listing:
 
 def read_listing(path, survey, survey_name):
     """The listing at a path, held against its survey."""
-    check_survey(survey, survey_name)
     try:
         return checked_listing(path, survey, survey_name)
     except NoTree:
@@ -88,6 +87,7 @@ def checked_listing(path, survey, survey_name):
     if not lines:
         raise Refused("%s: empty" % path)
     axes, count, depth, _, near_work = read_first(path, lines[0][1], survey, survey_name)
+    check_survey(survey, survey_name)
     if len(lines) != count + 1:
         raise Refused("%s: line 1: %d nodes, but %d lines follow" % (path, count, len(lines) - 1))
     nodes = [read_node(path, line, text, axes) for line, text in lines[1:]]
@@ -179,11 +179,12 @@ def check_survey(survey, survey_name):
     """That the survey's box and sources are such as the listing program takes."""
     fault = house.box_fault(survey.centre, survey.radius)
     if fault:
-        raise Refused("%s: the box is outside its domain: %s; make the file anew with another box" % (survey_name, fault))
-    keys = source_keys(survey)
-    if None in keys:
-        raise Refused("%s: source %d is outside the box; make the file anew with a larger box"
-                      % (survey_name, keys.index(None)))
+        raise NoTree("%s: the box is outside its domain: %s; make the file anew with another box" % (survey_name, fault))
+    for number, source in enumerate(survey.sources):
+        wall = house.wall_of(survey.centre, survey.radius, source)
+        if wall:
+            cure = "mend that reading or take it out" if "finite" in wall else "make the file anew with a larger box"
+            raise NoTree("%s: source %d %s; %s" % (survey_name, number, wall, cure))
 
 
 def check_sources(path, listing, survey_name):

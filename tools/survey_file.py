@@ -138,6 +138,16 @@ def axis_anchor(centre, radius, coordinate):
     return anchor if 0 <= anchor < 2 ** DEEPEST else None
 
 
+def wall_of(centre, radius, point):
+    """The first axis on which a point is outside the box, and what it is there, as the listing program judges it."""
+    for axis, (c, x) in enumerate(zip(centre, point)):
+        if axis_anchor(c, radius, x) is None:
+            if not math.isfinite(x):
+                return "is not a finite number on axis %d" % axis
+            return "lies %s the box on axis %d" % ("below" if x < c else "above", axis)
+    return None
+
+
 def point_key(centre, radius, point):
     """The level-16 key of a point, or None outside the box."""
     anchors = [axis_anchor(c, radius, x) for c, x in zip(centre, point)]

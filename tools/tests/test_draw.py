@@ -241,6 +241,21 @@ class Draw(ToolTest):
             told = self.run_tool("draw", "example.survey", "in", "-o", "out").stderr
             self.assertNotIn("listing anew", told)
 
+    def test_refused_survey(self):
+        """A survey that the program refuses: which wall, from its own listing and with the listing of another."""
+        walls = {
+            "nan": ("6 1 0 1", "is not a finite number on axis 0", "mend that reading or take it out"),
+            "-1.0": ("6 1 0 2", "lies below the box on axis 0", "make the file anew with a larger box"),
+            "8.0": ("6 1 0 3", "lies above the box on axis 0", "make the file anew with a larger box"),
+        }
+        for coordinate, (refusal, wall, cure) in walls.items():
+            self.write("s.csv", "x\n0.5\n%s\n6.5\n7.5\n" % coordinate)
+            self.done("make-survey", "s.csv", "--as-is", "--centre=4", "--radius=4", "--limit=1", "-o", "s.survey")
+            self.write("in", "refused %s\n" % refusal)
+            self.refused("in: no tree to draw, since the program refused s.survey (refused %s): source 1, counted from 0, %s"
+                         % (refusal, wall), "draw", "s.survey", "in", "-o", "out")
+            self.refused("s.survey: source 1 %s; %s" % (wall, cure), "draw", "s.survey", "example.listing", "-o", "out")
+
     def test_bad_choice(self):
         bad = {
             "--leaf 9": "--leaf 9: example.listing has no such node",

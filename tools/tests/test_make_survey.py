@@ -230,8 +230,8 @@ class MakeSurvey(ToolTest):
         self.write("t.csv", "4\n-1e-300\n")
         self.write("wide.csv", "1,2\n")
         box = ["--centre=4", "--radius=4", "-o", "out"]
-        self.refused("s.csv: line 5: 8.0 is outside the box", "make-survey", "s.csv", *box)
-        self.refused("t.csv: line 2: -1e-300 is outside", "make-survey", "t.csv", *box)
+        self.refused("s.csv: line 5: 8.0 lies above the box on axis 0, centre 4.0, radius 4.0; mend the line or give a larger box", "make-survey", "s.csv", *box)
+        self.refused("t.csv: line 2: -1e-300 lies below the box on axis 0", "make-survey", "t.csv", *box)
         self.refused("wide.csv: 2 axes, but t.csv has 1", "make-survey", "t.csv", "wide.csv", *box)
         self.refused("--order 65 is not from 1 to 64", "make-survey", "s.csv", "-o", "out", "--order", "65")
         self.refused("radius 0.2 is not from", "make-survey", "s.csv", "--centre=4", "--radius=0.2", "-o", "out")

@@ -25,7 +25,7 @@ class Shared(unittest.TestCase):
     def test_cures(self):
         """The sentences of 6, 7 and 8 have the same cures in C, in Rust and for the listing."""
         cures = {
-            "include/lohandema.h": ["enlarge the box or remove the source", "target or looked-up point lies outside the box or "
+            "include/lohandema.h": ["enlarge the box, or mend or remove the source", "target or looked-up point lies outside the box or "
                                     "is not a finite number", "is not a finite number", "lies below the box",
                                     "lies above the box", "where the most was lent, raise the limit"],
             "rust/src/refusal.rs": ["enlarge the box or remove the source", "enlarge the box or remove the point",
