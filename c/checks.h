@@ -13,6 +13,9 @@ void expect_ended(lohandema_ended ended, uint64_t number, size_t value, const ch
 #define EXPECT(truth) expect((truth), #truth, __FILE__, __LINE__)
 #define ENDED(call, number, value) expect_ended((call), (number), (value), #call, __FILE__, __LINE__)
 
+/* Whether a refusal names this wall of this point. */
+#define BEHIND(ended, point, on_axis, why) ((ended).value == (point) && (ended).axis == (on_axis) && (ended).reason == (why))
+
 /* Sets bytes to junk, which is neither 0 nor an answer. */
 void fill_with_junk(void *place, size_t bytes);
 bool all_zero(const void *place, size_t bytes);

@@ -146,6 +146,28 @@ static void refused_by_points(void)
     BUILD_REFUSED(a, LOHANDEMA_POINT, 1);
 }
 
+/* The wall of the lowest source, or used target, that is outside: the first axis, and the reason there. */
+static void refused_by_walls(void)
+{
+    const double sources[6] = {1.0, 2.0, 9.0, NAN, NAN, -1.0}, targets[4] = {4.0, 4.0, 4.0, -5e-324};
+    asked a = example();
+    a.axes = 2;
+    a.sources = sources;
+    a.sources_len = 6;
+    EXPECT(BEHIND(build(a), 1, 0, LOHANDEMA_ABOVE));
+    a.sources = sources + 2;
+    a.sources_len = 4;
+    EXPECT(BEHIND(build(a), 0, 0, LOHANDEMA_ABOVE));
+    a.sources = sources + 4;
+    a.sources_len = 2;
+    EXPECT(BEHIND(build(a), 0, 0, LOHANDEMA_NOT_FINITE));
+    a.sources_len = 0;
+    a.keep_empty = true;
+    a.targets = targets;
+    a.targets_len = 4;
+    EXPECT(BEHIND(build(a), 1, 1, LOHANDEMA_BELOW));
+}
+
 static void refused_by_room(void)
 {
     asked a = example();
@@ -227,6 +249,7 @@ void test_build(void)
     known_flags();
     known_targets();
     refused_by_points();
+    refused_by_walls();
     refused_by_room();
     refused_by_count();
     refused_by_most_nodes();

@@ -65,6 +65,8 @@ static void lookup(void)
     LOOKUP_REFUSED(look_up(4.0, 1, own, bad, 3, 2), 2, LOHANDEMA_ROOM, LOHANDEMA_ROOM_POINTS);
     LOOKUP_REFUSED(look_up(4.0, 1, own, bad, 3, 3), 3, LOHANDEMA_UNSTORED, 1);
     LOOKUP_REFUSED(look_up(4.0, 1, own, worse, 3, 4), 4, LOHANDEMA_POINT, 1);
+    EXPECT(BEHIND(look_up(4.0, 1, own, worse, 3, 4), 1, 0, LOHANDEMA_NOT_FINITE));
+    EXPECT(BEHIND(look_up(4.0, 1, own, bad + 2, 1, 4), 0, 0, LOHANDEMA_ABOVE));
 }
 
 static lohandema_ended look_up_one(size_t axes, double radius, const size_t *owns, double x, uint64_t *leaf,
