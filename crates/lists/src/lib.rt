@@ -183,7 +183,7 @@ pub fn write_lists(
     ends.short
 }
 
-// Writes U's list alone, whole, with 0 in the unused rests; or answers false, where its keys have no room. It is lent no column for links.
+// Writes U's list alone, whole, with 0 in the unused rests; or answers false, where its keys have no room, and leaves 0 throughout. It is lent no column for links.
 pub fn write_near(
     axes: usize,
     key: &[u64],
@@ -208,9 +208,7 @@ pub fn write_near(
         &mut flat[..room],
         &mut far,
     );
-    if room < sizes.u {
-        return false;
-    }
-    starts::finish_near(starts, flat, key.len() + 1, sizes.u);
-    true
+    let ends = ends_of(key.len() + 1, room, sizes.v, sizes);
+    starts::finish_near(starts, flat, ends.starts, ends.u);
+    ends.short == 0
 }
