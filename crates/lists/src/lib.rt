@@ -153,7 +153,8 @@ pub fn write_lists(
     v_starts: &mut [usize],
     v_keys: &mut [u64],
 ) -> u64
-    requires { ⌜ SoundTree axes (now key) (now own) × (length (now key) < length (now «u_starts»)) × (length (now key) < length (now «v_starts»)) × (totalsRight axes (now key) (now own) (now total) ≡ true) ⌝ }
+    requires { ⌜ SoundTree axes (now key) (now own) × (length (now key) < length (now «u_starts»)) × (length (now key) < length (now «v_starts»))
+        × (totalsRight axes (now key) (now own) (now total) ≡ true) ⌝ }
     ensures { λ r. ⌜ WritesTree axes (now (key .entry)) (now (own .entry)) (now («u_starts» .entry)) (now («u_keys» .entry)) (now («v_starts» .entry)) (now («v_keys» .entry))
         (now («u_starts» .exit)) (now («u_keys» .exit)) (now («v_starts» .exit)) (now («v_keys» .exit)) r ⌝ }
 {
@@ -193,7 +194,8 @@ pub fn write_near(
     flat: &mut [u64],
 ) -> bool
     requires { ⌜ SoundTree axes (now key) (now own) × (length (now key) < length (now starts)) × (totalsRight axes (now key) (now own) (now total) ≡ true) ⌝ }
-    ensures { λ r. ⌜ WritesList (uRow axes (now (key .entry)) (now (own .entry))) (now (key .entry)) (length (now (starts .entry))) (length (now (flat .entry))) (now (starts .exit)) (now (flat .exit)) r ⌝ }
+    ensures { λ r. ⌜ WritesList (uRow axes (now (key .entry)) (now (own .entry))) (now (key .entry))
+        (length (now (starts .entry))) (length (now (flat .entry))) (now (starts .exit)) (now (flat .exit)) r ⌝ }
 {
     let links = [0usize; 0];
     let mut far = [0u64; 0];

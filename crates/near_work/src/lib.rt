@@ -113,10 +113,12 @@ pub fn get_near_work(
     starts: &mut [usize],
     flat: &mut [u64],
 ) -> WorkAnswer
-    ensures answer { λ r. ⌜ r ≡ workAnswer axes (columns (now (key .entry)) (now (own .entry)) (now (begin .entry)) (now (total .entry))) (length (now (starts .entry))) (length (now (flat .entry))) ⌝ }
+    ensures answer { λ r. ⌜ r ≡ workAnswer axes (columns (now (key .entry)) (now (own .entry)) (now (begin .entry)) (now (total .entry)))
+        (length (now (starts .entry))) (length (now (flat .entry))) ⌝ }
     ensures starts { λ _. ⌜ now (starts .exit) ≡ workStartsLeft axes (columns (now (key .entry)) (now (own .entry)) (now (begin .entry)) (now (total .entry)))
         (length (now (starts .entry))) (length (now (flat .entry))) ⌝ }
-    ensures flat { λ _. ⌜ now (flat .exit) ≡ workKeysLeft axes (columns (now (key .entry)) (now (own .entry)) (now (begin .entry)) (now (total .entry))) (length (now (starts .entry))) (length (now (flat .entry))) ⌝ }
+    ensures flat { λ _. ⌜ now (flat .exit) ≡ workKeysLeft axes (columns (now (key .entry)) (now (own .entry)) (now (begin .entry)) (now (total .entry)))
+        (length (now (starts .entry))) (length (now (flat .entry))) ⌝ }
 {
     let checked = starts_outcome(axes, key, own, begin, total, starts.len());
     if let Outcome::Refused(refusal) = checked {
