@@ -227,7 +227,8 @@ pub fn split_near(
 ) -> Split
     requires { ⌜ Positions (now key) (now nodes) (now places) (now near) t ⌝ }
     requires { ⌜ (27 ≤ length (now inner)) × (27 ≤ length (now spots)) ⌝ }
-    ensures { λ r. ⌜ Splits (now (key .entry)) (now (nodes .entry)) (now (places .entry)) (take t (now (near .entry))) (now (owners .entry)) o (now (owners .exit)) (r .owners) (now (inner .exit)) (now (spots .exit)) (r .inner) ⌝ }
+    ensures { λ r. ⌜ Splits (now (key .entry)) (now (nodes .entry)) (now (places .entry)) (take t (now (near .entry)))
+        (now (owners .entry)) o (now (owners .exit)) (r .owners) (now (inner .exit)) (now (spots .exit)) (r .inner) ⌝ }
 {
     let mut m = o;
     let mut k: usize = 0;

@@ -1,10 +1,11 @@
 -- Both lists parted from one column of starts, with the unused rests.
 use mathlib.Core.Path.{_≡_, refl, sym, ap, ap₂, _∙_, subst}
-use mathlib.Core.Bool.{true, false}
+use mathlib.Core.Bool.{Bool, true, false}
 use mathlib.Core.List.{List, [], _∷_, _++_, map}
 use Prim.Native.Nat.{ℕ, zero, suc, _+_, _-_, _≤_, _<_}
 use native.Mathlib.Omega.{arith}
 use native.Mathlib.Decide.{decLt}
+use lib.Dec.{eqb}
 use lib.ListN.{length, take, replicate, length-append}
 use lib.Seq.{take-append-le, length-take-le}
 use borrow.Author.Tests.{le-leb, lt-leb}
@@ -34,10 +35,6 @@ module _ (row : ℕ → List ℕ) (keys starts e : List ℕ) (n room len : ℕ) 
   in-room : n ≤ room → hasRoom row keys len ≡ true
   in-room h = le-leb (length (rowKeys row keys)) (keysRoom len) (omega (arith, w .counted (omega arith)))
 
-  -- a list that is written alone and has no room
-  pub near-over : room < n → (places : ℕ) (starts' out' : List ℕ) → WritesList row keys places len starts' out' false
-  near-over h places starts' out' = record { fits = sym (no-room h); begins = λ q. absurd (clash q refl); written = λ q. absurd (clash q refl) }
-
   list-done : n ≤ room → (places m : ℕ) (rest out'' col starts'' : List ℕ) → room + length rest ≡ len → m ≡ places
       → out'' ≡ take n (e ++ rest) ++ replicate (length (e ++ rest) - n) 0
       → col ≡ rowStarts row keys
@@ -50,13 +47,8 @@ module _ (row : ℕ → List ℕ) (keys starts e : List ℕ) (n room len : ℕ) 
         fits = sym (in-room h);
         begins = λ _. r ∙ ap₂ (λ (x : List ℕ) (j : ℕ). x ++ replicate j 0) b (ap₂ _-_ same (sym (starts-length 0 row keys)));
         written = λ _. q ∙ ap₂ (λ (x : List ℕ) (j : ℕ). x ++ replicate j 0) (take-append-le n e rest (omega arith) ∙ w .written (omega arith)) (ap₂ _-_ z k);
+        cleared = λ q. absurd (clash refl q);
       }
-
--- what `finish_near` leaves
-pub near-finished : (row : ℕ → List ℕ) (keys starts e : List ℕ) (n room len : ℕ) → WritesRows row keys (map upper starts) e n → length e ≡ room → room ≡ keysRoom len → n ≤ room → (places : ℕ) (rest starts' out' : List ℕ)
-    → room + length rest ≡ len → length starts ≡ places → starts' ≡ halfOf upper (length keys + 1) starts (length starts) → out' ≡ firstOf n (e ++ rest) → WritesList row keys places len starts' out' true
-near-finished row keys starts e n room len w size cap h places rest starts' out' all same r q =
-    list-done row keys (map upper starts) e n room len w size cap h places (length starts) rest out' (map upper (take (length keys + 1) starts)) starts' all same q (half-begins upper row keys starts (w .begins (omega arith))) r
 
 -- ---- nothing kept
 half-none : (half : ℕ → ℕ) (n : ℕ) (both : List ℕ) (len : ℕ) → n ≡ 0 → halfOf half n both len ≡ replicate len 0
@@ -64,6 +56,33 @@ half-none half n both len e = let z : len - 0 ≡ len = omega arith in ap (λ (k
 
 first-none : (n : ℕ) (xs : List ℕ) → n ≡ 0 → firstOf n xs ≡ replicate (length xs) 0
 first-none n xs e = let z : length xs - 0 ≡ length xs = omega arith in ap (λ (k : ℕ). firstOf k xs) e ∙ ap (λ (k : ℕ). replicate k 0) z
+
+-- ---- what `finish_near` leaves of one list
+module _ (row : ℕ → List ℕ) (keys starts e : List ℕ) (n room len : ℕ) (w : WritesRows row keys (map upper starts) e n) (size : length e ≡ room) (cap : room ≡ keysRoom len)
+    (m short n' u' v' : ℕ) (ends : EndsOf room m n m (length keys + 1) short n' u' v') (enough : Bool) (told : enough ≡ eqb short 0) (places : ℕ) (rest starts' out' : List ℕ)
+    (all : room + length rest ≡ len) (same : length starts ≡ places) (r : starts' ≡ halfOf upper n' starts (length starts)) (q : out' ≡ firstOf u' (e ++ rest)) where
+  near-go : Dec (room < n) → WritesList row keys places len starts' out' enough
+  near-go (yes h) =
+      let (s, a, b, c) = ends .u-short h in
+      let no : enough ≡ false = told ∙ ap (λ (k : ℕ). eqb k 0) s in
+      record {
+        fits = no ∙ sym (no-room row keys (map upper starts) e n room len w size cap h);
+        begins = λ t. absurd (clash t no);
+        written = λ t. absurd (clash t no);
+        cleared = λ _. (
+          r ∙ half-none upper n' starts (length starts) a ∙ ap (λ (k : ℕ). replicate k 0) same,
+          q ∙ first-none u' (e ++ rest) b ∙ ap (λ (k : ℕ). replicate k 0) (length-append e rest ∙ ap (λ (k : ℕ). k + length rest) size ∙ all),
+        );
+      }
+  near-go (no h) =
+      let low : n ≤ room = omega arith in
+      let (s, a, b, c) = ends .whole low (omega arith) in
+      subst (λ t. WritesList row keys places len starts' out' t) (sym (told ∙ ap (λ (k : ℕ). eqb k 0) s))
+      (list-done row keys (map upper starts) e n room len w size cap low places (length starts) rest out' (map upper (take (length keys + 1) starts)) starts' all same
+      (q ∙ ap (λ (i : ℕ). firstOf i (e ++ rest)) b) (half-begins upper row keys starts (w .begins (omega arith))) (r ∙ ap (λ (i : ℕ). halfOf upper i starts (length starts)) a))
+
+  pub near-ended : WritesList row keys places len starts' out' enough
+  near-ended = near-go (decLt room n)
 
 -- ---- both
 module _ (u v : ℕ → List ℕ) (keys : List ℕ) (up ul vp vl : ℕ) (us uk vs vk : List ℕ) where

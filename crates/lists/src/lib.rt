@@ -153,7 +153,8 @@ pub fn write_lists(
     v_starts: &mut [usize],
     v_keys: &mut [u64],
 ) -> u64
-    requires { ⌜ SoundTree axes (now key) (now own) × (length (now key) < length (now «u_starts»)) × (length (now key) < length (now «v_starts»)) × (totalsRight axes (now key) (now own) (now total) ≡ true) ⌝ }
+    requires { ⌜ SoundTree axes (now key) (now own) × (length (now key) < length (now «u_starts»)) × (length (now key) < length (now «v_starts»))
+        × (totalsRight axes (now key) (now own) (now total) ≡ true) ⌝ }
     ensures { λ r. ⌜ WritesTree axes (now (key .entry)) (now (own .entry)) (now («u_starts» .entry)) (now («u_keys» .entry)) (now («v_starts» .entry)) (now («v_keys» .entry))
         (now («u_starts» .exit)) (now («u_keys» .exit)) (now («v_starts» .exit)) (now («v_keys» .exit)) r ⌝ }
 {
@@ -183,7 +184,7 @@ pub fn write_lists(
     ends.short
 }
 
-// Writes U's list alone, whole, with 0 in the unused rests; or answers false, where its keys have no room. It is lent no column for links.
+// Writes U's list alone, whole, with 0 in the unused rests; or answers false, where its keys have no room, and leaves 0 throughout. It is lent no column for links.
 pub fn write_near(
     axes: usize,
     key: &[u64],
@@ -193,7 +194,8 @@ pub fn write_near(
     flat: &mut [u64],
 ) -> bool
     requires { ⌜ SoundTree axes (now key) (now own) × (length (now key) < length (now starts)) × (totalsRight axes (now key) (now own) (now total) ≡ true) ⌝ }
-    ensures { λ r. ⌜ WritesList (uRow axes (now (key .entry)) (now (own .entry))) (now (key .entry)) (length (now (starts .entry))) (length (now (flat .entry))) (now (starts .exit)) (now (flat .exit)) r ⌝ }
+    ensures { λ r. ⌜ WritesList (uRow axes (now (key .entry)) (now (own .entry))) (now (key .entry))
+        (length (now (starts .entry))) (length (now (flat .entry))) (now (starts .exit)) (now (flat .exit)) r ⌝ }
 {
     let links = [0usize; 0];
     let mut far = [0u64; 0];
@@ -208,9 +210,7 @@ pub fn write_near(
         &mut flat[..room],
         &mut far,
     );
-    if room < sizes.u {
-        return false;
-    }
-    starts::finish_near(starts, flat, key.len() + 1, sizes.u);
-    true
+    let ends = ends_of(key.len() + 1, room, sizes.v, sizes);
+    starts::finish_near(starts, flat, ends.starts, ends.u);
+    ends.short == 0
 }

@@ -1,5 +1,4 @@
 -- What the call for near work answers for a tree over d axes, and what it leaves in the lent slices: U starts of us entries, U keys of uk.
-use mathlib.Core.Bool.{Bool, true, false}
 use mathlib.Core.List.{List}
 use Prim.Native.Nat.{ℕ}
 use lib.Dec.{leb, ltb}
@@ -21,15 +20,15 @@ abbrev pub workOr : Outcome → ℕ → WorkAnswer
 workOr Done n = work.Work n
 workOr (Refused r) n = work.Refused r
 
--- whether the answer is not a refusal
-abbrev pub isWork : WorkAnswer → Bool
-isWork (work.Work w) = true
-isWork (work.Refused r) = false
+module _ (d : ℕ) (t : Columns) (us : ℕ) where
+  -- 1, 13, then 8 where the U list has no room: starts need one entry for each node and one more
+  abbrev pub startsCheck : Outcome
+  startsCheck = treeCheck d t then ask (ltb (length (t .keys)) us) (Room 4)
 
 module _ (d : ℕ) (t : Columns) (us uk : ℕ) where
-  -- 1, 13, then 8 where the U list has no room: starts one for each node and one more, keys their full number, where at most 16,777,216 entries count
+  -- and keys their full number, where at most 16,777,216 entries count
   abbrev pub workCheck : Outcome
-  workCheck = treeCheck d t then ask (ltb (length (t .keys)) us) (Room 4) then ask (leb (length (rowKeys (uRows d t) (t .keys))) (keysRoom uk)) (Room 6)
+  workCheck = startsCheck d t us then ask (leb (length (rowKeys (uRows d t) (t .keys))) (keysRoom uk)) (Room 6)
 
   abbrev pub workAnswer : WorkAnswer
   workAnswer = workOr workCheck (nearWork d (t .keys) (t .own))

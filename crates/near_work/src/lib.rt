@@ -3,18 +3,16 @@ use refusal::Outcome;
 use refusal::Refusal;
 use tree::Found;
 ghost use mathlib.Core.Path.{_≡_};
-ghost use mathlib.Core.Bool.{true};
 ghost use Prim.Native.Nat.{_≤_, _<_};
 ghost use lib.ListN.{length, getD};
-ghost use Rattle.slices.specs.Lists.{filled};
 ghost use Rattle.tree.specs.Columns.{columns};
 ghost use Rattle.tree.specs.Nodes.{ownOf};
 ghost use Rattle.tree.specs.WellFormed.{mostSources};
 ghost use Rattle.rows.specs.Lists.{uRow, nearWork};
-ghost use Rattle.rows.specs.Written.{rowStarts, rowKeys, Written};
+ghost use Rattle.rows.specs.Written.{Written};
 ghost use Rattle.tree.specs.WellFormed.{SoundTree};
 ghost use Rattle.near_work.specs.Work.{Beside, rowSources, workOf, mostWork};
-ghost use Rattle.near_work.specs.Answers.{workAnswer, isWork, workStartsLeft, workKeysLeft};
+ghost use Rattle.near_work.specs.Answers.{startsCheck, workAnswer, workStartsLeft, workKeysLeft};
 
 // Near work of a tree, or a refusal.
 pub enum WorkAnswer {
@@ -84,31 +82,25 @@ pub fn near_work(axes: usize, key: &[u64], own: &[usize], starts: &[usize], flat
     work
 }
 
-// Writes the U list where it has room, and works out near work from it. After a refusal the slices hold anything.
-fn write_and_sum(
+// The refusals that the arguments alone decide, for so many places for starts.
+fn starts_outcome(
     axes: usize,
     key: &[u64],
     own: &[usize],
     begin: &[usize],
     total: &[usize],
-    starts: &mut [usize],
-    flat: &mut [u64],
-) -> WorkAnswer
-    ensures { λ r. ⌜ r ≡ workAnswer axes (columns (now (key .entry)) (now (own .entry)) (now (begin .entry)) (now (total .entry))) (length (now (starts .entry))) (length (now (flat .entry))) ⌝ }
-    ensures { λ r. ⌜ (isWork r ≡ true → now (starts .exit) ≡ filled (length (now (starts .entry))) (rowStarts (uRow axes (now (key .entry)) (now (own .entry))) (now (key .entry)))) ⌝ }
-    ensures { λ r. ⌜ (isWork r ≡ true → now (flat .exit) ≡ filled (length (now (flat .entry))) (rowKeys (uRow axes (now (key .entry)) (now (own .entry))) (now (key .entry)))) ⌝ }
+    places: usize,
+) -> Outcome
+    ensures { λ r. ⌜ r ≡ startsCheck axes (columns (now (key .entry)) (now (own .entry)) (now (begin .entry)) (now (total .entry))) places ⌝ }
 {
     let checked = sourced::check_tree(axes, key, own, begin, total);
     if let Outcome::Refused(refusal) = checked {
-        return WorkAnswer::Refused(refusal);
+        return Outcome::Refused(refusal);
     }
-    if starts.len() <= key.len() {
-        return WorkAnswer::Refused(Refusal::Room(4));
+    if places <= key.len() {
+        return Outcome::Refused(Refusal::Room(4));
     }
-    if !lists::write_near(axes, key, own, total, starts, flat) {
-        return WorkAnswer::Refused(Refusal::Room(6));
-    }
-    WorkAnswer::Work(near_work(axes, key, own, starts, flat))
+    Outcome::Done
 }
 
 // Near work of any tree. The U list is written into the lent slices; after a refusal they are 0 throughout.
@@ -121,18 +113,22 @@ pub fn get_near_work(
     starts: &mut [usize],
     flat: &mut [u64],
 ) -> WorkAnswer
-    ensures answer { λ r. ⌜ r ≡ workAnswer axes (columns (now (key .entry)) (now (own .entry)) (now (begin .entry)) (now (total .entry))) (length (now (starts .entry))) (length (now (flat .entry))) ⌝ }
+    ensures answer { λ r. ⌜ r ≡ workAnswer axes (columns (now (key .entry)) (now (own .entry)) (now (begin .entry)) (now (total .entry)))
+        (length (now (starts .entry))) (length (now (flat .entry))) ⌝ }
     ensures starts { λ _. ⌜ now (starts .exit) ≡ workStartsLeft axes (columns (now (key .entry)) (now (own .entry)) (now (begin .entry)) (now (total .entry)))
         (length (now (starts .entry))) (length (now (flat .entry))) ⌝ }
-    ensures flat { λ _. ⌜ now (flat .exit) ≡ workKeysLeft axes (columns (now (key .entry)) (now (own .entry)) (now (begin .entry)) (now (total .entry))) (length (now (starts .entry))) (length (now (flat .entry))) ⌝ }
+    ensures flat { λ _. ⌜ now (flat .exit) ≡ workKeysLeft axes (columns (now (key .entry)) (now (own .entry)) (now (begin .entry)) (now (total .entry)))
+        (length (now (starts .entry))) (length (now (flat .entry))) ⌝ }
 {
-    let answer = write_and_sum(axes, key, own, begin, total, starts, flat);
-    match answer {
-        WorkAnswer::Refused(refusal) => {
-            slices::clear_usize(starts);
-            slices::clear(flat);
-            WorkAnswer::Refused(refusal)
-        }
-        WorkAnswer::Work(work) => WorkAnswer::Work(work),
+    let checked = starts_outcome(axes, key, own, begin, total, starts.len());
+    if let Outcome::Refused(refusal) = checked {
+        slices::clear_usize(starts);
+        slices::clear(flat);
+        return WorkAnswer::Refused(refusal);
     }
+    if !lists::write_near(axes, key, own, total, starts, flat) {
+        return WorkAnswer::Refused(Refusal::Room(6));
+    }
+    let work = near_work(axes, key, own, starts, flat);
+    WorkAnswer::Work(work)
 }
