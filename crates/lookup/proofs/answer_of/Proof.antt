@@ -17,10 +17,10 @@ found-of-requires : tie.Need-found-of-requires
 found-of-requires c κs = search needs
 
 returns : tie.Need-returns
-returns c = ?
+returns c = let a = c .before .before .before .args in answer-missing (a .holders) (a .rows) _ (c .before .holders .given .1)
 
 returns-2 : tie.Need-returns-2
-returns-2 c = ?
+returns-2 c = let a = c .before .before .before .before .args in answer-all (a .holders) (a .rows) _ (c .before .before .holders2 .given .1) _ (c .found-of .ensures)
 
 pub answer-of-spec : {M : Type 1} → statement M
 answer-of-spec =
