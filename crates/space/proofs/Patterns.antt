@@ -1,4 +1,4 @@
--- The cell of a float from its bit pattern. What the proof of `cell_of` cites.
+-- The cell of a float from its bit pattern. What the proof of `number_of` cites.
 use mathlib.Core.Path.{_≡_, refl, sym, ap, _∙_, subst}
 use mathlib.Core.Bool.{Bool, true, false, not, cond, true≢false}
 use Prim.Native.Nat.{ℕ, zero, suc, _+_, _-_, _*_, _/_, _%_, _^_, _≤_, _<_}
@@ -16,24 +16,24 @@ use lib.Ieee.Positive.{first-pos}
 use lib.Ieee.Compare.{differs-from-itself}
 use lib.Arith.{lt-of-le-ne}
 use Rattle.space.specs.Floats.{whole, floor}
-use Rattle.space.specs.Cells.{pick, cellIn}
-use Rattle.space.specs.declared.Place.{Place}
-use Rattle.space.specs.declared.Place.the-variants.{At}
+use Rattle.space.specs.Cells.{codeOr, cellNumber}
+use Rattle.space.specs.declared.Cell.{Cell}
+use Rattle.space.specs.declared.Cell.the-variants.{Number, Outside}
 use Rattle.space.proofs.Rounding.{floor-plus}
 
 -- ---- the cell of a value g / d
-at-cell : (w : Place) (x : Float) (g d k : ℕ) → 0 < d → HasValue x false g d → g / d ≡ k → k < 65536 → At k ≡ cellIn 65536 (floor x) w
-at-cell w x g d k D h e l =
-    sym (ap (λ y. cellIn 65536 y w) (floor-plus x g d D h ∙ ap (λ (n : ℕ). whole (pos n)) e) ∙ ap (λ (b : Bool). pick b (At k) w) (is-true (ltb k 65536) (lt→ltb k 65536 l)))
+at-cell : (x : Float) (g d k : ℕ) → 0 < d → HasValue x false g d → g / d ≡ k → k < 65536 → Number k ≡ cellNumber 65536 (floor x)
+at-cell x g d k D h e l =
+    sym (ap (cellNumber 65536) (floor-plus x g d D h ∙ ap (λ (n : ℕ). whole (pos n)) e) ∙ ap (λ (b : Bool). codeOr b k) (is-true (ltb k 65536) (lt→ltb k 65536 l)))
 
-out-cell : (w : Place) (x : Float) (g d : ℕ) → 0 < d → HasValue x false g d → 65536 ≤ g / d → w ≡ cellIn 65536 (floor x) w
-out-cell w x g d D h l =
+out-cell : (x : Float) (g d : ℕ) → 0 < d → HasValue x false g d → 65536 ≤ g / d → Outside ≡ cellNumber 65536 (floor x)
+out-cell x g d D h l =
     let k = g / d in
-    sym (ap (λ y. cellIn 65536 y w) (floor-plus x g d D h) ∙ ap (λ (b : Bool). pick b (At k) w) (is-false (ltb k 65536) (not-T (ltb k 65536) (λ (t : T (ltb k 65536)). not-le-of-lt (ltb→lt k 65536 t) l))))
+    sym (ap (cellNumber 65536) (floor-plus x g d D h) ∙ ap (λ (b : Bool). codeOr b k) (is-false (ltb k 65536) (not-T (ltb k 65536) (λ (t : T (ltb k 65536)). not-le-of-lt (ltb→lt k 65536 t) l))))
 
-below-zero : (w : Place) (n k : ℕ) → 1 ≤ k → w ≡ cellIn n (whole (negℤ (pos k))) w
-below-zero w n zero h = absurd (lt-irrefl 0 h)
-below-zero w n (suc k) h = refl
+below-zero : (n k : ℕ) → 1 ≤ k → Outside ≡ cellNumber n (whole (negℤ (pos k)))
+below-zero n zero h = absurd (lt-irrefl 0 h)
+below-zero n (suc k) h = refl
 
 ceil-pos : (n d : ℕ) → 0 < n → 0 < d → 1 ≤ (n + (d - 1)) / d
 ceil-pos n d N D = le-div-iff-mul-le D .1 (go n d N D)
@@ -41,34 +41,34 @@ ceil-pos n d N D = le-div-iff-mul-le D .1 (go n d N D)
     go : (n d : ℕ) → 0 < n → 0 < d → 1 * d ≤ n + (d - 1)
     go n d N D = omega arith
 
-minus-cell : (w : Place) (x : Float) (g d : ℕ) → 0 < g → HasValue x true g d → w ≡ cellIn 65536 (floor x) w
+minus-cell : (x : Float) (g d : ℕ) → 0 < g → HasValue x true g d → Outside ≡ cellNumber 65536 (floor x)
 unfolding floor
-minus-cell w nan g d G h = absurd h
-minus-cell w (inf s) g d G h = absurd h
-minus-cell w (fin false m e) g d G h = absurd (true≢false (sym (h .0)))
-minus-cell w (fin true m e) g d G h =
-    below-zero w 65536 ((m * up e + (down e - 1)) / down e)
+minus-cell nan g d G h = absurd h
+minus-cell (inf s) g d G h = absurd h
+minus-cell (fin false m e) g d G h = absurd (true≢false (sym (h .0)))
+minus-cell (fin true m e) g d G h =
+    below-zero 65536 ((m * up e + (down e - 1)) / down e)
     (ceil-pos (m * up e) (down e) (first-pos (m * up e) d (subst (λ (z : ℕ). 0 < z) (sym (h .1)) (mul-pos G (down-pos e)))) (down-pos e))
 
 -- ---- what fields stand for
-top-cell : (w : Place) (s b : Bool) → w ≡ cellIn 65536 (floor (cond b (inf s) nan)) w
+top-cell : (s b : Bool) → Outside ≡ cellNumber 65536 (floor (cond b (inf s) nan))
 unfolding floor
-top-cell w s true = refl
-top-cell w s false = refl
+top-cell s true = refl
+top-cell s false = refl
 
-either-cell : (w : Place) (a b s : Bool) (v : Float) → w ≡ cellIn 65536 (floor v) w → w ≡ cellIn 65536 (floor (cond a (cond b (inf s) nan) v)) w
-either-cell w true b s v h = top-cell w s b
-either-cell w false b s v h = h
+either-cell : (a b s : Bool) (v : Float) → Outside ≡ cellNumber 65536 (floor v) → Outside ≡ cellNumber 65536 (floor (cond a (cond b (inf s) nan) v))
+either-cell true b s v h = top-cell s b
+either-cell false b s v h = h
 
-fields-minus : (w : Place) (x t : ℕ) → 0 < x + t → w ≡ cellIn 65536 (floor (ofFields binary64 true x t)) w
+fields-minus : (x t : ℕ) → 0 < x + t → Outside ≡ cellNumber 65536 (floor (ofFields binary64 true x t))
 unfolding ofFields
-fields-minus w zero t h = minus-cell w (odd 53 true t 0 1074) (t * 1) (2 ^ 1074) (go t h) (odd-sign 53 true t 0 1074)
+fields-minus zero t h = minus-cell (odd 53 true t 0 1074) (t * 1) (2 ^ 1074) (go t h) (odd-sign 53 true t 0 1074)
   where
     go : (t : ℕ) → 0 < 0 + t → 0 < t * 1
     go t h = omega arith
-fields-minus w (suc j) t h =
-    either-cell w (eqb (suc j) 2047) (eqb t 0) true (odd 53 true (2 ^ 52 + t) j 1074)
-    (minus-cell w (odd 53 true (2 ^ 52 + t) j 1074) ((2 ^ 52 + t) * 2 ^ j) (2 ^ 1074) (mul-pos (go t) (pow-pos j)) (odd-sign 53 true (2 ^ 52 + t) j 1074))
+fields-minus (suc j) t h =
+    either-cell (eqb (suc j) 2047) (eqb t 0) true (odd 53 true (2 ^ 52 + t) j 1074)
+    (minus-cell (odd 53 true (2 ^ 52 + t) j 1074) ((2 ^ 52 + t) * 2 ^ j) (2 ^ 1074) (mul-pos (go t) (pow-pos j)) (odd-sign 53 true (2 ^ 52 + t) j 1074))
   where
     go : (t : ℕ) → 0 < 4503599627370496 + t
     go t = omega arith
@@ -87,15 +87,15 @@ unfolding ofFields
 fields-value j t h =
     subst (λ (a : Bool). HasValue (cond a (cond (eqb t 0) (inf false) nan) (odd 53 false (2 ^ 52 + t) j 1074)) false ((2 ^ 52 + t) * 2 ^ j) (2 ^ 1074)) (sym (not-top j h)) (odd-sign 53 false (2 ^ 52 + t) j 1074)
 
-fields-low : (w : Place) (x t : ℕ) → t < 2 ^ 52 → x < 1023 → At 0 ≡ cellIn 65536 (floor (ofFields binary64 false x t)) w
+fields-low : (x t : ℕ) → t < 2 ^ 52 → x < 1023 → Number 0 ≡ cellNumber 65536 (floor (ofFields binary64 false x t))
 unfolding ofFields
-fields-low w zero t T52 h =
+fields-low zero t T52 h =
     let l : 52 + 0 ≤ 1074 = lit≤ tt in
-    at-cell w (odd 53 false t 0 1074) (t * 1) (2 ^ 1074) 0 (pow-pos 1074) (odd-sign 53 false t 0 1074) (div-eq-of-lt (lt-of-lt-of-le (shl-lt 52 0 T52) (pow-mono l))) (lit< tt)
-fields-low w (suc j) t T52 h =
+    at-cell (odd 53 false t 0 1074) (t * 1) (2 ^ 1074) 0 (pow-pos 1074) (odd-sign 53 false t 0 1074) (div-eq-of-lt (lt-of-lt-of-le (shl-lt 52 0 T52) (pow-mono l))) (lit< tt)
+fields-low (suc j) t T52 h =
     let l : 53 + j ≤ 1074 = omega arith in
     let k : suc j < 2047 = omega arith in
-    at-cell w (ofFields binary64 false (suc j) t) ((2 ^ 52 + t) * 2 ^ j) (2 ^ 1074) 0 (pow-pos 1074) (fields-value j t k) (div-eq-of-lt (lt-of-lt-of-le (shl-lt 53 j (with-lead t T52)) (pow-mono l))) (lit< tt)
+    at-cell (ofFields binary64 false (suc j) t) ((2 ^ 52 + t) * 2 ^ j) (2 ^ 1074) 0 (pow-pos 1074) (fields-value j t k) (div-eq-of-lt (lt-of-lt-of-le (shl-lt 53 j (with-lead t T52)) (pow-mono l))) (lit< tt)
 
 join : (j : ℕ) → j ≤ 1074 → j + (1074 - j) ≡ 1074
 join j h = omega arith
@@ -103,9 +103,9 @@ join j h = omega arith
 pub shifted-down : (q j : ℕ) → j ≤ 1074 → q / 2 ^ (1074 - j) ≡ q * 2 ^ j / 2 ^ 1074
 shifted-down q j h = ap (λ (k : ℕ). k / 2 ^ (1074 - j)) (sym (shl-shr q j)) ∙ shr-shr (q * 2 ^ j) j (1074 - j) ∙ ap (λ (k : ℕ). q * 2 ^ j / 2 ^ k) (join j h)
 
-fields-mid : (w : Place) (x t : ℕ) → t < 2 ^ 52 → 1023 ≤ x → x < 1039 → At ((2 ^ 52 + t) / 2 ^ (1075 - x)) ≡ cellIn 65536 (floor (ofFields binary64 false x t)) w
-fields-mid w zero t T52 g h = absurd (omega arith)
-fields-mid w (suc j) t T52 g h =
+fields-mid : (x t : ℕ) → t < 2 ^ 52 → 1023 ≤ x → x < 1039 → Number ((2 ^ 52 + t) / 2 ^ (1075 - x)) ≡ cellNumber 65536 (floor (ofFields binary64 false x t))
+fields-mid zero t T52 g h = absurd (omega arith)
+fields-mid (suc j) t T52 g h =
     let q = 2 ^ 52 + t in
     let k : suc j < 2047 = omega arith in
     let l : 53 + j ≤ 1090 = omega arith in
@@ -113,16 +113,16 @@ fields-mid w (suc j) t T52 g h =
     let s : 1075 - suc j ≡ 1074 - j = omega arith in
     let e : q / 2 ^ (1075 - suc j) ≡ q * 2 ^ j / 2 ^ 1074 = ap (λ (n : ℕ). q / 2 ^ n) s ∙ shifted-down q j i in
     let m : q * 2 ^ j / 2 ^ 1074 < 65536 = div-lt-iff-lt-mul (pow-pos 1074) .1 (lt-of-lt-of-le (shl-lt 53 j (with-lead t T52)) (pow-mono l)) in
-    at-cell w (ofFields binary64 false (suc j) t) (q * 2 ^ j) (2 ^ 1074) (q / 2 ^ (1075 - suc j)) (pow-pos 1074) (fields-value j t k) (sym e) (subst (λ (n : ℕ). n < 65536) (sym e) m)
+    at-cell (ofFields binary64 false (suc j) t) (q * 2 ^ j) (2 ^ 1074) (q / 2 ^ (1075 - suc j)) (pow-pos 1074) (fields-value j t k) (sym e) (subst (λ (n : ℕ). n < 65536) (sym e) m)
 
-fields-high : (w : Place) (x t : ℕ) → 1039 ≤ x → w ≡ cellIn 65536 (floor (ofFields binary64 false x t)) w
+fields-high : (x t : ℕ) → 1039 ≤ x → Outside ≡ cellNumber 65536 (floor (ofFields binary64 false x t))
 unfolding ofFields
-fields-high w zero t g = absurd (omega arith)
-fields-high w (suc j) t g =
+fields-high zero t g = absurd (omega arith)
+fields-high (suc j) t g =
     let v = odd 53 false (2 ^ 52 + t) j 1074 in
     let l : 1090 ≤ 52 + j = omega arith in
-    either-cell w (eqb (suc j) 2047) (eqb t 0) false v
-    (out-cell w v ((2 ^ 52 + t) * 2 ^ j) (2 ^ 1074) (pow-pos 1074) (odd-sign 53 false (2 ^ 52 + t) j 1074)
+    either-cell (eqb (suc j) 2047) (eqb t 0) false v
+    (out-cell v ((2 ^ 52 + t) * 2 ^ j) (2 ^ 1074) (pow-pos 1074) (odd-sign 53 false (2 ^ 52 + t) j 1074)
     (le-div-iff-mul-le (pow-pos 1074) .1 (le-trans (pow-mono l) (le-trans (le-of-eq (pow-add 2 52 j)) (mul-le-mul-right (2 ^ j) (le-add-right (2 ^ 52) t))))))
 
 -- ---- a pattern's fields
@@ -152,47 +152,47 @@ some-field b g h = omega arith
 pub digits-are : (b : ℕ) → bitOr (bitAnd b (2 ^ 52 - 1)) (2 ^ 52) ≡ 2 ^ 52 + b % 2 ^ 52
 digits-are b = ap (λ (k : ℕ). bitOr k (2 ^ 52)) (and-mask b 52) ∙ or-shifted-r 1 52 (b % 2 ^ 52) (mod-lt b (pow-pos 52))
 
--- ---- what `cell_of` asks
+-- ---- what `number_of` asks
 pub no-nan : (x : Float) → ne x x ≡ false → T (not (isNan x))
 unfolding isNan ne
 no-nan nan h = absurd (true≢false h)
 no-nan (inf s) h = tt
 no-nan (fin s m e) h = tt
 
-pub nan-out : (w : Place) (x : Float) → ne x x ≡ true → w ≡ cellIn 65536 (floor x) w
+pub nan-out : (x : Float) → ne x x ≡ true → Outside ≡ cellNumber 65536 (floor x)
 unfolding floor
-nan-out w x h = sym (ap (λ (y : Float). cellIn 65536 (floor y) w) (differs-from-itself x (subst T (sym h) tt)))
+nan-out x h = sym (ap (λ (y : Float). cellNumber 65536 (floor y)) (differs-from-itself x (subst T (sym h) tt)))
 
-zero-is : (w : Place) → At 0 ≡ cellIn 65536 (floor (ofBits binary64 (2 ^ 63))) w
+zero-is : Number 0 ≡ cellNumber 65536 (floor (ofBits binary64 (2 ^ 63)))
 unfolding ofBits floor
-zero-is w = refl
+zero-is = refl
 
-module _ (w : Place) (x : Float) (F : T (fits binary64 x)) where
+module _ (x : Float) (F : T (fits binary64 x)) where
   abbrev b : ℕ
   b = toBits binary64 x
 
   back : ofBits binary64 b ≡ x
   back = ofBits-toBits binary64 x F
 
-  of-fields : (s : Bool) (e t : ℕ) (r : Place) → ofBits binary64 b ≡ ofFields binary64 s e t → r ≡ cellIn 65536 (floor (ofFields binary64 s e t)) w → r ≡ cellIn 65536 (floor x) w
-  of-fields s e t r h k = k ∙ ap (λ (y : Float). cellIn 65536 (floor y) w) (sym h ∙ back)
+  of-fields : (s : Bool) (e t : ℕ) (r : Cell) → ofBits binary64 b ≡ ofFields binary64 s e t → r ≡ cellNumber 65536 (floor (ofFields binary64 s e t)) → r ≡ cellNumber 65536 (floor x)
+  of-fields s e t r h k = k ∙ ap (λ (y : Float). cellNumber 65536 (floor y)) (sym h ∙ back)
 
-  pub minus-zero : b ≡ 2 ^ 63 → At 0 ≡ cellIn 65536 (floor x) w
-  minus-zero h = zero-is w ∙ ap (λ (y : Float). cellIn 65536 (floor y) w) (ap (ofBits binary64) (sym h) ∙ back)
+  pub minus-zero : b ≡ 2 ^ 63 → Number 0 ≡ cellNumber 65536 (floor x)
+  minus-zero h = zero-is ∙ ap (λ (y : Float). cellNumber 65536 (floor y)) (ap (ofBits binary64) (sym h) ∙ back)
 
-  pub minus : 2 ^ 63 ≤ b → (b ≡ 2 ^ 63 → ⊥) → w ≡ cellIn 65536 (floor x) w
+  pub minus : 2 ^ 63 ≤ b → (b ≡ 2 ^ 63 → ⊥) → Outside ≡ cellNumber 65536 (floor x)
   minus h k =
-      of-fields true (b % 2 ^ 63 / 2 ^ 52) (b % 2 ^ 52) w (minus-fields b h)
-      (fields-minus w (b % 2 ^ 63 / 2 ^ 52) (b % 2 ^ 52) (some-field b (lt-of-le-ne h (λ (e : 2 ^ 63 ≡ b). k (sym e))) (toBits-lt binary64 x F)))
+      of-fields true (b % 2 ^ 63 / 2 ^ 52) (b % 2 ^ 52) Outside (minus-fields b h)
+      (fields-minus (b % 2 ^ 63 / 2 ^ 52) (b % 2 ^ 52) (some-field b (lt-of-le-ne h (λ (e : 2 ^ 63 ≡ b). k (sym e))) (toBits-lt binary64 x F)))
 
-  pub under-one : b < 2 ^ 63 → b / 2 ^ 52 < 1023 → At 0 ≡ cellIn 65536 (floor x) w
-  under-one h k = of-fields false (b / 2 ^ 52) (b % 2 ^ 52) (At 0) (plus-fields b h) (fields-low w (b / 2 ^ 52) (b % 2 ^ 52) (mod-lt b (pow-pos 52)) k)
+  pub under-one : b < 2 ^ 63 → b / 2 ^ 52 < 1023 → Number 0 ≡ cellNumber 65536 (floor x)
+  under-one h k = of-fields false (b / 2 ^ 52) (b % 2 ^ 52) (Number 0) (plus-fields b h) (fields-low (b / 2 ^ 52) (b % 2 ^ 52) (mod-lt b (pow-pos 52)) k)
 
-  pub too-high : b < 2 ^ 63 → 1039 ≤ b / 2 ^ 52 → w ≡ cellIn 65536 (floor x) w
-  too-high h k = of-fields false (b / 2 ^ 52) (b % 2 ^ 52) w (plus-fields b h) (fields-high w (b / 2 ^ 52) (b % 2 ^ 52) k)
+  pub too-high : b < 2 ^ 63 → 1039 ≤ b / 2 ^ 52 → Outside ≡ cellNumber 65536 (floor x)
+  too-high h k = of-fields false (b / 2 ^ 52) (b % 2 ^ 52) Outside (plus-fields b h) (fields-high (b / 2 ^ 52) (b % 2 ^ 52) k)
 
-  pub shifted : b < 2 ^ 63 → 1023 ≤ b / 2 ^ 52 → b / 2 ^ 52 < 1039 → At (bitOr (bitAnd b (2 ^ 52 - 1)) (2 ^ 52) / 2 ^ (1075 - b / 2 ^ 52)) ≡ cellIn 65536 (floor x) w
+  pub shifted : b < 2 ^ 63 → 1023 ≤ b / 2 ^ 52 → b / 2 ^ 52 < 1039 → Number (bitOr (bitAnd b (2 ^ 52 - 1)) (2 ^ 52) / 2 ^ (1075 - b / 2 ^ 52)) ≡ cellNumber 65536 (floor x)
   shifted h g k =
       let r = (2 ^ 52 + b % 2 ^ 52) / 2 ^ (1075 - b / 2 ^ 52) in
-      ap (λ (q : ℕ). At (q / 2 ^ (1075 - b / 2 ^ 52))) (digits-are b)
-      ∙ of-fields false (b / 2 ^ 52) (b % 2 ^ 52) (At r) (plus-fields b h) (fields-mid w (b / 2 ^ 52) (b % 2 ^ 52) (mod-lt b (pow-pos 52)) g k)
+      ap (λ (q : ℕ). Number (q / 2 ^ (1075 - b / 2 ^ 52))) (digits-are b)
+      ∙ of-fields false (b / 2 ^ 52) (b % 2 ^ 52) (Number r) (plus-fields b h) (fields-mid (b / 2 ^ 52) (b % 2 ^ 52) (mod-lt b (pow-pos 52)) g k)

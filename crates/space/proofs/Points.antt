@@ -16,9 +16,10 @@ use Rattle.space.specs.declared.Frame.{Frame}
 use Rattle.space.specs.declared.Located.{Located}
 use Rattle.space.specs.declared.Place.{Place}
 use Rattle.space.specs.declared.Place.the-variants.{At, NotFinite, Below, Above}
+use Rattle.space.specs.declared.Cell.{Cell}
 use Rattle.space.specs.declared.Cell.the-variants.{Number, Outside}
 use Rattle.space.specs.Floats.{nought, isFinite, Floor, noFloor, whole, floor}
-use Rattle.space.specs.Cells.{displacement, quotient, side, pick, wallBy, cellIn, cellOf, cell16, isAt, placeNumber, numberIn, inside, anchors16, code16, codeOr, pointCode, locatedOf}
+use Rattle.space.specs.Cells.{displacement, quotient, side, pick, cellNumber, wallBy, cellIn, cellOf, cell16, isAt, placeNumber, numberIn, inside, anchors16, code16, codeOr, pointCode, locatedOf}
 use Rattle.codes.specs.Anchors.{Bytes2}
 use Rattle.morton.specs.Anchors.{encode}
 use Rattle.space.proofs.Literals.{zero-is}
@@ -44,6 +45,62 @@ pub cell-read : (f : Frame) (xs : List Float) (at a : ℕ) (p : Place) → a < f
     → p ≡ cellOf 65536 (getD xs (at + a) nan) (getD (f .displacement) a nan) (f .side) → p ≡ cell16 f (drop at xs) a
 cell-read f xs at a p h e =
     e ∙ ap (λ x. cellOf 65536 x (getD (f .displacement) a nan) (f .side)) (sym (getD-drop at xs a nan)) ∙ sym (cell-on f (drop at xs) a h)
+
+-- a cell with its wall, and without
+module _ (n : ℕ) (y : Floor) (w : Place) where
+  pub with-number : (k : ℕ) → cellNumber n y ≡ Number k → At k ≡ cellIn n y w
+  with-number k h = go y h
+    where
+      go : (y : Floor) → cellNumber n y ≡ Number k → At k ≡ cellIn n y w
+      go noFloor g = let z : _≡_ {A = ℕ} 0 1 = cc in absurd (omega arith)
+      go (whole (negsuc j)) g = let z : _≡_ {A = ℕ} 0 1 = cc in absurd (omega arith)
+      go (whole (pos j)) g = by (ltb j n) g
+        where
+          by : (t : Bool) → codeOr t j ≡ Number k → At k ≡ pick t (At j) w
+          by true g = let e : j ≡ k = cc in ap At (sym e)
+          by false g = let z : _≡_ {A = ℕ} 0 1 = cc in absurd (omega arith)
+
+  pub with-wall : cellNumber n y ≡ Outside → w ≡ cellIn n y w
+  with-wall h = go y h
+    where
+      go : (y : Floor) → cellNumber n y ≡ Outside → w ≡ cellIn n y w
+      go noFloor g = refl
+      go (whole (negsuc j)) g = refl
+      go (whole (pos j)) g = by (ltb j n) g
+        where
+          by : (t : Bool) → codeOr t j ≡ Outside → w ≡ pick t (At j) w
+          by true g = let z : _≡_ {A = ℕ} 0 1 = cc in absurd (omega arith)
+          by false g = refl
+
+  pub without : numberIn w ≡ Outside → cellNumber n y ≡ numberIn (cellIn n y w)
+  without h = go y
+    where
+      go : (y : Floor) → cellNumber n y ≡ numberIn (cellIn n y w)
+      go noFloor = sym h
+      go (whole (negsuc j)) = sym h
+      go (whole (pos j)) = by (ltb j n)
+        where
+          by : (t : Bool) → codeOr t j ≡ numberIn (pick t (At j) w)
+          by true = refl
+          by false = sym h
+
+no-cell : (x q : Float) → numberIn (wallBy x q) ≡ Outside
+no-cell x q = go (isFinite x) (lt q nought)
+  where
+    go : (s t : Bool) → numberIn (pick s (pick t Below Above) NotFinite) ≡ Outside
+    go true true = refl
+    go true false = refl
+    go false t = refl
+
+pub number-past : (f : Frame) (xs : List Float) (a : ℕ) → f .axes ≤ a → Number 0 ≡ numberIn (cell16 f xs a)
+number-past f xs a h = ap numberIn (cell-past f xs a h)
+
+pub number-read : (f : Frame) (xs : List Float) (at a : ℕ) (p : Cell) → a < f .axes
+    → p ≡ cellNumber 65536 (floor (quotient (getD xs (at + a) nan) (getD (f .displacement) a nan) (f .side))) → p ≡ numberIn (cell16 f (drop at xs) a)
+number-read f xs at a p h e =
+    let x = getD xs (at + a) nan in
+    let q = quotient x (getD (f .displacement) a nan) (f .side) in
+    e ∙ without 65536 (floor q) (wallBy x q) (no-cell x q) ∙ ap numberIn (cell-read f xs at a (cellOf 65536 x (getD (f .displacement) a nan) (f .side)) h refl)
 
 -- a coordinate at a cell, and one at none
 at-number : (p : Place) (k : ℕ) → numberIn p ≡ Number k → p ≡ At k

@@ -42,7 +42,17 @@ pick false p q = q
 abbrev pub wallBy : Float → Float → Place
 wallBy x q = pick (isFinite x) (pick (lt q nought) Below Above) NotFinite
 
--- of n cells in a row, numbered from 0, the one that a floor names; for any other floor the wall
+abbrev pub codeOr : Bool → ℕ → Cell
+codeOr true k = Number k
+codeOr false k = Outside
+
+-- of n cells in a row, numbered from 0, the one that a floor names; any other floor is outside
+abbrev pub cellNumber : ℕ → Floor → Cell
+cellNumber n noFloor = Outside
+cellNumber n (whole (negsuc k)) = Outside
+cellNumber n (whole (pos k)) = codeOr (ltb k n) k
+
+-- the same with the wall
 abbrev pub cellIn : ℕ → Floor → Place → Place
 cellIn n noFloor wall = wall
 cellIn n (whole (negsuc k)) wall = wall
@@ -95,10 +105,6 @@ pointAnchors f xs level = map (λ k. k / 2 ^ (16 - level)) (anchors16 f xs)
 unfoldable pub code16 : Frame → List Float → ℕ
 unfolding anchors16 encode
 code16 f xs = encode (f .axes) (f .axes) 16 (anchors16 f xs)
-
-abbrev pub codeOr : Bool → ℕ → Cell
-codeOr true k = Number k
-codeOr false k = Outside
 
 abbrev pub pointCode : Frame → List Float → Cell
 pointCode f xs = codeOr (inside f xs) (code16 f xs)

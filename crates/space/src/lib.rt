@@ -6,7 +6,7 @@ ghost use mathlib.Core.Path.{_≡_};
 ghost use Prim.Native.Nat.{_+_, _/_, _≤_, _<_};
 ghost use lib.ListN.{length, drop};
 ghost use Rattle.space.specs.Floats.{sizeOf, isFinite, floor};
-ghost use Rattle.space.specs.Cells.{displacement as displacementOf, wallBy, cellIn, side, frameOf, cell16, numberIn, pointCode, locatedOf};
+ghost use Rattle.space.specs.Cells.{displacement as displacementOf, cellNumber, wallBy, cellIn, side, frameOf, cell16, numberIn, pointCode, locatedOf};
 ghost use Rattle.space.specs.Walls.{reasonOf, firstWall};
 ghost use Rattle.space.specs.Rows.{firstOutside, coded};
 ghost use Rattle.space.specs.Domain.{radiusKnown, centresKnown, boxOutcome, levelOutcome};
@@ -105,32 +105,50 @@ fn wall_by(x: f64, q: f64) -> Place
     Place::Above
 }
 
-// The cell among 65536 of a coordinate, from its quotient's bits: the floor, where that is one of 0..65535; or the wall.
-fn cell_of(x: f64, q: f64) -> Place
-    ensures { λ r. ⌜ r ≡ cellIn 65536 (floor q) (wallBy x q) ⌝ }
+// The number of a coordinate's cell on its axis, or of a point's cell, which is its code; or outside. Most points are inside, and
+// their way asks no more; `wall_of` looks again at the one that is refused.
+pub enum Cell {
+    Number(u64),
+    Outside,
+}
+
+// The cell of a quotient among 65536, from its bits: its floor, where that is one of 0..65535.
+fn number_of(q: f64) -> Cell
+    ensures { λ r. ⌜ r ≡ cellNumber 65536 (floor q) ⌝ }
 {
     if q != q {
-        return wall_by(x, q);
+        return Cell::Outside;
     }
     let bits: u64 = f64::to_bits(q);
     if bits >= 0x8000_0000_0000_0000 {
         // a negative number, but for -0.0
         if bits == 0x8000_0000_0000_0000 {
-            return Place::At(0);
+            return Cell::Number(0);
         }
-        return wall_by(x, q);
+        return Cell::Outside;
     }
     // from 1.0 on q is `digits` * 2 ^ (`exponent` - 1075)
     let exponent: u64 = bits >> 52;
     if exponent < 1023 {
-        return Place::At(0);
+        return Cell::Number(0);
     }
     // 65536.0 and more, and the infinity
     if exponent >= 1039 {
-        return wall_by(x, q);
+        return Cell::Outside;
     }
     let digits: u64 = (bits & 0xf_ffff_ffff_ffff) | 0x10_0000_0000_0000;
-    Place::At(digits >> (1075 - exponent))
+    Cell::Number(digits >> (1075 - exponent))
+}
+
+// The anchor leaf: the cell of a coordinate with this quotient, or the wall that it is behind.
+fn cell_of(x: f64, q: f64) -> Place
+    ensures { λ r. ⌜ r ≡ cellIn 65536 (floor q) (wallBy x q) ⌝ }
+{
+    let cell = number_of(q);
+    match cell {
+        Cell::Number(k) => Place::At(k),
+        Cell::Outside => wall_by(x, q),
+    }
 }
 
 // The side of a cell at a level.
@@ -181,24 +199,15 @@ fn place_on(f: Frame, points: &[f64], at: usize, a: usize) -> Place
     cell_of(x, (x - f.displacement[a]) / f.side)
 }
 
-// The number of a coordinate's cell on its axis, or of a point's cell, which is its code; or outside, which is all that the way of
-// most points needs to know. `wall_of` looks a second time.
-pub enum Cell {
-    Number(u64),
-    Outside,
-}
-
+// The same, without the wall.
 fn cell_on(f: Frame, points: &[f64], at: usize, a: usize) -> Cell
     requires { ⌜ (a < 3) × (at + f .axes ≤ length (now points)) ⌝ }
     ensures { λ r. ⌜ r ≡ numberIn (cell16 f (drop at (now (points .entry))) a) ⌝ }
 {
-    let place = place_on(f, points, at, a);
-    match place {
-        Place::At(k) => Cell::Number(k),
-        Place::NotFinite => Cell::Outside,
-        Place::Below => Cell::Outside,
-        Place::Above => Cell::Outside,
+    if a >= f.axes {
+        return Cell::Number(0);
     }
+    number_of((points[at + a] - f.displacement[a]) / f.side)
 }
 
 // Whether a point is inside, and its level-16 anchors if it is.

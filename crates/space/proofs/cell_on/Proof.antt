@@ -1,37 +1,35 @@
 -- `space::cell_on` meets its contract.
-use mathlib.Core.Path.{sym, ap, _∙_}
+use Rattle.space.proofs.Points.{number-past, number-read}
+use lib.ListN.{drop}
+use denote.Ref.{now}
 use borrow.Author.Needs.{needs}
-use Rattle.space.specs.Cells.{numberIn}
 use Rattle.space.proofs.cell_on.Statement.{statement}
 use Rattle.space.proofs.cell_on.Tie as tie
 
-place-on-requires : tie.Need-place-on-requires
-place-on-requires c κs = search needs
-
-enum-known-place : tie.Need-enum-known-place
-enum-known-place c = search needs
-
-enum-told : tie.Need-enum-told
-enum-told c = search needs
-
-enum-told-2 : tie.Need-enum-told-2
-enum-told-2 c = search needs
-
-enum-told-3 : tie.Need-enum-told-3
-enum-told-3 c = search needs
-
 returns : tie.Need-returns
-returns c = sym (ap numberIn (sym (c .before .before .before .place-on .ensures) ∙ c .before .place .given .1))
+returns c = number-past (c .before .before .args .t1) (drop (c .before .before .args .at) (now (c .before .before .args .points))) (c .before .before .args .a) (c .if1 .taken)
+
+add-number-of : tie.Need-add-number-of
+add-number-of c = search needs
+
+mul-number-of : tie.Need-mul-number-of
+mul-number-of c = search needs
+
+shared-slice-read-number-of : tie.Need-shared-slice-read-number-of
+shared-slice-read-number-of c = search needs
+
+mul-number-of-2 : tie.Need-mul-number-of-2
+mul-number-of-2 c = search needs
+
+element-copy-out-number-of : tie.Need-element-copy-out-number-of
+element-copy-out-number-of c = search needs
+
+number-of-requires : tie.Need-number-of-requires
+number-of-requires c κs = search needs
 
 returns-2 : tie.Need-returns-2
-returns-2 c = sym (ap numberIn (sym (c .before .before .place-on .ensures) ∙ c .enum-told .given .1))
-
-returns-3 : tie.Need-returns-3
-returns-3 c = sym (ap numberIn (sym (c .before .before .place-on .ensures) ∙ c .enum-told2 .given .1))
-
-returns-4 : tie.Need-returns-4
-returns-4 c = sym (ap numberIn (sym (c .before .before .place-on .ensures) ∙ c .enum-told3 .given .1))
+returns-2 c = number-read (c .before .before .before .before .before .args .t1) (now (c .before .before .before .before .before .args .points)) (c .before .before .before .before .before .args .at) (c .before .before .before .before .before .args .a) (c .number-of .result) (c .before .before .before .if1 .left) (c .number-of .ensures)
 
 pub cell-on-spec : {M : Type 1} → statement M
 cell-on-spec =
-    tie.close (tie.spec place-on-requires enum-known-place enum-told enum-told-2 enum-told-3 returns returns-2 returns-3 returns-4)
+    tie.close (tie.spec returns add-number-of mul-number-of shared-slice-read-number-of mul-number-of-2 element-copy-out-number-of number-of-requires returns-2)
