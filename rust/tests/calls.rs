@@ -1,7 +1,7 @@
 //! The crate as a caller sees it: the example from points to lists, refusals with number and value, what a refusal leaves in
 //! a lent slice, and, on scattered points in 1 to 3 axes, that each leaf meets each source exactly once.
 
-use lohandema::{Asked, Bounds, Columns, Lists, Refusal, Tree, keys, lent};
+use lohandema::{Asked, Bounds, Columns, Lists, Reason, Refusal, Tree, keys, lent};
 use std::collections::HashMap;
 
 fn example() -> Tree {
@@ -65,7 +65,8 @@ fn a_refusal_is_an_error_with_number_and_value() {
     let tree = example();
     let sources = [0.5, f64::NAN, 9.0];
     let outside = Tree::build(Asked::new(&tree.bounds, &sources, 1));
-    assert_eq!(outside, Err(Refusal::new(Refusal::SOURCE, 1)));
+    let nan = Refusal::new(Refusal::SOURCE, 1).behind(0, Reason::NotFinite);
+    assert_eq!(outside, Err(nan));
     let lookup = tree.points_to_keys(&[0.5, 3.0, 8.5]);
     assert_eq!(lookup, Err(Refusal::new(Refusal::UNSTORED, 1)));
     let group = tree.get_points_to_leaves_map(&[3, 1]);
