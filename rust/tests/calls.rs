@@ -65,7 +65,8 @@ fn a_refusal_is_an_error_with_number_and_value() {
     let tree = example();
     let sources = [0.5, f64::NAN, 9.0];
     let outside = Tree::build(Asked::new(&tree.bounds, &sources, 1));
-    assert_eq!(outside, Err(Refusal::new(Refusal::SOURCE, 1).behind(0, Reason::NotFinite)));
+    let nan = Refusal::new(Refusal::SOURCE, 1).behind(0, Reason::NotFinite);
+    assert_eq!(outside, Err(nan));
     let lookup = tree.points_to_keys(&[0.5, 3.0, 8.5]);
     assert_eq!(lookup, Err(Refusal::new(Refusal::UNSTORED, 1)));
     let group = tree.get_points_to_leaves_map(&[3, 1]);
