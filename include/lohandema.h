@@ -21,8 +21,8 @@
  * (-ffast-math at the link may set subnormal numbers to 0 in the whole program; do not use it.) size_t has 64 bits.
  *
  * Stack that a call uses, beside what the caller needs itself. A thread with less dies at its guard page. These are figures
- * of the compiled code, measured on Arm (c/stack.c; docs/BENCHMARKS.md, "Stack", says what is known of x86-64) and rounded up
- * well; they are not promises. pthread_attr_setstacksize takes no less than PTHREAD_STACK_MIN, which is 131,072 bytes on some
+ * of the compiled code, measured on x86-64 and on Arm (c/stack.c; docs/BENCHMARKS.md, "Stack") and rounded up well; they are
+ * not promises. pthread_attr_setstacksize takes no less than PTHREAD_STACK_MIN, which is 131,072 bytes on some
  * systems, and fails below it: pass the larger of the two.
  *   points_to_keys, get_interaction_lists, get_near_work                                    128 KiB
  *   build_tree, get_sourced_cells                                                            32 KiB
