@@ -5,7 +5,7 @@ mod clock;
 #[path = "../../bench/src/shapes.rs"]
 mod shapes;
 
-use clock::least;
+use clock::least_of_two;
 use lohandema::{Asked, Lists, Tree, lent};
 
 const LIMIT: usize = 64;
@@ -50,7 +50,7 @@ fn near_exactly(tree: &Tree, lists: &Lists) -> u64 {
     lent::get_near_work(tree.columns(), &mut starts, &mut keys).expect("room")
 }
 
-fn tell(call: &str, guessed: f64, exact: f64) {
+fn tell(call: &str, [guessed, exact]: [f64; 2]) {
     let ratio = guessed / exact;
     println!("  {call}: {guessed:.1} ms, with exact room {exact:.1} ms: {ratio:.3}");
 }
@@ -63,15 +63,21 @@ fn measure(name: &str, asked: Asked) {
     let a_node = |keys: usize| keys as f64 / nodes as f64;
     let (u, v) = (a_node(lists.u.keys.len()), a_node(lists.v.keys.len()));
     println!("{name}: {nodes} nodes, a node {u:.1} U keys and {v:.1} V keys");
-    let guessed = least(5, || Tree::build(asked));
-    tell("build", guessed, least(5, || build_exactly(asked, &tree)));
-    let guessed = least(5, || tree.get_interaction_lists());
-    tell("lists", guessed, least(5, || lists_exactly(&tree, &lists)));
-    let guessed = least(5, || tree.get_near_work());
+    tell(
+        "build",
+        least_of_two(5, || Tree::build(asked), || build_exactly(asked, &tree)),
+    );
+    tell(
+        "lists",
+        least_of_two(
+            5,
+            || tree.get_interaction_lists(),
+            || lists_exactly(&tree, &lists),
+        ),
+    );
     tell(
         "near work",
-        guessed,
-        least(5, || near_exactly(&tree, &lists)),
+        least_of_two(5, || tree.get_near_work(), || near_exactly(&tree, &lists)),
     );
 }
 
