@@ -42,8 +42,10 @@ static void stop_if_refused(lohandema_ended ended)
     fprintf(stderr, "example: refused %" PRIu32 " %s, value %zu", ended.number, lohandema_refusal_name(ended.number),
             ended.value);
     if (ended.reason != 0)
-        fprintf(stderr, ", axis %d, %s", ended.axis, lohandema_reason_name(ended.reason));
-    fprintf(stderr, ": %s\n", lohandema_refusal_sentence(ended.number));
+        fprintf(stderr, ": the point %s on axis %d; %s\n", lohandema_reason_name(ended.reason), ended.axis,
+                lohandema_reason_cure(ended.reason));
+    else
+        fprintf(stderr, ": %s\n", lohandema_refusal_sentence(ended.number));
     exit(1);
 }
 

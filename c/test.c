@@ -71,7 +71,8 @@ void test_names(void)
     EXPECT(strstr(lohandema_refusal_sentence(LOHANDEMA_TREE), "well-formed") != NULL);
     EXPECT(strstr(lohandema_refusal_sentence(LOHANDEMA_SOURCE), "or is not a finite number") != NULL);
     EXPECT(strcmp(lohandema_reason_name(LOHANDEMA_BELOW), "lies below the box") == 0);
-    EXPECT(strcmp(lohandema_reason_name(0), "") == 0 && strcmp(lohandema_reason_name(4), "") == 0);
+    EXPECT(strcmp(lohandema_reason_name(0), "") == 0 && strcmp(lohandema_reason_name(65537), "") == 0);
+    EXPECT(strcmp(lohandema_reason_cure(LOHANDEMA_NOT_FINITE), "mend or remove it") == 0);
     EXPECT(sizeof(lohandema_ended) == 16);
     EXPECT(strstr(lohandema_refusal_sentence(LOHANDEMA_POINT), "target or looked-up point") != NULL);
     EXPECT(strstr(lohandema_refusal_sentence(LOHANDEMA_POINT), "or is not a finite number") != NULL);

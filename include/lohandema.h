@@ -3,8 +3,8 @@
  * with their cures; c/example.c is a whole use.
  *
  * Every call
- * - takes every argument value. Where it cannot answer it refuses: it returns a number and a value, each number that it would
- *   have answered is 0 (false), and each slice and array that was lent to it for writing is 0 throughout.
+ * - takes every argument value. Where it cannot answer it refuses: it returns a number, a value and, of a point outside the
+ *   box, which wall it is behind; each number that it would have answered is 0 (false), and each slice and array that was lent to it for writing is 0 throughout.
  * - leaves 0 in the unused rest of a lent slice after success, and in all of `work`.
  * - checks in a fixed order, and the first check that fails refuses. A call's comment lists its refusals in that order.
  *
@@ -158,10 +158,18 @@ static inline const char *lohandema_refusal_sentence(uint64_t number)
 }
 
 /* What the reason of 6 and 7 says of a point; empty for other numbers. Never NULL. */
-static inline const char *lohandema_reason_name(uint16_t reason)
+static inline const char *lohandema_reason_name(uint64_t reason)
 {
     static const char *const reasons[4] = {"", "is not a finite number", "lies below the box", "lies above the box"};
     return reason < 4 ? reasons[reason] : "";
+}
+
+/* The cure of 6 and 7 by their reason; empty for other numbers. Never NULL. */
+static inline const char *lohandema_reason_cure(uint64_t reason)
+{
+    static const char *const cures[4] = {"", "mend or remove it", "enlarge the box, or mend or remove it",
+                                         "enlarge the box, or mend or remove it"};
+    return reason < 4 ? cures[reason] : "";
 }
 
 /* Which slice the value of 8 ROOM names; "unknown" for other values. Never NULL. */

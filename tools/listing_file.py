@@ -183,8 +183,9 @@ def check_survey(survey, survey_name):
     for number, source in enumerate(survey.sources):
         wall = house.wall_of(survey.centre, survey.radius, source)
         if wall:
-            cure = "mend that reading or take it out" if "finite" in wall else "make the file anew with a larger box"
-            raise NoTree("%s: source %d %s; %s" % (survey_name, number, wall, cure))
+            larger = "" if "finite" in wall[1] else "make the file anew with a larger box, or "
+            raise NoTree("%s: source %d, counted from 0, %s on axis %d, counted from 0; %smend that reading or take it out"
+                         % (survey_name, number, wall[1], wall[0], larger))
 
 
 def check_sources(path, listing, survey_name):

@@ -139,12 +139,13 @@ def axis_anchor(centre, radius, coordinate):
 
 
 def wall_of(centre, radius, point):
-    """The first axis on which a point is outside the box, and what it is there, as the listing program judges it."""
-    for axis, (c, x) in enumerate(zip(centre, point)):
-        if axis_anchor(c, radius, x) is None:
-            if not math.isfinite(x):
-                return "is not a finite number on axis %d" % axis
-            return "lies %s the box on axis %d" % ("below" if x < c else "above", axis)
+    """The first axis on which a point is outside the box, and what it is there, as the listing program judges it; or
+    None. Without a box only what is not finite is outside."""
+    for axis, x in enumerate(point):
+        if not math.isfinite(x):
+            return axis, "is not a finite number"
+        if centre and axis_anchor(centre[axis], radius, x) is None:
+            return axis, "lies %s the box" % ("below" if x < centre[axis] else "above")
     return None
 
 

@@ -51,7 +51,7 @@ pub struct Wall {
 /// assert_eq!(refusal.wall, Some(Wall { axis: 0, reason: Reason::Above }));
 /// assert_eq!(
 ///     refusal.to_string(),
-///     "source 1 lies above the box on axis 0: enlarge the box or remove the source (refused 6 SOURCE)"
+///     "source 1 lies above the box on axis 0: enlarge the box, or mend or remove the source (refused 6 SOURCE)"
 /// );
 /// ```
 #[derive(Clone, Copy, Debug, PartialEq, Eq, Hash)]
@@ -233,14 +233,14 @@ impl fmt::Display for Refusal {
             Refusal::SOURCE => {
                 let cures = [
                     "mend or remove the source",
-                    "enlarge the box or remove the source",
+                    "enlarge the box, or mend or remove the source",
                 ];
                 self.write_outside(f, "source", cures)
             }
             Refusal::POINT => {
                 let cures = [
                     "mend or remove the point",
-                    "enlarge the box or remove the point",
+                    "enlarge the box, or mend or remove the point",
                 ];
                 self.write_outside(f, "target or looked-up point", cures)
             }

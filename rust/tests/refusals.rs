@@ -53,7 +53,7 @@ fn an_index_is_told() {
         assert!(sentence(Refusal::new(number, 17)).0.contains(" 17"));
     }
     let text = Refusal::new(Refusal::SOURCE, 17).to_string();
-    let right = "source 17 lies outside the box or is not a finite number: enlarge the box or remove the source (refused 6 SOURCE)";
+    let right = "source 17 lies outside the box or is not a finite number: enlarge the box, or mend or remove the source (refused 6 SOURCE)";
     assert_eq!(text, right);
 }
 
@@ -61,10 +61,10 @@ fn an_index_is_told() {
 #[test]
 fn a_wall_is_told_in_words() {
     let source = Refusal::new(Refusal::SOURCE, 17);
-    let right = "source 17 lies below the box on axis 1: enlarge the box or remove the source (refused 6 SOURCE)";
+    let right = "source 17 lies below the box on axis 1: enlarge the box, or mend or remove the source (refused 6 SOURCE)";
     assert_eq!(source.behind(1, Reason::Below).to_string(), right);
     let point = Refusal::new(Refusal::POINT, 0);
-    let right = "target or looked-up point 0 lies above the box on axis 2: enlarge the box or remove the point (refused 7 POINT)";
+    let right = "target or looked-up point 0 lies above the box on axis 2: enlarge the box, or mend or remove the point (refused 7 POINT)";
     assert_eq!(point.behind(2, Reason::Above).to_string(), right);
     let right =
         "source 17 is not a finite number on axis 0: mend or remove the source (refused 6 SOURCE)";

@@ -245,8 +245,8 @@ class Draw(ToolTest):
         """A survey that the program refuses: which wall, from its own listing and with the listing of another."""
         walls = {
             "nan": ("6 1 0 1", "is not a finite number on axis 0", "mend that reading or take it out"),
-            "-1.0": ("6 1 0 2", "lies below the box on axis 0", "make the file anew with a larger box"),
-            "8.0": ("6 1 0 3", "lies above the box on axis 0", "make the file anew with a larger box"),
+            "-1.0": ("6 1 0 2", "lies below the box on axis 0", "make the file anew with a larger box, or mend that reading"),
+            "8.0": ("6 1 0 3", "lies above the box on axis 0", "make the file anew with a larger box, or mend that reading"),
         }
         for coordinate, (refusal, wall, cure) in walls.items():
             self.write("s.csv", "x\n0.5\n%s\n6.5\n7.5\n" % coordinate)
@@ -254,14 +254,15 @@ class Draw(ToolTest):
             self.write("in", "refused %s\n" % refusal)
             self.refused("in: no tree to draw, since the program refused s.survey (refused %s): source 1, counted from 0, %s"
                          % (refusal, wall), "draw", "s.survey", "in", "-o", "out")
-            self.refused("s.survey: source 1 %s; %s" % (wall, cure), "draw", "s.survey", "example.listing", "-o", "out")
+            self.refused("s.survey: source 1, counted from 0, %s, counted from 0; %s" % (wall, cure), "draw", "s.survey", "example.listing", "-o", "out")
 
     def test_bad_choice(self):
         bad = {
             "--leaf 9": "--leaf 9: example.listing has no such node",
             "--leaf 3": "--leaf 3: node 3 of example.listing is no leaf",
             "--key 5": "--key 5: example.listing has no such node",
-            "--at=8": "--at=8.0: outside the box of example.survey",
+            "--at=8": "--at=8.0: lies above the box on axis 0, counted from 0, by the box of example.survey",
+            "--at=nan": "--at=nan: is not a finite number on axis 0",
             "--at=4": "--at=4.0: no leaf of example.listing holds it",
             "--at=1,2": "--at=1.0,2.0: example.survey has 1 axes",
             "--slice z=1": "--slice: example.survey has 1 axes, not 3",

@@ -213,7 +213,7 @@ class MakeSurvey(ToolTest):
             "x\ty\n3\t4\n": "s.csv: line 1: tabs part the columns; save the file with commas",
             "1 2\n3 4\n": "s.csv: line 1: column 1: '1 2' is not a number",
             "NaN,NaN\n1,2\n": "s.csv: line 1: column 1: 'NaN' is not a number",
-            "1,2\n2,1e999\n": "s.csv: line 2: a number that is not finite",
+            "1,2\n2,1e999\n": "s.csv: line 2: 2.0,inf is not a finite number on axis 1, counted from 0, which is column 2; mend the line",
             "1,2\n1_0,2\n": "s.csv: line 2: column 1: '1_0' is not a number",
             "1,2\n# a note\n3,\n": "s.csv: line 3: column 2: '' is not a number",
             b"1,2\n\xff\n": "s.csv: line 2: not UTF-8 text",
@@ -230,7 +230,8 @@ class MakeSurvey(ToolTest):
         self.write("t.csv", "4\n-1e-300\n")
         self.write("wide.csv", "1,2\n")
         box = ["--centre=4", "--radius=4", "-o", "out"]
-        self.refused("s.csv: line 5: 8.0 lies above the box on axis 0, centre 4.0, radius 4.0; mend the line or give a larger box", "make-survey", "s.csv", *box)
+        self.refused("s.csv: line 5: 8.0 lies above the box on axis 0, counted from 0, which is x (column 1); the box has centre 4.0, radius 4.0: "
+                     "mend the line or take it out, or give a larger box", "make-survey", "s.csv", *box)
         self.refused("t.csv: line 2: -1e-300 lies below the box on axis 0", "make-survey", "t.csv", *box)
         self.refused("wide.csv: 2 axes, but t.csv has 1", "make-survey", "t.csv", "wide.csv", *box)
         self.refused("--order 65 is not from 1 to 64", "make-survey", "s.csv", "-o", "out", "--order", "65")

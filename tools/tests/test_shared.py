@@ -28,7 +28,7 @@ class Shared(unittest.TestCase):
             "include/lohandema.h": ["enlarge the box, or mend or remove the source", "target or looked-up point lies outside the box or "
                                     "is not a finite number", "is not a finite number", "lies below the box",
                                     "lies above the box", "where the most was lent, raise the limit"],
-            "rust/src/refusal.rs": ["enlarge the box or remove the source", "enlarge the box or remove the point",
+            "rust/src/refusal.rs": ["enlarge the box, or mend or remove the source", "enlarge the box, or mend or remove the point",
                                     "mend or remove the source", "mend or remove the point",
                                     "is not a finite number on axis", "lies below the box on axis", "lies above the box on axis",
                                     "where the most was lent, raise the limit"],
