@@ -84,12 +84,11 @@ fn measure(name: &str, asked: Asked) {
 fn main() {
     let word = std::env::args().nth(1);
     let points = word.map_or(1_000_000, |word| word.parse().expect("a number of points"));
-    let bounds = shapes::bounds();
     for shape in shapes::SHAPES {
         let sources = shapes::points(shape, points);
-        let asked = Asked::new(bounds, &sources, LIMIT);
+        let asked = shapes::asked(&sources, LIMIT, false);
         measure(&format!("{shape}, {points} points"), asked);
-        let kept = asked.keeping_empty();
+        let kept = shapes::asked(&sources, LIMIT, true);
         measure(&format!("{shape}, {points} points, empty cells kept"), kept);
     }
 }
