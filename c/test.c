@@ -61,14 +61,22 @@ void test_names(void)
     EXPECT(strcmp(lohandema_refusal_name(LOHANDEMA_DIMS), "DIMS") == 0);
     EXPECT(strcmp(lohandema_refusal_name(LOHANDEMA_ROOM), "ROOM") == 0);
     EXPECT(strcmp(lohandema_refusal_name(LOHANDEMA_FILE), "FILE") == 0);
-    EXPECT(strcmp(lohandema_refusal_name(16), "UNKNOWN") == 0);
+    EXPECT(strcmp(lohandema_refusal_name(LOHANDEMA_GRID), "GRID") == 0);
+    EXPECT(strcmp(lohandema_refusal_name(LOHANDEMA_SECTION), "SECTION") == 0);
+    EXPECT(strcmp(lohandema_refusal_name(LOHANDEMA_NOTBUILT), "NOTBUILT") == 0);
+    EXPECT(strcmp(lohandema_refusal_name(LOHANDEMA_PARTIAL), "PARTIAL") == 0);
+    EXPECT(strcmp(lohandema_refusal_name(LOHANDEMA_READING), "READING") == 0);
+    EXPECT(strcmp(lohandema_refusal_name(21), "UNKNOWN") == 0);
     EXPECT(strcmp(lohandema_refusal_name(UINT64_MAX), "UNKNOWN") == 0);
     EXPECT(strcmp(lohandema_room_name(LOHANDEMA_ROOM_WORK), "work") == 0);
     EXPECT(strcmp(lohandema_room_name(LOHANDEMA_ROOM_CELLS), "sourced cells") == 0);
     EXPECT(strcmp(lohandema_room_name(10), "unknown") == 0 && strcmp(lohandema_room_name(0), "unknown") == 0);
-    for (uint64_t number = 0; number < 18; number++)
+    for (uint64_t number = 0; number < 23; number++)
         EXPECT(strlen(lohandema_refusal_sentence(number)) > 20);
     EXPECT(strstr(lohandema_refusal_sentence(LOHANDEMA_TREE), "well-formed") != NULL);
+    EXPECT(strstr(lohandema_refusal_sentence(LOHANDEMA_GRID), "the grid") != NULL);
+    EXPECT(strstr(lohandema_refusal_sentence(LOHANDEMA_READING), "a reading") != NULL);
+    EXPECT(strstr(lohandema_refusal_sentence(21), "knows no refusal") != NULL);
     EXPECT(strstr(lohandema_refusal_sentence(LOHANDEMA_SOURCE), "or is not a finite number") != NULL);
     EXPECT(strcmp(lohandema_reason_name(LOHANDEMA_BELOW), "lies below the box") == 0);
     EXPECT(strcmp(lohandema_reason_name(0), "") == 0 && strcmp(lohandema_reason_name(65537), "") == 0);

@@ -72,8 +72,8 @@ extern "C" {
 #define LOHANDEMA_STACK 131072
 
 /* How a call ended: 0 throughout, or the number and values of a refusal.
- * The value of 6, 7, 12 and 14 is the lowest index that fails (0 where the call takes a single point), counted in points and
- * not in coordinates; that of 8 says which lent slice is short (enum below); that of every other number is 0.
+ * The value of 6, 7, 12, 14 and 20 is the lowest index that fails (0 where the call takes a single point), counted in points
+ * and not in coordinates; that of 8 says which lent slice is short (enum below); that of every other number is 0.
  * The axis and the reason are those of 6 and 7: the first axis, from 0, on which that point is outside the box, and why (enum
  * below). With every other number both are 0. */
 typedef struct {
@@ -83,7 +83,8 @@ typedef struct {
     size_t value;
 } lohandema_ended;
 
-/* The numbers. 15 is for the listing program, which reads files; no call of this header refuses it. */
+/* The numbers. No call of this header refuses 15, 17 or 19: 15 is for the listing program, which reads files, 17 is kept for
+ * tree files and 19 for balanced trees. */
 enum {
     LOHANDEMA_DONE = 0,
     LOHANDEMA_DIMS = 1,
@@ -100,7 +101,12 @@ enum {
     LOHANDEMA_UNSTORED = 12,
     LOHANDEMA_TREE = 13,
     LOHANDEMA_NOTLEAF = 14,
-    LOHANDEMA_FILE = 15
+    LOHANDEMA_FILE = 15,
+    LOHANDEMA_GRID = 16,
+    LOHANDEMA_SECTION = 17,
+    LOHANDEMA_NOTBUILT = 18,
+    LOHANDEMA_PARTIAL = 19,
+    LOHANDEMA_READING = 20
 };
 
 /* The reasons of 6 and 7, asked in this order on each axis. The first is of the coordinate itself, NaN or infinite. */
@@ -123,18 +129,19 @@ enum {
     LOHANDEMA_ROOM_CELLS = 9
 };
 
-/* The name of a number: "DONE" for 0, "DIMS" and so on for 1 to 15, "UNKNOWN" for any other. Never NULL. */
+/* The name of a number: "DONE" for 0, "DIMS" and so on for 1 to 20, "UNKNOWN" for any other. Never NULL. */
 static inline const char *lohandema_refusal_name(uint64_t number)
 {
-    static const char *const names[16] = {"DONE",  "DIMS", "BOX",  "SHAPE", "COUNT",    "ORDER", "SOURCE",  "POINT",
-                                          "ROOM",  "KEY",  "ROOT", "DEEP",  "UNSTORED", "TREE",  "NOTLEAF", "FILE"};
-    return number < 16 ? names[number] : "UNKNOWN";
+    static const char *const names[21] = {"DONE",    "DIMS", "BOX",  "SHAPE",   "COUNT",    "ORDER",    "SOURCE",
+                                          "POINT",   "ROOM", "KEY",  "ROOT",    "DEEP",     "UNSTORED", "TREE",
+                                          "NOTLEAF", "FILE", "GRID", "SECTION", "NOTBUILT", "PARTIAL",  "READING"};
+    return number < 21 ? names[number] : "UNKNOWN";
 }
 
 /* What a number says, and its cure, in a sentence for people. Never NULL. */
 static inline const char *lohandema_refusal_sentence(uint64_t number)
 {
-    static const char *const sentences[16] = {
+    static const char *const sentences[21] = {
         "the call was not refused",
         "the number of axes is not 1, 2 or 3 (or the extents are not 2, 4 or 6 numbers): pass 1 to 3 axes",
         "the box is outside its domain: give a radius from 0.25 to 1048576 and centre coordinates of at most 16777216 in size",
@@ -153,8 +160,16 @@ static inline const char *lohandema_refusal_sentence(uint64_t number)
         "the columns are not a well-formed tree: pass all four (key, own, begin and total) as the build of this version wrote "
         "them, each cut to its number of nodes",
         "a key to group is not the key of a leaf, and the value is its index: pass keys that the lookup in this tree answered",
-        "the survey file breaks its rules: write it anew as docs/RULES.md says"};
-    return number < 16 ? sentences[number] : "this version knows no refusal with this number";
+        "the survey file breaks its rules: write it anew as docs/RULES.md says",
+        "the grid has a shape of 0, an origin or a spacing that is not finite, or a spacing that is not above 0: pass for each "
+        "axis a shape of 1 or more, a finite origin and a finite spacing above 0",
+        "the tree file breaks its rules, or holds an order or lists that are not its tree's (kept for the calls on tree "
+        "files): write it anew from what the build and the list call wrote",
+        "the tree, its order or its lists are not those that the points give: pass them as the build and the list call wrote "
+        "them, with the points and the box of that build",
+        "a cell that is split lacks a child (kept for the call that balances a tree): build with keep_empty",
+        "a reading is over 1099511627776 in size, and the value is its index: mend it, or pass all readings in a larger unit"};
+    return number < 21 ? sentences[number] : "this version knows no refusal with this number";
 }
 
 /* What the reason of 6 and 7 says of a point; empty for other numbers. Never NULL. */

@@ -65,9 +65,9 @@ pub struct Refusal {
     pub wall: Option<Wall>,
 }
 
-const NAMES: [&str; 16] = [
+const NAMES: [&str; 21] = [
     "", "DIMS", "BOX", "SHAPE", "COUNT", "ORDER", "SOURCE", "POINT", "ROOM", "KEY", "ROOT", "DEEP",
-    "UNSTORED", "TREE", "NOTLEAF", "FILE",
+    "UNSTORED", "TREE", "NOTLEAF", "FILE", "GRID", "SECTION", "NOTBUILT", "PARTIAL", "READING",
 ];
 
 impl Refusal {
@@ -103,6 +103,16 @@ impl Refusal {
     pub const NOTLEAF: u64 = 14;
     /// A survey file breaks its rules. No call of this crate reads one.
     pub const FILE: u64 = 15;
+    /// A grid of targets has a shape of 0, an origin or a spacing that is not finite, or a spacing that is not above 0.
+    pub const GRID: u64 = 16;
+    /// A tree file breaks its rules. Kept for tree files: no call of this crate reads or writes one.
+    pub const SECTION: u64 = 17;
+    /// The tree, its order or its lists are not those that the points give.
+    pub const NOTBUILT: u64 = 18;
+    /// A cell that is split lacks a child. Kept for balanced trees: no call of this crate makes one.
+    pub const PARTIAL: u64 = 19;
+    /// A reading is over 1,099,511,627,776 in size; the value is the lowest index of such.
+    pub const READING: u64 = 20;
 
     /// The refusal with this number and value, and no wall.
     #[must_use]
@@ -187,6 +197,18 @@ impl Refusal {
                 "the columns are not a well-formed tree: hand in all four (key, own, begin and total) as a build of this version wrote them, each cut to its number of nodes"
             }
             Refusal::FILE => "the survey file breaks its rules: write the file anew",
+            Refusal::GRID => {
+                "the grid has a shape of 0, an origin or a spacing that is not finite, or a spacing that is not above 0: give each axis a shape of 1 or more, a finite origin and a finite spacing above 0"
+            }
+            Refusal::SECTION => {
+                "the tree file breaks its rules, or holds an order or lists that are not its tree's: write the file anew from what the build and the list call answered"
+            }
+            Refusal::NOTBUILT => {
+                "the tree, its order or its lists are not those that the points give: hand them in as the build and the list call answered them, with the points and the box of that build"
+            }
+            Refusal::PARTIAL => {
+                "a cell that is split lacks a child: build the tree with empty cells kept"
+            }
             _ => "the call was refused: docs/REFUSALS.md says why",
         }
     }
@@ -251,6 +273,10 @@ impl fmt::Display for Refusal {
             Refusal::NOTLEAF => write!(
                 f,
                 "key {value} of those to group is no leaf of the tree: hand in keys that a lookup in this tree answers"
+            ),
+            Refusal::READING => write!(
+                f,
+                "reading {value} is over 1099511627776 in size: mend it, or give all readings in a larger unit"
             ),
             _ => f.write_str(self.sentence()),
         }?;

@@ -2,7 +2,7 @@
 
 use lohandema::{Asked, Bounds, Reason, Refusal, Tree, Wall};
 
-const NAMED: [(u64, &str); 15] = [
+const NAMED: [(u64, &str); 20] = [
     (Refusal::DIMS, "DIMS"),
     (Refusal::BOX, "BOX"),
     (Refusal::SHAPE, "SHAPE"),
@@ -18,6 +18,11 @@ const NAMED: [(u64, &str); 15] = [
     (Refusal::TREE, "TREE"),
     (Refusal::NOTLEAF, "NOTLEAF"),
     (Refusal::FILE, "FILE"),
+    (Refusal::GRID, "GRID"),
+    (Refusal::SECTION, "SECTION"),
+    (Refusal::NOTBUILT, "NOTBUILT"),
+    (Refusal::PARTIAL, "PARTIAL"),
+    (Refusal::READING, "READING"),
 ];
 
 /// What stands before the number, as cause and cure.
@@ -39,7 +44,7 @@ fn each_number_has_a_name_and_a_sentence_of_its_own() {
     }
     causes.sort();
     causes.dedup();
-    assert_eq!(causes.len(), 15);
+    assert_eq!(causes.len(), NAMED.len());
 }
 
 #[test]
@@ -49,6 +54,7 @@ fn an_index_is_told() {
         Refusal::POINT,
         Refusal::UNSTORED,
         Refusal::NOTLEAF,
+        Refusal::READING,
     ] {
         assert!(sentence(Refusal::new(number, 17)).0.contains(" 17"));
     }

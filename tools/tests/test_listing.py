@@ -104,7 +104,7 @@ cp ../program target/bin/listing
         lines = [line for line in self.read("house/tools/refusals.txt").decode().splitlines() if not line.startswith("#")]
         for line in lines:
             self.assertRegex(line, r"^[0-9]+ ([0-9]+|r[123]|\*) [^;]+; [^;]+\.$")
-        self.assertEqual([int(line.split()[0]) for line in lines if line.split()[1] == "*"], list(range(1, 16)))
+        self.assertEqual([int(line.split()[0]) for line in lines if line.split()[1] == "*"], list(range(1, 21)))
 
     def test_first_run(self):
         """While it proves it tells the crates and the log; then no more, until a crate is changed."""

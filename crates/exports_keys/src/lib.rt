@@ -23,19 +23,12 @@ pub struct Ended {
 pub fn end_of(outcome: Outcome) -> Ended
     ensures { λ r. ⌜ r ≡ told outcome ⌝ }
 {
-    match outcome {
-        Outcome::Done => Ended {
-            number: 0,
-            axis: 0,
-            reason: 0,
-            value: 0,
-        },
-        Outcome::Refused(refusal) => Ended {
-            number: refusal::number(refusal) as u32,
-            axis: refusal::axis(refusal),
-            reason: refusal::reason(refusal),
-            value: refusal::value(refusal),
-        },
+    let told = refusal::tell_outcome(outcome);
+    Ended {
+        number: told.number as u32,
+        axis: told.axis,
+        reason: told.reason,
+        value: told.value,
     }
 }
 

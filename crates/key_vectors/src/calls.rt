@@ -56,7 +56,8 @@ pub fn refused(number: u64, value: u64) -> Answer {
 }
 
 fn of_refusal(refusal: Refusal) -> Answer {
-    refused(refusal::number(refusal), refusal::value(refusal) as u64)
+    let told = refusal::tell(refusal);
+    refused(told.number, told.value as u64)
 }
 
 fn of_one(number: u64) -> Answer {
@@ -88,10 +89,11 @@ fn of_touch(answer: TouchAnswer) -> Answer {
 fn of_keys(list: KeyList) -> Answer {
     let outcome = list.outcome;
     let numbers = list.keys;
+    let told = refusal::tell_outcome(outcome);
     Answer {
         good: true,
-        number: refusal::outcome_number(outcome),
-        value: refusal::outcome_value(outcome) as u64,
+        number: told.number,
+        value: told.value as u64,
         len: list.len,
         numbers,
     }
@@ -110,10 +112,11 @@ fn of_anchors(answer: AnchorAnswer) -> Answer {
         Outcome::Done => 4,
         Outcome::Refused(_) => 0,
     };
+    let told = refusal::tell_outcome(outcome);
     Answer {
         good: true,
-        number: refusal::outcome_number(outcome),
-        value: refusal::outcome_value(outcome) as u64,
+        number: told.number,
+        value: told.value as u64,
         len,
         numbers,
     }

@@ -11,15 +11,16 @@ use space::Box;
 use survey::Survey;
 
 fn write_refusal(refusal: Refusal) {
+    let told = refusal::tell(refusal);
     io::write_all(STDOUT_FILENO, b"refused ");
-    io::print_decimal(STDOUT_FILENO, refusal::number(refusal));
+    io::print_decimal(STDOUT_FILENO, told.number);
     io::write_all(STDOUT_FILENO, b" ");
-    io::print_decimal(STDOUT_FILENO, refusal::value(refusal) as u64);
-    if refusal::count(refusal) == 3 {
+    io::print_decimal(STDOUT_FILENO, told.value as u64);
+    if told.count == 3 {
         io::write_all(STDOUT_FILENO, b" ");
-        io::print_decimal(STDOUT_FILENO, refusal::axis(refusal) as u64);
+        io::print_decimal(STDOUT_FILENO, told.axis as u64);
         io::write_all(STDOUT_FILENO, b" ");
-        io::print_decimal(STDOUT_FILENO, refusal::reason(refusal) as u64);
+        io::print_decimal(STDOUT_FILENO, told.reason as u64);
     }
     io::write_all(STDOUT_FILENO, b"\n");
 }

@@ -1,3 +1,4 @@
-pub mod Told
+pub mod Telling
+pub mod Most
 pub mod Chain
 pub mod Left

@@ -12,7 +12,7 @@ use lib.ListN.{length, getD, length-append}
 use borrow.Author.Tests.{lt-ltb, le-ltb, eq-eqb, ne-eqb}
 use Rattle.refusal.specs.declared.Refusal.{Refusal}
 use Rattle.refusal.specs.Numbers.{numberOf, valuesOf}
-use Rattle.text.proofs.Refused.{values-most}
+use Rattle.refusal.proofs.Most.{values-most}
 use Rattle.slices.specs.Lists.{filter, sum, concatMap, range}
 use Rattle.slices.proofs.Sums.{sum-same, sum-both, sum-none, sum-less}
 use Rattle.morton.specs.Keys.{levelOf}

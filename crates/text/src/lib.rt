@@ -292,16 +292,14 @@ pub fn write_refusal(refusal: Refusal, out: &mut [u8]) -> Text
     ensures answer { λ r. ⌜ r ≡ textAnswer (length (now (out .entry))) (refusalLine refusal) ⌝ }
     ensures text { λ _. ⌜ now (out .exit) ≡ textLeft (length (now (out .entry))) (refusalLine refusal) ⌝ }
 {
-    let number = refusal::number(refusal);
-    let value = refusal::value(refusal) as u64;
-    if refusal::count(refusal) == 1 {
-        let numbers = [number, value];
-        let n = put_line(out, 0, b"refused", &numbers);
-        return finish(out, n);
-    }
-    let axis = refusal::axis(refusal) as u64;
-    let reason = refusal::reason(refusal) as u64;
-    let numbers = [number, value, axis, reason];
-    let n = put_line(out, 0, b"refused", &numbers);
+    let told = refusal::tell(refusal);
+    let numbers = [
+        told.number,
+        told.value as u64,
+        told.axis as u64,
+        told.reason as u64,
+    ];
+    let count = told.count + 1;
+    let n = put_line(out, 0, b"refused", &numbers[..count]);
     finish(out, n)
 }
