@@ -1,15 +1,13 @@
 // The list call and near work for C.
 use exports_keys::Ended;
 use interaction::ListsAnswer;
-use near_work::WorkAnswer;
 use refusal::Outcome;
 ghost use mathlib.Core.Path.{_≡_};
 ghost use lib.ListN.{length};
 ghost use Rattle.tree.specs.Columns.{columns};
 ghost use Rattle.interaction.specs.Answers.{listsAnswer, uStartsLeft, uKeysLeft, vStartsLeft, vKeysLeft};
-ghost use Rattle.near_work.specs.Answers.{workAnswer, workStartsLeft, workKeysLeft};
 ghost use Rattle.exports_keys.specs.Told.{told};
-ghost use Rattle.exports_lists.specs.Told.{listsEnd, uIn, vIn, workEnd, workIn};
+ghost use Rattle.exports_lists.specs.Told.{listsEnd, uIn, vIn};
 
 // Tells how many keys the two lists have.
 fn tell_lists(answer: ListsAnswer, u: &mut usize, v: &mut usize) -> Ended
@@ -72,37 +70,4 @@ pub extern "C" fn lohandema_get_interaction_lists(
         v_keys,
     );
     tell_lists(answer, u, v)
-}
-
-// Near work, and the U list from which it was worked out.
-#[no_mangle]
-pub extern "C" fn lohandema_get_near_work(
-    axes: usize,
-    key: &[u64],
-    own: &[usize],
-    begin: &[usize],
-    total: &[usize],
-    starts: &mut [usize],
-    flat: &mut [u64],
-    work: &mut u64,
-) -> Ended
-    ensures ended { λ r. ⌜ r ≡ told (workEnd (workAnswer axes (columns (now (key .entry)) (now (own .entry)) (now (begin .entry)) (now (total .entry)))
-        (length (now (starts .entry))) (length (now (flat .entry))))) ⌝ }
-    ensures starts { λ _. ⌜ now (starts .exit) ≡ workStartsLeft axes (columns (now (key .entry)) (now (own .entry)) (now (begin .entry)) (now (total .entry)))
-        (length (now (starts .entry))) (length (now (flat .entry))) ⌝ }
-    ensures flat { λ _. ⌜ now (flat .exit) ≡ workKeysLeft axes (columns (now (key .entry)) (now (own .entry)) (now (begin .entry)) (now (total .entry))) (length (now (starts .entry))) (length (now (flat .entry))) ⌝ }
-    ensures work { λ _. ⌜ now (work .exit) ≡ workIn (workAnswer axes (columns (now (key .entry)) (now (own .entry)) (now (begin .entry)) (now (total .entry)))
-        (length (now (starts .entry))) (length (now (flat .entry)))) ⌝ }
-{
-    let answer = near_work::get_near_work(axes, key, own, begin, total, starts, flat);
-    match answer {
-        WorkAnswer::Work(sum) => {
-            *work = sum;
-            exports_keys::end_of(Outcome::Done)
-        }
-        WorkAnswer::Refused(refusal) => {
-            *work = 0;
-            exports_keys::end_of(Outcome::Refused(refusal))
-        }
-    }
 }

@@ -74,12 +74,8 @@ sound-formed {d} {keys} {own} {total} t h =
 pub sound-linked : {d : ℕ} {keys own total : List ℕ} → SoundTree d keys own → totalsRight d keys own total ≡ true → Linked keys total
 sound-linked {d} {keys} {own} {total} t h = formed-linked d keys own (t .begin) total (sound-formed t h)
 
-pub linked-tree : {d : ℕ} {keys own total old links : List ℕ} → SoundTree d keys own → totalsRight d keys own total ≡ true → Links keys total old links → LinkedTree d keys own total links
-linked-tree t h l = record { tree = t; totals = h; right = λ j _ k. l .right j k }
-
--- no links at all
-pub unlinked-tree : {d : ℕ} {keys own total links : List ℕ} → SoundTree d keys own → totalsRight d keys own total ≡ true → length links ≡ 0 → LinkedTree d keys own total links
-unlinked-tree t h none = record { tree = t; totals = h; right = λ j l k. absurd (omega arith) }
+pub linked-tree : {d : ℕ} {keys own total old links : List ℕ} → SoundTree d keys own → totalsRight d keys own total ≡ true → length keys ≤ length old → Links keys total old links → LinkedTree d keys own total links
+linked-tree t h room l = record { tree = t; totals = h; room = omega (arith, l .long); right = l .right }
 
 pub tree-formed : {d : ℕ} {keys own total links : List ℕ} → (t : LinkedTree d keys own total links) → Formed d keys own (t .tree .begin) total
 tree-formed t = sound-formed (t .tree) (t .totals)

@@ -1,5 +1,4 @@
 pub mod Links
-pub mod Search
 pub mod Walk
 pub mod Children
 pub mod Readers

@@ -9,12 +9,12 @@ use native.Mathlib.Decide.{decLt}
 use lib.Dec.{leb, ltb}
 use lib.ListN.{length, getD, drop, set, length-drop, length-set}
 use lib.Seq.{getD-drop, getD-set-same, getD-set-other}
-use borrow.Author.Tests.{ltb-true, ltb-false, leb-true, leb-false, le-leb, lt-leb}
-use Rattle.slices.proofs.Tests.{and-l, and-r}
+use borrow.Author.Tests.{ltb-true, ltb-false, leb-true, leb-false, le-leb, lt-leb, lt-ltb}
+use Rattle.slices.proofs.Tests.{and-l, and-r, both, clash}
 use Rattle.morton.specs.Keys.{levelOf}
 use Rattle.tree.specs.Order.{endOf}
 use Rattle.tree.proofs.Ends.{Ends, ends}
-use Rattle.links.specs.Links.{zeros, nextOf, Linked, From, Links}
+use Rattle.links.specs.Links.{zeros, nextOf, inner, Linked, From, Links}
 
 record Zeros (ns : List ℕ) (r : ℕ) : Type 0 where
   most : r ≤ length ns
@@ -54,6 +54,16 @@ next-is keys total e i l = go (zeros (drop (endOf keys i) total)) (run (drop (en
           sym (getD-drop (endOf keys i) total (m - endOf keys i) 0 ∙ ap (λ x. getD total x 0) q) ∙ z .all (m - endOf keys i) (omega arith);
       sourced = λ h. subst (λ x. 0 < x) (getD-drop (endOf keys i) total r 0) (z .stop (omega (arith, length-drop (endOf keys i) total)));
     }
+
+-- nothing lies under a leaf
+pub leaf-end : (keys : List ℕ) (i : ℕ) → i < length keys → inner keys i ≡ false → endOf keys i ≡ suc i
+leaf-end keys i l leaf = go (decLt (suc i) (endOf keys i)) (ends keys i l)
+  where
+    go : Dec (suc i < endOf keys i) → Ends keys i (endOf keys i) → endOf keys i ≡ suc i
+    go (no n) en = omega (arith, en .after)
+    go (yes y) en =
+        let deep = en .deeper (suc i) (omega arith) y in
+        absurd (clash (both (lt-ltb (suc i) (length keys) (omega (arith, en .within))) (lt-ltb (levelOf (getD keys i 0)) (levelOf (getD keys (suc i) 0)) deep)) leaf)
 
 -- a walk from node i has come to j
 pub record Hop (keys total : List ℕ) (i j : ℕ) : Type 0 where
@@ -182,14 +192,40 @@ module _ (keys total : List ℕ) (k : Linked keys total) where
                 same (no p) (inl d) = let e : j ≡ nextOf keys total i = omega (arith, h .most) in omega (arith, lv, ap (λ x. levelOf (getD keys x 0)) e)
                 same (no p) (inr z) = let e : j ≡ nextOf keys total i = omega (arith, h .most) in omega (arith, so, ap (λ x. getD total x 0) e)
 
+    -- past a node where it does not stop
+    pub hop-past : (j : ℕ) → Hop keys total i j → j < length keys → (levelOf (getD keys i 0) < levelOf (getD keys j 0)) ⊎ (getD total j 0 ≡ 0) → Hop keys total i (j + 1)
+    hop-past j h l c = record { after = omega (arith, h .after); most = go (decLt j (nextOf keys total i)) c }
+      where
+        go : Dec (j < nextOf keys total i) → (levelOf (getD keys i 0) < levelOf (getD keys j 0)) ⊎ (getD total j 0 ≡ 0) → j + 1 ≤ nextOf keys total i
+        go (yes s) _ = omega arith
+        go (no s) c = absurd (bad c)
+          where
+            here : j ≡ nextOf keys total i
+            here = omega (arith, h .most)
+
+            ln : nextOf keys total i < length keys
+            ln = omega (arith, here)
+
+            bad : (levelOf (getD keys i 0) < levelOf (getD keys j 0)) ⊎ (getD total j 0 ≡ 0) → ⊥
+            bad (inl d) = omega (arith, next-level i (nextOf keys total i) li nx ln, ap (λ x. levelOf (getD keys x 0)) here)
+            bad (inr z) = omega (arith, nx .sourced ln, ap (λ x. getD total x 0) here)
+
+    -- after a leaf it stops at the first sourced node
+    pub leaf-here : inner keys i ≡ false → (j : ℕ) → Hop keys total i j → j < length keys → 0 < getD total j 0 → j ≡ nextOf keys total i
+    leaf-here leaf j h l s = go (decLt j (nextOf keys total i))
+      where
+        go : Dec (j < nextOf keys total i) → j ≡ nextOf keys total i
+        go (no n) = omega (arith, h .most)
+        go (yes n) = absurd (omega (arith, leaf-end keys i li leaf, nx .none j (omega (arith, h .after, leaf-end keys i li leaf)) n))
+
     -- the same by the test
     pub stop-here : (j : ℕ) → Hop keys total i j → j < length keys → (leb (levelOf (getD keys j 0)) (levelOf (getD keys i 0)) && ltb 0 (getD total j 0)) ≡ true → j ≡ nextOf keys total i
     stop-here j h l b =
         hop-here j h l (leb-true (levelOf (getD keys j 0)) (levelOf (getD keys i 0)) (and-l _ _ b))
         (λ z. omega (arith, ltb-true 0 (getD total j 0) (and-r (leb (levelOf (getD keys j 0)) (levelOf (getD keys i 0))) _ b)))
 
-    pub stop-not : (j : ℕ) → Hop keys total i j → j < length keys → (leb (levelOf (getD keys j 0)) (levelOf (getD keys i 0)) && ltb 0 (getD total j 0)) ≡ false → (r : ℕ) → r ≡ nextOf keys total j → Hop keys total i r
-    stop-not j h l b r e = hop-more j h l (go (leb (levelOf (getD keys j 0)) (levelOf (getD keys i 0))) refl b) r e
+    pub stop-not : (j : ℕ) → (leb (levelOf (getD keys j 0)) (levelOf (getD keys i 0)) && ltb 0 (getD total j 0)) ≡ false → (levelOf (getD keys i 0) < levelOf (getD keys j 0)) ⊎ (getD total j 0 ≡ 0)
+    stop-not j b = go (leb (levelOf (getD keys j 0)) (levelOf (getD keys i 0))) refl b
       where
         go : (t : Bool) → leb (levelOf (getD keys j 0)) (levelOf (getD keys i 0)) ≡ t → (t && ltb 0 (getD total j 0)) ≡ false → (levelOf (getD keys i 0) < levelOf (getD keys j 0)) ⊎ (getD total j 0 ≡ 0)
         go false q b = inl (leb-false (levelOf (getD keys j 0)) (levelOf (getD keys i 0)) q)
@@ -199,25 +235,33 @@ module _ (keys total : List ℕ) (k : Linked keys total) where
 pub record Linking (keys total old links : List ℕ) (i : ℕ) : Type 0 where
   pub most : i ≤ length keys
   pub long : length links ≡ length old
-  pub right : (j : ℕ) → i ≤ j → j < length keys → getD links j 0 ≡ nextOf keys total j
-  pub rest : (j : ℕ) → length keys ≤ j → getD links j 0 ≡ getD old j 0
+  pub right : (j : ℕ) → i ≤ j → inner keys j ≡ true → getD links j 0 ≡ nextOf keys total j
+  pub rest : (j : ℕ) → inner keys j ≡ false → getD links j 0 ≡ getD old j 0
 
 module _ (keys total old : List ℕ) (k : Linked keys total) (room : length keys ≤ length old) where
   pub linking-start : Linking keys total old old (length keys)
-  linking-start = record { most = omega arith; long = refl; right = λ j h l. absurd (omega arith); rest = λ j h. refl }
+  linking-start = record { most = omega arith; long = refl; right = λ j h l. absurd (omega (arith, ltb-true (suc j) (length keys) (and-l _ _ l))); rest = λ j h. refl }
 
   pub linking-from : (links : List ℕ) (n i : ℕ) → Linking keys total old links n → n ≡ suc i → From keys total links (suc i)
   linking-from links n i a e = record { linked = k; room = omega (arith, a .long); right = λ j h l. a .right j (omega arith) l }
 
-  pub linking-more : (links : List ℕ) (n i : ℕ) → Linking keys total old links n → n ≡ suc i → (next : ℕ) → next ≡ nextOf keys total i → Linking keys total old (set links i next) i
-  linking-more links n i a e next en = record {
+  -- a leaf is left as it is
+  pub linking-leaf : (links : List ℕ) (n i : ℕ) → Linking keys total old links n → n ≡ suc i → inner keys i ≡ false → Linking keys total old links i
+  linking-leaf links n i a e leaf = record { most = omega (arith, a .most); long = a .long; right = λ j h l. here j h l (decLt i j); rest = a .rest }
+    where
+      here : (j : ℕ) → i ≤ j → inner keys j ≡ true → Dec (i < j) → getD links j 0 ≡ nextOf keys total j
+      here j h l (yes g) = a .right j (omega arith) l
+      here j h l (no g) = let z : j ≡ i = omega arith in absurd (clash l (ap (inner keys) z ∙ leaf))
+
+  pub linking-more : (links : List ℕ) (n i : ℕ) → Linking keys total old links n → n ≡ suc i → inner keys i ≡ true → (next : ℕ) → next ≡ nextOf keys total i → Linking keys total old (set links i next) i
+  linking-more links n i a e has next en = record {
     most = omega (arith, a .most);
     long = length-set links i next ∙ a .long;
     right = λ j h l. here j h l (decLt i j);
-    rest = λ j h. getD-set-other links i j next 0 (λ q. omega (arith, a .most)) ∙ a .rest j h;
+    rest = λ j h. getD-set-other links i j next 0 (λ q. clash has (sym (ap (inner keys) q) ∙ h)) ∙ a .rest j h;
   }
     where
-      here : (j : ℕ) → i ≤ j → j < length keys → Dec (i < j) → getD (set links i next) j 0 ≡ nextOf keys total j
+      here : (j : ℕ) → i ≤ j → inner keys j ≡ true → Dec (i < j) → getD (set links i next) j 0 ≡ nextOf keys total j
       here j h l (yes g) = getD-set-other links i j next 0 (λ q. omega arith) ∙ a .right j (omega arith) l
       here j h l (no g) =
           let z : j ≡ i = omega arith in

@@ -9,14 +9,7 @@ use lib.Dec.{ltb}
 use lib.ListN.{length, getD}
 use borrow.Author.Tests.{lt-ltb, le-ltb}
 use Rattle.morton.specs.Keys.{levelOf}
-use Rattle.tree.specs.Finding.{TreeKeys}
-use Rattle.links.specs.Links.{nextOf, inner, afterOf, Linked, Walkable}
-use Rattle.links.proofs.Search.{sound-keys}
-use Rattle.links.proofs.Children.{tree-linked}
-
--- what a search asks
-pub walk-search : (d : ℕ) (keys total links : List ℕ) → Walkable d keys total links → (i : ℕ) → i < length keys → TreeKeys d keys × Linked keys total × (i < length keys)
-walk-search d keys total links t i l = (sound-keys (t .1 .tree), tree-linked (t .1), l)
+use Rattle.links.specs.Links.{nextOf, inner, afterOf}
 
 module _ (keys : List ℕ) (i : ℕ) where
   pub inner-last : length keys ≤ i + 1 → false ≡ inner keys i

@@ -1,6 +1,6 @@
--- Where the walk along a tree in Z order goes on after a node, and one column beside the tree that tells it.
+-- Where the walk along a tree in Z order goes on after a node, and one column beside the tree that tells it of nodes with children.
 use mathlib.Core.Path.{_≡_}
-use mathlib.Core.Bool.{Bool, true, _&&_, cond}
+use mathlib.Core.Bool.{Bool, true, false, _&&_, cond}
 use mathlib.Core.List.{List, [], _∷_}
 use Prim.Native.Nat.{ℕ, suc, _+_, _≤_, _<_}
 use lib.Dec.{ltb}
@@ -44,23 +44,24 @@ pub record Linked (keys total : List ℕ) : Type 0 where
   pub totals : length total ≡ length keys
   pub up : (j n : ℕ) → j < n → n < endOf keys j → n < length keys → 0 < getD total n 0 → 0 < getD total j 0
 
--- the links are right from node i on
+-- the links of nodes with children are right from node i on
 pub record From (keys total links : List ℕ) (i : ℕ) : Type 0 where
   pub linked : Linked keys total
   pub room : length keys ≤ length links
-  pub right : (j : ℕ) → i ≤ j → j < length keys → getD links j 0 ≡ nextOf keys total j
+  pub right : (j : ℕ) → i ≤ j → inner keys j ≡ true → getD links j 0 ≡ nextOf keys total j
 
--- each node's link, and past the nodes what stood there
+-- the link of each node with children; at leaves and past the nodes what stood there
 pub record Links (keys total old links : List ℕ) : Type 0 where
   pub long : length links ≡ length old
-  pub right : (j : ℕ) → j < length keys → getD links j 0 ≡ nextOf keys total j
-  pub rest : (j : ℕ) → length keys ≤ j → getD links j 0 ≡ getD old j 0
+  pub right : (j : ℕ) → inner keys j ≡ true → getD links j 0 ≡ nextOf keys total j
+  pub rest : (j : ℕ) → inner keys j ≡ false → getD links j 0 ≡ getD old j 0
 
--- a sound tree with its totals, and links of which each is right; there may be fewer of them than nodes, or none
+-- a sound tree with its totals, and a column in which the link of each node with children is right; what stands at leaves is the caller's
 pub record LinkedTree (d : ℕ) (keys own total links : List ℕ) : Type 0 where
   pub tree : SoundTree d keys own
   pub totals : totalsRight d keys own total ≡ true
-  pub right : (j : ℕ) → j < length links → j < length keys → getD links j 0 ≡ nextOf keys total j
+  pub room : length keys ≤ length links
+  pub right : (j : ℕ) → inner keys j ≡ true → getD links j 0 ≡ nextOf keys total j
 
 -- the same, whatever its nodes own
 abbrev pub Walkable : ℕ → List ℕ → List ℕ → List ℕ → Type 0

@@ -5,7 +5,6 @@ use mathlib.Core.List.{List, [], _∷_, _++_, map}
 use Prim.Native.Nat.{ℕ, zero, suc, _+_, _-_, _≤_, _<_}
 use native.Mathlib.Omega.{arith}
 use native.Mathlib.Decide.{decLt}
-use lib.Dec.{eqb}
 use lib.ListN.{length, take, replicate, length-append}
 use lib.Seq.{take-append-le, length-take-le}
 use borrow.Author.Tests.{le-leb, lt-leb}
@@ -56,33 +55,6 @@ half-none half n both len e = let z : len - 0 ≡ len = omega arith in ap (λ (k
 
 first-none : (n : ℕ) (xs : List ℕ) → n ≡ 0 → firstOf n xs ≡ replicate (length xs) 0
 first-none n xs e = let z : length xs - 0 ≡ length xs = omega arith in ap (λ (k : ℕ). firstOf k xs) e ∙ ap (λ (k : ℕ). replicate k 0) z
-
--- ---- what `finish_near` leaves of one list
-module _ (row : ℕ → List ℕ) (keys starts e : List ℕ) (n room len : ℕ) (w : WritesRows row keys (map upper starts) e n) (size : length e ≡ room) (cap : room ≡ keysRoom len)
-    (m short n' u' v' : ℕ) (ends : EndsOf room m n m (length keys + 1) short n' u' v') (enough : Bool) (told : enough ≡ eqb short 0) (places : ℕ) (rest starts' out' : List ℕ)
-    (all : room + length rest ≡ len) (same : length starts ≡ places) (r : starts' ≡ halfOf upper n' starts (length starts)) (q : out' ≡ firstOf u' (e ++ rest)) where
-  near-go : Dec (room < n) → WritesList row keys places len starts' out' enough
-  near-go (yes h) =
-      let (s, a, b, c) = ends .u-short h in
-      let no : enough ≡ false = told ∙ ap (λ (k : ℕ). eqb k 0) s in
-      record {
-        fits = no ∙ sym (no-room row keys (map upper starts) e n room len w size cap h);
-        begins = λ t. absurd (clash t no);
-        written = λ t. absurd (clash t no);
-        cleared = λ _. (
-          r ∙ half-none upper n' starts (length starts) a ∙ ap (λ (k : ℕ). replicate k 0) same,
-          q ∙ first-none u' (e ++ rest) b ∙ ap (λ (k : ℕ). replicate k 0) (length-append e rest ∙ ap (λ (k : ℕ). k + length rest) size ∙ all),
-        );
-      }
-  near-go (no h) =
-      let low : n ≤ room = omega arith in
-      let (s, a, b, c) = ends .whole low (omega arith) in
-      subst (λ t. WritesList row keys places len starts' out' t) (sym (told ∙ ap (λ (k : ℕ). eqb k 0) s))
-      (list-done row keys (map upper starts) e n room len w size cap low places (length starts) rest out' (map upper (take (length keys + 1) starts)) starts' all same
-      (q ∙ ap (λ (i : ℕ). firstOf i (e ++ rest)) b) (half-begins upper row keys starts (w .begins (omega arith))) (r ∙ ap (λ (i : ℕ). halfOf upper i starts (length starts)) a))
-
-  pub near-ended : WritesList row keys places len starts' out' enough
-  near-ended = near-go (decLt room n)
 
 -- ---- both
 module _ (u v : ℕ → List ℕ) (keys : List ℕ) (up ul vp vl : ℕ) (us uk vs vk : List ℕ) where

@@ -6,14 +6,12 @@ use node_rows::STACK_ROOM;
 pub use node_rows::Sizes;
 use starts::HALF;
 ghost use mathlib.Core.Path.{_≡_};
-ghost use mathlib.Core.Bool.{true, false};
+ghost use mathlib.Core.Bool.{true};
 ghost use Prim.Native.Nat.{_≤_, _<_};
 ghost use lib.ListN.{length};
 ghost use Rattle.tree.specs.WellFormed.{totalsRight};
 ghost use Rattle.tree.specs.WellFormed.{SoundTree};
-ghost use Rattle.rows.specs.Lists.{uRow};
 ghost use Rattle.rows.specs.Written.{keysRoom};
-ghost use Rattle.lists.specs.Written.{WritesList};
 ghost use Rattle.links.specs.Links.{LinkedTree};
 ghost use Rattle.lists.specs.Halves.{RowsRoom, WritesLists, WritesTree, EndsOf};
 ghost use Rattle.node_rows.specs.Stack.{Ready};
@@ -64,7 +62,7 @@ fn fill_rows(
     sizes
 }
 
-// The same with a stack of its own. V's keys may have no room at all: then only U's rows are written.
+// The same with a stack of its own.
 pub fn write_rows(
     axes: usize,
     key: &[u64],
@@ -182,35 +180,4 @@ pub fn write_lists(
         ends.v,
     );
     ends.short
-}
-
-// Writes U's list alone, whole, with 0 in the unused rests; or answers false, where its keys have no room, and leaves 0 throughout. It is lent no column for links.
-pub fn write_near(
-    axes: usize,
-    key: &[u64],
-    own: &[usize],
-    total: &[usize],
-    starts: &mut [usize],
-    flat: &mut [u64],
-) -> bool
-    requires { ⌜ SoundTree axes (now key) (now own) × (length (now key) < length (now starts)) × (totalsRight axes (now key) (now own) (now total) ≡ true) ⌝ }
-    ensures { λ r. ⌜ WritesList (uRow axes (now (key .entry)) (now (own .entry))) (now (key .entry))
-        (length (now (starts .entry))) (length (now (flat .entry))) (now (starts .exit)) (now (flat .exit)) r ⌝ }
-{
-    let links = [0usize; 0];
-    let mut far = [0u64; 0];
-    let room = room_of(flat.len());
-    let sizes = write_rows(
-        axes,
-        key,
-        own,
-        total,
-        &links,
-        starts,
-        &mut flat[..room],
-        &mut far,
-    );
-    let ends = ends_of(key.len() + 1, room, sizes.v, sizes);
-    starts::finish_near(starts, flat, ends.starts, ends.u);
-    ends.short == 0
 }

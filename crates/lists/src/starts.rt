@@ -22,29 +22,6 @@ fn part_starts(both: &mut [usize], low: &mut [usize], n: usize)
     }
 }
 
-// Keeps the upper halves of the first n entries of `both`.
-fn keep_upper(both: &mut [usize], n: usize)
-    requires { ⌜ n ≤ length (now both) ⌝ }
-    ensures { λ _. ⌜ take n (now (both .exit)) ≡ map upper (take n (now (both .entry))) ⌝ }
-{
-    let mut i: usize = 0;
-    while i < n {
-        both[i] = both[i] / HALF;
-        i += 1;
-    }
-}
-
-// Keeps U's starts, and sets the unused rests to 0.
-pub fn finish_near(starts: &mut [usize], flat: &mut [u64], n: usize, u: usize)
-    requires { ⌜ n ≤ length (now starts) ⌝ }
-    ensures { λ _. ⌜ now (starts .exit) ≡ halfOf upper n (now (starts .entry)) (length (now (starts .entry))) ⌝ }
-    ensures { λ _. ⌜ now (flat .exit) ≡ firstOf u (now (flat .entry)) ⌝ }
-{
-    keep_upper(starts, n);
-    slices::clear_from_usize(starts, n);
-    slices::clear_from(flat, u);
-}
-
 // Parts the starts, and sets the unused rests to 0.
 pub fn finish(
     u_starts: &mut [usize],

@@ -1,24 +1,14 @@
 // Near work: the sum over leaves of own sources times sources in the U row.
-use refusal::Outcome;
-use refusal::Refusal;
 use tree::Found;
 ghost use mathlib.Core.Path.{_≡_};
 ghost use Prim.Native.Nat.{_≤_, _<_};
 ghost use lib.ListN.{length, getD};
-ghost use Rattle.tree.specs.Columns.{columns};
 ghost use Rattle.tree.specs.Nodes.{ownOf};
 ghost use Rattle.tree.specs.WellFormed.{mostSources};
 ghost use Rattle.rows.specs.Lists.{uRow, nearWork};
 ghost use Rattle.rows.specs.Written.{Written};
 ghost use Rattle.tree.specs.WellFormed.{SoundTree};
 ghost use Rattle.near_work.specs.Work.{Beside, rowSources, workOf, mostWork};
-ghost use Rattle.near_work.specs.Answers.{startsCheck, workAnswer, workStartsLeft, workKeysLeft};
-
-// Near work of a tree, or a refusal.
-pub enum WorkAnswer {
-    Work(u64),
-    Refused(Refusal),
-}
 
 // What the node with key k owns, 0 if there is none.
 fn own_of(axes: usize, key: &[u64], own: &[usize], k: u64) -> usize
@@ -80,55 +70,4 @@ pub fn near_work(axes: usize, key: &[u64], own: &[usize], starts: &[usize], flat
         node += 1;
     }
     work
-}
-
-// The refusals that the arguments alone decide, for so many places for starts.
-fn starts_outcome(
-    axes: usize,
-    key: &[u64],
-    own: &[usize],
-    begin: &[usize],
-    total: &[usize],
-    places: usize,
-) -> Outcome
-    ensures { λ r. ⌜ r ≡ startsCheck axes (columns (now (key .entry)) (now (own .entry)) (now (begin .entry)) (now (total .entry))) places ⌝ }
-{
-    let checked = sourced::check_tree(axes, key, own, begin, total);
-    if let Outcome::Refused(refusal) = checked {
-        return Outcome::Refused(refusal);
-    }
-    if places <= key.len() {
-        return Outcome::Refused(Refusal::Room(4));
-    }
-    Outcome::Done
-}
-
-// Near work of any tree. The U list is written into the lent slices; after a refusal they are 0 throughout.
-pub fn get_near_work(
-    axes: usize,
-    key: &[u64],
-    own: &[usize],
-    begin: &[usize],
-    total: &[usize],
-    starts: &mut [usize],
-    flat: &mut [u64],
-) -> WorkAnswer
-    ensures answer { λ r. ⌜ r ≡ workAnswer axes (columns (now (key .entry)) (now (own .entry)) (now (begin .entry)) (now (total .entry)))
-        (length (now (starts .entry))) (length (now (flat .entry))) ⌝ }
-    ensures starts { λ _. ⌜ now (starts .exit) ≡ workStartsLeft axes (columns (now (key .entry)) (now (own .entry)) (now (begin .entry)) (now (total .entry)))
-        (length (now (starts .entry))) (length (now (flat .entry))) ⌝ }
-    ensures flat { λ _. ⌜ now (flat .exit) ≡ workKeysLeft axes (columns (now (key .entry)) (now (own .entry)) (now (begin .entry)) (now (total .entry)))
-        (length (now (starts .entry))) (length (now (flat .entry))) ⌝ }
-{
-    let checked = starts_outcome(axes, key, own, begin, total, starts.len());
-    if let Outcome::Refused(refusal) = checked {
-        slices::clear_usize(starts);
-        slices::clear(flat);
-        return WorkAnswer::Refused(refusal);
-    }
-    if !lists::write_near(axes, key, own, total, starts, flat) {
-        return WorkAnswer::Refused(Refusal::Room(6));
-    }
-    let work = near_work(axes, key, own, starts, flat);
-    WorkAnswer::Work(work)
 }

@@ -35,7 +35,7 @@ slice-aggregate-write-rows-2 : tie.Need-slice-aggregate-write-rows-2
 slice-aggregate-write-rows-2 c = sym (length-take-le _ _ (cap-le _ _ (c .before .before .before .before .room-of2 .ensures)))
 
 write-rows-requires : tie.Need-write-rows-requires
-write-rows-requires c κs = let p = c .before .before .before .before .before .before .before .before .before .before .before .before .before .before .before .before .before .pre in let a = c .before .before .before .before .before .before .before .before .before .before .before .before .before .before .before .before .before .args in (linked-tree (p .0) (p .3) (c .before .before .before .before .before .before .before .before .link-nodes .ensures), (p .1, cap-most _ (now (a .u-keys)) (c .before .before .before .before .before .room-of .ensures), cap-most _ (now (a .v-keys)) (c .before .before .before .before .room-of2 .ensures)))
+write-rows-requires c κs = let p = c .before .before .before .before .before .before .before .before .before .before .before .before .before .before .before .before .before .pre in let a = c .before .before .before .before .before .before .before .before .before .before .before .before .before .before .before .before .before .args in (linked-tree (p .0) (p .3) (omega (arith, p .2)) (c .before .before .before .before .before .before .before .before .link-nodes .ensures), (p .1, cap-most _ (now (a .u-keys)) (c .before .before .before .before .before .room-of .ensures), cap-most _ (now (a .v-keys)) (c .before .before .before .before .room-of2 .ensures)))
 
 add-ends-of : tie.Need-add-ends-of
 add-ends-of c = record { fits = omega (arith, c .before .before .before .before .before .before .before .before .before .before .before .before .before .before .before .before .before .before .before .before .before .before .before .before .good .1 .0) }
