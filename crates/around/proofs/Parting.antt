@@ -12,7 +12,7 @@ use lib.Seq.{take-suc-set, take-set-le, length-take-le}
 use Rattle.slices.specs.Lists.{filter, range}
 use Rattle.slices.proofs.Lists.{filter-shorter}
 use Rattle.sourced.specs.Room.{Holds, Puts}
-use Rattle.sourced.proofs.Putting.{put-room, filter-yes, filter-no}
+use Rattle.sourced.proofs.Putting.{put-room, store-past, filter-yes, filter-no}
 use Rattle.links.specs.Links.{inner}
 use Rattle.links.proofs.Children.{filter-here, filter-past}
 use Rattle.around.specs.Masks.{bitOf}
@@ -25,16 +25,6 @@ puts-none out n done h = rw (append-nil done) h
 
 puts-join : (out out₁ out₂ xs ys : List ℕ) (n n₁ n₂ : ℕ) → Puts out n xs out₁ n₁ → Puts out₁ n₁ ys out₂ n₂ → Puts out n (xs ++ ys) out₂ n₂
 puts-join out out₁ out₂ xs ys n n₁ n₂ a b done h = subst (λ l. Holds out₂ n₂ l) (append-assoc done xs ys) (b (done ++ xs) (a done h))
-
--- a key stored just past the counted ones changes nothing yet
-store-past : (out : List ℕ) (n k : ℕ) → n < length out → Puts out n [] (set out n k) n
-store-past out n k h done g =
-    let e : length done ≡ n = omega (arith, g .counted) in
-    let s : length (set out n k) ≡ length out = length-set out n k in
-    subst (λ l. Holds (set out n k) n l) (sym (append-nil done)) (record {
-      counted = omega (arith, e, s, h);
-      begins = λ r. ap (λ (i : ℕ). take i (set out n k)) e ∙ take-set-le n out n k (omega arith) ∙ ap (λ (i : ℕ). take i out) (sym e) ∙ g .begins (omega arith);
-    })
 
 -- ---- the entries up to j were parted
 pub record PartsTo (keys nodes masks : List ℕ) (s : ℕ) (far₀ : List ℕ) (f₀ : ℕ) (far : List ℕ) (f : ℕ) (kept : List ℕ) (t j : ℕ) : Type 0 where

@@ -23,7 +23,7 @@ use Rattle.links.proofs.Walk.{inner-inside, sourced-at}
 use Rattle.links.proofs.Children.{tree-formed, tree-linked}
 use Rattle.sourced.specs.Room.{Puts}
 use Rattle.sourced.specs.Room.{PutsThose}
-use Rattle.sourced.proofs.Those.{those-none, those-join, those-same, those-one}
+use Rattle.sourced.proofs.Those.{those-none, those-past, those-join, those-same, those-one}
 use Rattle.descent.specs.Steps.{Parent, Siblings}
 use Rattle.descent.specs.Owners.{owns, ownsUnder, ownsWithin}
 use Rattle.descent.proofs.Walk.{parent-owns, leaf-end, siblings-most}
@@ -160,6 +160,56 @@ module _ (d : ℕ) (keys own total links : List ℕ) (t : LinkedTree d keys own 
       none : (y : ℕ) → Mem y keys → ownsWithin keys own from from y ≡ true → ⊥
       none y m h = let (a, b, o) = inside from from (nodeNumber keys y) (owns keys own y) h in omega (arith, a, b)
 
+  -- a run of numbers whose first is the only owner in it
+  one-owner : (c e : ℕ) → c < length keys → c < e → ((j : ℕ) → j < length keys → c ≤ j → j < e → ltb 0 (getD own j 0) ≡ true → c ≡ j) → owns keys own (getD keys c 0) ≡ true
+      → (out out' : List ℕ) (m m' : ℕ) → Puts out m (getD keys c 0 ∷ []) out' m' → PutsThose keys (ownsWithin keys own c e) out m out' m'
+  one-owner c e l h only o out out' m m' put =
+      those-same keys (λ y. eqb (getD keys c 0) y && owns keys own y) (ownsWithin keys own c e) out out' m m' same (those-one keys (owns keys own) (getD keys c 0) apart (c, l, refl) o out out' m m' put)
+    where
+      apart : Rattle.slices.specs.Lists.Distinct keys
+      apart = distinct d keys (tree-formed t .rows .tree .ascending)
+
+      same : (y : ℕ) → Mem y keys → (eqb (getD keys c 0) y && owns keys own y) ≡ ownsWithin keys own c e y
+      same y (j, lj, q) = subst (λ x. (eqb (getD keys c 0) x && owns keys own x) ≡ ownsWithin keys own c e x) q
+          (ap (λ o. eqb (getD keys c 0) (getD keys j 0) && ltb 0 o) (own-of j lj)
+          ∙ same-test (eqb (getD keys c 0) (getD keys j 0) && ltb 0 (getD own j 0)) ((leb c j && ltb j e) && ltb 0 (getD own j 0))
+          (λ g.
+          let z = apart c j l lj (eqb-true (getD keys c 0) (getD keys j 0) (and-l _ _ g)) in
+          insides c e j (ltb 0 (getD own j 0)) (omega arith) (omega arith) (and-r (eqb (getD keys c 0) (getD keys j 0)) _ g))
+          (λ g.
+          let (x, b, w) = inside c e j (ltb 0 (getD own j 0)) g in
+          both (eq-eqb (getD keys c 0) (getD keys j 0) (ap (λ n. getD keys n 0) (only j lj x b w))) w)
+          ∙ sym (within-at c e j lj))
+
+  -- one node after the other: its key is counted if it owns sources
+  module _ (from c : ℕ) (f : from ≤ c) (l : c < length keys) (out₀ out out' : List ℕ) (n m : ℕ) (a : PutsThose keys (ownsWithin keys own from c) out₀ n out m) where
+    next : (m' : ℕ) → PutsThose keys (ownsWithin keys own c (c + 1)) out m out' m' → PutsThose keys (ownsWithin keys own from (c + 1)) out₀ n out' m'
+    next m' b = those-join keys (ownsWithin keys own from c) (ownsWithin keys own c (c + 1)) (ownsWithin keys own from (c + 1)) out₀ out out' n m m'
+        (λ y my. joined from c (c + 1) (nodeNumber keys y) (owns keys own y) f (omega arith)) a b
+
+    pub stored-owner : 0 < getD own c 0 → Puts out m (getD keys c 0 ∷ []) out' (m + 1) → PutsThose keys (ownsWithin keys own from (c + 1)) out₀ n out' (m + 1)
+    stored-owner o put = next (m + 1) (one-owner c (c + 1) l (omega arith) (λ j lj g b w. omega arith) (ap (ltb 0) (own-of c l) ∙ lt-ltb 0 (getD own c 0) o) out out' m (m + 1) put)
+
+    pub stored-past : getD own c 0 ≤ 0 → Puts out m [] out' m → PutsThose keys (ownsWithin keys own from (c + 1)) out₀ n out' m
+    stored-past o put = next m (those-past keys (ownsWithin keys own c (c + 1)) out out' m none put)
+      where
+        none : (y : ℕ) → Mem y keys → ownsWithin keys own c (c + 1) y ≡ true → ⊥
+        none y (j, lj, q) h =
+            let (x, b, w) = inside c (c + 1) j (ltb 0 (getD own j 0)) (sym (within-at c (c + 1) j lj) ∙ subst (λ z. ownsWithin keys own c (c + 1) z ≡ true) (sym q) h) in
+            let z : j ≡ c = omega (arith, x, b) in
+            omega (arith, ltb-true 0 (getD own j 0) w, ap (λ i. getD own i 0) z, o)
+
+  -- all of a run
+  pub run-put : (from c to : ℕ) → c ≤ to → to ≤ c → (out₀ out : List ℕ) (n m : ℕ) → PutsThose keys (ownsWithin keys own from c) out₀ n out m → PutsThose keys (ownsWithin keys own from to) out₀ n out m
+  run-put from c to g h out₀ out n m a = let z : c ≡ to = omega arith in subst (λ x. PutsThose keys (ownsWithin keys own from x) out₀ n out m) z a
+
+  -- and all under a node with children
+  pub cell-stored : (i left to : ℕ) → Parent keys i left → to ≡ nextOf keys total i → (out out' : List ℕ) (n n' : ℕ)
+      → PutsThose keys (ownsWithin keys own i to) out n out' n' → PutsThose keys (ownsUnder d keys own i) out n out' n'
+  cell-stored i left to p e out out' n n' a =
+      those-same keys (ownsWithin keys own i (nextOf keys total i)) (ownsUnder d keys own i) out out' n n' (λ y m. sym (under-within i (p .inside) y m))
+      (subst (λ z. PutsThose keys (ownsWithin keys own i z) out n out' n') e a)
+
   pub goes-on : (c to left r : ℕ) → Siblings d keys own total c to left → c < to → r ≡ nextOf keys total c → c < r
   goes-on c to left r s h e = omega (arith, e, hop-far keys total (tree-linked t) c (omega (arith, siblings-most d keys own total links t c to left s)))
 
@@ -176,24 +226,10 @@ module _ (d : ℕ) (keys own total links : List ℕ) (t : LinkedTree d keys own 
     more-under b = more (those-same keys (ownsUnder d keys own c) (ownsWithin keys own c (nextOf keys total c)) out out' m m' (under-within c here) b)
 
     pub more-leaf : inner keys c ≡ false → Puts out m (getD keys c 0 ∷ []) out' m' → PutsThose keys (ownsWithin keys own from r) out₀ n out' m'
-    more-leaf p put = more (those-same keys (λ y. eqb (getD keys c 0) y && owns keys own y) (ownsWithin keys own c (nextOf keys total c)) out out' m m' same
-        (those-one keys (owns keys own) (getD keys c 0) apart (c, here, refl) (leaf-owns c here p (and-r (childOf d (getD keys (s .cell) 0) (getD keys c 0)) _ (s .child h))) out out' m m' put))
-      where
-        apart : Rattle.slices.specs.Lists.Distinct keys
-        apart = distinct d keys (tree-formed t .rows .tree .ascending)
-
-        same : (y : ℕ) → Mem y keys → (eqb (getD keys c 0) y && owns keys own y) ≡ ownsWithin keys own c (nextOf keys total c) y
-        same y (j, lj, q) = subst (λ x. (eqb (getD keys c 0) x && owns keys own x) ≡ ownsWithin keys own c (nextOf keys total c) x) q
-            (ap (λ o. eqb (getD keys c 0) (getD keys j 0) && ltb 0 o) (own-of j lj)
-            ∙ same-test (eqb (getD keys c 0) (getD keys j 0) && ltb 0 (getD own j 0)) ((leb c j && ltb j (nextOf keys total c)) && ltb 0 (getD own j 0))
-            (λ g.
-            let z = apart c j here lj (eqb-true (getD keys c 0) (getD keys j 0) (and-l _ _ g)) in
-            insides c (nextOf keys total c) j (ltb 0 (getD own j 0)) (omega arith) (omega (arith, e, goes-on c to left r s h e)) (and-r (eqb (getD keys c 0) (getD keys j 0)) _ g))
-            (λ g.
-            let (x, b, o) = inside c (nextOf keys total c) j (ltb 0 (getD own j 0)) g in
-            let z : c ≡ j = omega (arith, x, own-before c j here lj o b, leaf-end keys c here p) in
-            both (eq-eqb (getD keys c 0) (getD keys j 0) (ap (λ n. getD keys n 0) z)) o)
-            ∙ sym (within-at c (nextOf keys total c) j lj))
+    more-leaf p put =
+        more
+        (one-owner c (nextOf keys total c) here (omega (arith, e, goes-on c to left r s h e)) (λ j lj g b o. omega (arith, own-before c j here lj o b, leaf-end keys c here p))
+        (leaf-owns c here p (and-r (childOf d (getD keys (s .cell) 0) (getD keys c 0)) _ (s .child h))) out out' m m' put)
 
   pub all-put : (from c to left : ℕ) → Siblings d keys own total c to left → to ≤ c → (out₀ out : List ℕ) (n m : ℕ) → PutsThose keys (ownsWithin keys own from c) out₀ n out m → PutsThose keys (ownsWithin keys own from to) out₀ n out m
-  all-put from c to left s h out₀ out n m a = let z : c ≡ to = omega (arith, s .most) in subst (λ x. PutsThose keys (ownsWithin keys own from x) out₀ n out m) z a
+  all-put from c to left s h = run-put from c to (s .most) h

@@ -5,7 +5,14 @@ use mathlib.Core.List.{List}
 use Prim.Native.Nat.{ℕ, suc, _+_, _≤_, _<_}
 use lib.ListN.{length, getD}
 use Rattle.morton.specs.Keys.{levelOf}
-use Rattle.links.specs.Links.{nextOf, inner, sourcedChild}
+use Rattle.links.specs.Links.{nextOf, inner, sourcedChild, LinkedTree}
+
+-- the keys and own sources of a tree over some number of axes
+pub record OwnedTree (keys own : List ℕ) : Type 0 where
+  pub axes : ℕ
+  pub total : List ℕ
+  pub links : List ℕ
+  pub linked : LinkedTree axes keys own total links
 
 -- node i has children, and so many levels below its own
 pub record Parent (keys : List ℕ) (i left : ℕ) : Type 0 where

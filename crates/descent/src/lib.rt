@@ -1,11 +1,57 @@
 // The descent of the U rows: the owners under a cell, child by child along the links, in the order of nodes.
-ghost use lib.ListN.{take};
+ghost use mathlib.Core.Path.{_≡_};
+ghost use mathlib.Core.Bool.{_&&_};
+ghost use Prim.Native.Nat.{_+_, _-_, _≤_};
+ghost use lib.Dec.{leb};
+ghost use lib.ListN.{length, take};
 ghost use Rattle.sourced.specs.Room.{PutsThose};
 ghost use Rattle.links.specs.Links.{LinkedTree};
-ghost use Rattle.descent.specs.Steps.{Parent, Siblings, Parents};
+ghost use Rattle.descent.specs.Steps.{OwnedTree, Parent, Siblings, Parents};
 ghost use Rattle.descent.specs.Owners.{ownsUnder, ownsWithin, ownsBelow};
 
-// The cell step: puts the keys of the owners under a node that has children, with so many levels below its own.
+// So many nodes at most are read one after the other, without steps.
+const FEW: usize = 256;
+
+// Whether so many nodes are few, and as many keys have room after n.
+fn are_few(nodes: usize, n: usize, room: usize) -> bool
+    ensures { λ r. ⌜ r ≡ (leb nodes 256 && leb (n + nodes) room) ⌝ }
+{
+    if FEW < nodes {
+        return false;
+    }
+    if room < n {
+        return false;
+    }
+    nodes <= room - n
+}
+
+// Puts the keys of the owners from one number up to another, where there is room for all nodes: each key is stored, and the next one takes its place unless its node owns sources.
+fn store_owners(
+    key: &[u64],
+    own: &[usize],
+    from: usize,
+    to: usize,
+    out: &mut [u64],
+    n: usize,
+) -> usize
+    requires { ⌜ OwnedTree (now key) (now own) × (from ≤ to) × (to ≤ length (now key)) × (n + (to - from) ≤ length (now out)) ⌝ }
+    ensures { λ r. ⌜ PutsThose (now (key .entry)) (ownsWithin (now (key .entry)) (now (own .entry)) from to) (now (out .entry)) n (now (out .exit)) r ⌝ }
+{
+    let mut m = n;
+    let mut c = from;
+    while c < to {
+        out[m] = key[c];
+        if 0 < own[c] {
+            m += 1;
+            c += 1;
+        } else {
+            c += 1;
+        }
+    }
+    m
+}
+
+// The cell step: puts the keys of the owners under a node that has children, with so many levels below its own. Few nodes are read one after the other.
 fn cell_step(
     axes: usize,
     key: &[u64],
@@ -20,8 +66,11 @@ fn cell_step(
     requires { ⌜ LinkedTree axes (now key) (now own) (now total) (now links) × Parent (now key) node left ⌝ }
     ensures { λ r. ⌜ PutsThose (now (key .entry)) (ownsUnder axes (now (key .entry)) (now (own .entry)) node) (now (out .entry)) n (now (out .exit)) r ⌝ }
 {
-    let from = links::first_sourced_child(axes, key, total, links, node);
     let to = links::next_of(axes, key, total, links, node);
+    if are_few(to - node, n, out.len()) {
+        return store_owners(key, own, node, to, out, n);
+    }
+    let from = links::first_sourced_child(axes, key, total, links, node);
     children_step(axes, key, own, total, links, from, to, left - 1, out, n)
 }
 

@@ -11,14 +11,16 @@ use Rattle.sourced.specs.Room.{PutsThose}
 use Rattle.links.proofs.Walk.{inner-inside}
 use Rattle.descent.specs.Steps.{Siblings}
 use Rattle.descent.specs.Owners.{ownsWithin}
-use Rattle.descent.proofs.Walk.{parent-left, siblings-start, sibling-inside, siblings-next, siblings-parent}
-use Rattle.descent.proofs.Owners.{cell-done, none-put, goes-on, more-under, more-leaf, all-put}
+use Rattle.descent.proofs.Walk.{few-fit, parent-left, parent-next, siblings-start, sibling-inside, siblings-next, siblings-parent}
+use Rattle.descent.proofs.Owners.{cell-done, cell-stored, none-put, goes-on, more-under, more-leaf, all-put}
 use Rattle.descent.proofs.cell_step.Reads as cell-step
 use Rattle.descent.proofs.cell_step.Kinds as cell-step-kinds
 use Rattle.descent.proofs.+cell_step+children_step.Lts-cell_step as cell-step-lts
 use Rattle.descent.proofs.children_step.Reads as children-step
 use Rattle.descent.proofs.children_step.Kinds as children-step-kinds
 use Rattle.descent.proofs.+cell_step+children_step.Lts-children_step as children-step-lts
+use Rattle.descent.proofs.are_few.Reads as are-few-reads
+use Rattle.descent.proofs.store_owners.Reads as store-owners-reads
 use Rattle.links.proofs.first_sourced_child.Reads as first-sourced-child-reads
 use Rattle.links.proofs.has_children.Reads as has-children-reads
 use Rattle.links.proofs.next_of.Reads as next-of-reads
@@ -53,29 +55,47 @@ children-step-below t =
 
 -- what each call asks and tells
 abbrev cell-calls : ℕ → cell-step-lts.Claims
-cell-calls t = (first-sourced-child-reads.Asked, first-sourced-child-reads.Learnt, next-of-reads.Asked, next-of-reads.Learnt, children-step-below t, children-step.Post)
+cell-calls t =
+    (next-of-reads.Asked, next-of-reads.Learnt, are-few-reads.Asked, are-few-reads.Learnt, store-owners-reads.Asked, store-owners-reads.Learnt, first-sourced-child-reads.Asked, first-sourced-child-reads.Learnt, children-step-below t, children-step.Post)
 
 abbrev children-calls : ℕ → children-step-lts.Claims
 children-calls t =
     (has-children-reads.Asked, has-children-reads.Learnt, cell-step-below t, cell-step.Post, next-of-reads.Asked, next-of-reads.Learnt, put-reads.Asked, put-reads.Learnt)
 
-cell-step-first-sourced-child-requires : (t : ℕ) → cell-step-lts.Need-first-sourced-child-requires (cell-calls t) (cell-step-at t) cell-step.Post
-cell-step-first-sourced-child-requires t c κs = ((_, c .before .before .before .before .before .pre .1 .0), inner-inside (now (c .before .before .before .before .before .args .key)) (c .before .before .before .before .before .args .node) (c .before .before .before .before .before .pre .1 .1 .children))
-
 cell-step-next-of-requires : (t : ℕ) → cell-step-lts.Need-next-of-requires (cell-calls t) (cell-step-at t) cell-step.Post
-cell-step-next-of-requires t c κs = ((_, c .before .before .before .before .before .before .pre .1 .0), c .before .before .before .before .before .before .pre .1 .1 .inside)
+cell-step-next-of-requires t c κs = ((_, c .before .before .before .before .before .pre .1 .0), c .before .before .before .before .before .pre .1 .1 .inside)
 
-cell-step-sub-children-step : (t : ℕ) → cell-step-lts.Need-sub-children-step (cell-calls t) (cell-step-at t) cell-step.Post
-cell-step-sub-children-step t c = omega (arith, parent-left _ _ _ _ _ (c .before .before .before .before .before .before .before .pre .1 .0) _ _ (c .before .before .before .before .before .before .before .pre .1 .1))
+cell-step-sub-are-few : (t : ℕ) → cell-step-lts.Need-sub-are-few (cell-calls t) (cell-step-at t) cell-step.Post
+cell-step-sub-are-few t c = omega (arith, parent-next _ _ _ _ _ (c .before .before .before .before .before .before .pre .1 .0) _ _ _ (c .before .before .before .before .before .before .pre .1 .1) (c .next-of .ensures) .0)
 
-cell-step-children-step-requires : (t : ℕ) → cell-step-lts.Need-children-step-requires (cell-calls t) (cell-step-at t) cell-step.Post
-cell-step-children-step-requires t c κs = (omega (arith, c .before .before .before .before .before .before .before .before .pre .0, parent-left _ _ _ _ _ (c .before .before .before .before .before .before .before .before .pre .1 .0) _ _ (c .before .before .before .before .before .before .before .before .pre .1 .1)), ((c .before .before .before .before .before .before .before .before .pre .1 .0), siblings-start _ _ _ _ _ (c .before .before .before .before .before .before .before .before .pre .1 .0) _ _ _ _ (c .before .before .before .before .before .before .before .before .pre .1 .1) (c .before .before .first-sourced-child .ensures) (c .before .next-of .ensures)))
+cell-step-are-few-requires : (t : ℕ) → cell-step-lts.Need-are-few-requires (cell-calls t) (cell-step-at t) cell-step.Post
+cell-step-are-few-requires t c κs = search needs
+
+cell-step-store-owners-requires : (t : ℕ) → cell-step-lts.Need-store-owners-requires (cell-calls t) (cell-step-at t) cell-step.Post
+cell-step-store-owners-requires t c κs =
+    let p = parent-next _ _ _ _ _ (c .before .before .before .before .before .before .before .before .before .pre .1 .0) _ _ _ (c .before .before .before .before .before .before .before .before .before .pre .1 .1) (c .before .before .before .next-of .ensures) in
+    (record { axes = _; total = _; links = _; linked = c .before .before .before .before .before .before .before .before .before .pre .1 .0 }, omega (arith, p .0), p .1, few-fit _ _ _ _ (c .before .before .are-few .ensures) (c .before .if1 .taken))
 
 cell-step-same-length : (t : ℕ) → cell-step-lts.Need-same-length (cell-calls t) (cell-step-at t) cell-step.Post
 cell-step-same-length t c = search needs
 
 cell-step-returns : (t : ℕ) → cell-step-lts.Need-returns (cell-calls t) (cell-step-at t) cell-step.Post
-cell-step-returns t c = cell-done _ _ _ _ _ (c .before .before .before .before .before .before .before .before .before .before .before .pre .1 .0) _ _ _ _ (c .before .before .before .before .before .before .before .before .before .before .before .pre .1 .1) (c .before .before .before .before .before .first-sourced-child .ensures) (c .before .before .before .before .next-of .ensures) _ _ _ _ (c .before .before .children-step .ensures)
+cell-step-returns t c = cell-stored _ _ _ _ _ (c .before .before .before .before .before .before .before .before .before .before .before .before .pre .1 .0) _ _ _ (c .before .before .before .before .before .before .before .before .before .before .before .before .pre .1 .1) (c .before .before .before .before .before .before .next-of .ensures) _ _ _ _ (c .before .before .store-owners .ensures)
+
+cell-step-first-sourced-child-requires : (t : ℕ) → cell-step-lts.Need-first-sourced-child-requires (cell-calls t) (cell-step-at t) cell-step.Post
+cell-step-first-sourced-child-requires t c κs = ((_, c .before .before .before .before .before .before .before .before .pre .1 .0), inner-inside (now (c .before .before .before .before .before .before .before .before .args .key)) (c .before .before .before .before .before .before .before .before .args .node) (c .before .before .before .before .before .before .before .before .pre .1 .1 .children))
+
+cell-step-sub-children-step : (t : ℕ) → cell-step-lts.Need-sub-children-step (cell-calls t) (cell-step-at t) cell-step.Post
+cell-step-sub-children-step t c = omega (arith, parent-left _ _ _ _ _ (c .before .before .before .before .before .before .before .before .before .pre .1 .0) _ _ (c .before .before .before .before .before .before .before .before .before .pre .1 .1))
+
+cell-step-children-step-requires : (t : ℕ) → cell-step-lts.Need-children-step-requires (cell-calls t) (cell-step-at t) cell-step.Post
+cell-step-children-step-requires t c κs = (omega (arith, c .before .before .before .before .before .before .before .before .before .before .pre .0, parent-left _ _ _ _ _ (c .before .before .before .before .before .before .before .before .before .before .pre .1 .0) _ _ (c .before .before .before .before .before .before .before .before .before .before .pre .1 .1)), (c .before .before .before .before .before .before .before .before .before .before .pre .1 .0, siblings-start _ _ _ _ _ (c .before .before .before .before .before .before .before .before .before .before .pre .1 .0) _ _ _ _ (c .before .before .before .before .before .before .before .before .before .before .pre .1 .1) (c .before .first-sourced-child .ensures) (c .before .before .before .before .next-of .ensures)))
+
+cell-step-same-length-2 : (t : ℕ) → cell-step-lts.Need-same-length-2 (cell-calls t) (cell-step-at t) cell-step.Post
+cell-step-same-length-2 t c = search needs
+
+cell-step-returns-2 : (t : ℕ) → cell-step-lts.Need-returns-2 (cell-calls t) (cell-step-at t) cell-step.Post
+cell-step-returns-2 t c = cell-done _ _ _ _ _ (c .before .before .before .before .before .before .before .before .before .before .before .before .before .pre .1 .0) _ _ _ _ (c .before .before .before .before .before .before .before .before .before .before .before .before .before .pre .1 .1) (c .before .before .before .before .first-sourced-child .ensures) (c .before .before .before .before .before .before .before .next-of .ensures) _ _ _ _ (c .before .before .children-step .ensures)
 
 abbrev children-step-Inv-loop : children-step-lts.InvT-loop
 children-step-Inv-loop axes key own total links from to left out₀ n m₀ c₀ out m c =
@@ -130,12 +150,17 @@ pub +cell-step+children-step-spec : {M : Type 1} → statement M
 +cell-step+children-step-spec = close μ-cell-step μ-children-step (λ t. cell-step-lts.spec (cell-calls t)
     (cell-step-at t)
     cell-step.Post
-    (cell-step-first-sourced-child-requires t)
     (cell-step-next-of-requires t)
+    (cell-step-sub-are-few t)
+    (cell-step-are-few-requires t)
+    (cell-step-store-owners-requires t)
+    (cell-step-same-length t)
+    (cell-step-returns t)
+    (cell-step-first-sourced-child-requires t)
     (cell-step-sub-children-step t)
     (cell-step-children-step-requires t)
-    (cell-step-same-length t)
-    (cell-step-returns t))
+    (cell-step-same-length-2 t)
+    (cell-step-returns-2 t))
     λ t. children-step-lts.spec (children-calls t)
     (children-step-at t)
     children-step.Post
