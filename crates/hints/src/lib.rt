@@ -1,10 +1,11 @@
-// Hints: node numbers in a table of words by the first bits of a code. Each is tested before it is used, so any table gives the
-// same answer; a wrong one costs time alone.
+// Hints: node numbers in a table of words by the first bits of a code, and a few steps of halving from there. Each is tested before it
+// is used, so any table gives the same answer; a wrong one costs time alone.
 //
 // A word is for a run of codes, the nodes of which begin there. It holds a number in its lowest 23 bits, that of the last node
 // that begins by the run's first code, and then 8 counts of 5 bits, one for each eighth of the run: how many nodes more begin by
-// the eighth's first code. Where nodes crowd, the word is BLOCK and a number that leads to a block of words, which part the run
-// further: with a code's number among the runs of that block's words it gives the place, modulo BLOCK_ROOM, past the first words.
+// the eighth's first code. In a large tree the nodes are counted by 2, 4 or 8. Where nodes crowd, the word is BLOCK and a number
+// that leads to a block of words, which part the run further: with a code's number among the runs of that block's words it gives
+// the place, modulo BLOCK_ROOM, past the first words.
 ghost use mathlib.Core.Path.{_≡_};
 ghost use mathlib.Core.Bool.{true};
 ghost use Prim.Native.Nat.{_+_, _*_, _≤_, _<_};
@@ -29,13 +30,30 @@ const ONES: u64 = 35468117025;
 const FULL: u64 = 1065151889408;
 
 // A look-up of fewer points than one for so many nodes is not worth a table.
-const NODES_A_POINT: usize = 32;
+const NODES_A_POINT: usize = 6;
 
-// How the table is read: blocks lie so deep in each other, and an eighth of the run of a block's word has 2^low codes. Those
-// numbers stand in the plan, 6 bits each, the first blocks' lowest.
+// Blocks that leave less room than this are the last ones.
+const LITTLE_ROOM: usize = 768;
+
+// So many codes at most are looked up to see how close the table leads.
+const PROBES: usize = 64;
+
+// How a table is read. Blocks lie so deep in each other, and an eighth of the run of a block's word has 2^low codes: those numbers
+// stand in the plan, 6 bits each, the first blocks' lowest. Nodes are counted by 2^unit. From the table's number to the node it is
+// mostly no more than so many steps of halving.
 pub struct Blocks {
     pub plan: u64,
     pub deep: u64,
+    pub unit: u64,
+    pub steps: u64,
+}
+
+// How words are filled: an eighth of a word's run has 2^low codes; more than a few nodes in a row that begin inside an eighth are a
+// crowd; nodes whose number has a bit of the mask are not counted.
+struct Runs {
+    low: u64,
+    few: usize,
+    mask: u64,
 }
 
 // ---- a word
@@ -55,13 +73,15 @@ struct Part {
     run: usize,
 }
 
-// With a node more that begins by this eighth.
-fn counted(part: Part, eighth: u64, run: usize) -> Part
+// With a node more that begins by this eighth, counted if nothing is odd about its number.
+fn counted(part: Part, eighth: u64, odd: u64, run: usize) -> Part
     requires { ⌜ eighth ≤ 8 ⌝ }
 {
     let mut counts = part.counts;
-    if counts < FULL {
-        counts = (counts + (ONES << (5 * eighth)) % 1099511627776) % 1099511627776;
+    if odd < 1 {
+        if counts < FULL {
+            counts = (counts + (ONES << (5 * eighth)) % 1099511627776) % 1099511627776;
+        }
     }
     Part {
         begin: part.begin,
@@ -70,19 +90,30 @@ fn counted(part: Part, eighth: u64, run: usize) -> Part
     }
 }
 
+// A number without its bits in a mask.
+fn rounded(number: u64, mask: u64) -> u64 {
+    number ^ number & mask
+}
+
 // With a node more that begins so far past the run's first code.
-fn with_node(part: Part, node: usize, far: u64, low: u64) -> Part
-    requires { ⌜ low < 61 ⌝ }
+fn with_node(part: Part, node: u64, far: u64, runs: Runs) -> Part
+    requires { ⌜ runs .low < 61 ⌝ }
 {
-    let eighth = (far >> low) % 8;
-    if far != eighth << low {
-        return counted(part, eighth + 1, std::num::wrapping_add_usize(part.run, 1));
+    let eighth = (far >> runs.low) % 8;
+    let odd = node & runs.mask;
+    if far != eighth << runs.low {
+        return counted(
+            part,
+            eighth + 1,
+            odd,
+            std::num::wrapping_add_usize(part.run, 1),
+        );
     }
     if eighth != 0 {
-        return counted(part, eighth, 0);
+        return counted(part, eighth, odd, 0);
     }
     Part {
-        begin: node as u64,
+        begin: rounded(node, runs.mask),
         counts: part.counts,
         run: 0,
     }
@@ -158,27 +189,26 @@ fn run_end(axes: usize, key: &[u64], from: usize, start: u64, low: u64) -> usize
     end_within(axes, key, last, step, start, low)
 }
 
-// The word of the run from this code on whose eighths have 2^low codes; the nodes before `from` begin before it. Where more than a
-// few nodes in a row begin inside an eighth, it is crowded.
-fn word_from(axes: usize, key: &[u64], from: usize, start: u64, low: u64, few: usize) -> Word
-    requires { ⌜ (axes ≤ 3) × (low < 61) ⌝ }
+// The word of the run from this code on; the nodes before `from` begin before it. Where nodes crowd, it is crowded.
+fn word_from(axes: usize, key: &[u64], from: usize, start: u64, runs: Runs) -> Word
+    requires { ⌜ (axes ≤ 3) × (runs .low < 61) ⌝ }
 {
     let mut part = Part {
-        begin: number_before(from),
+        begin: rounded(number_before(from), runs.mask),
         counts: 0,
         run: 0,
     };
     let mut node = from;
     while node < key.len() {
         let far = far_past(axes, key[node], start);
-        if 8 <= far >> low {
+        if 8 <= far >> runs.low {
             return word_of(part, node);
         }
-        part = with_node(part, node, far, low);
-        if few < part.run {
+        part = with_node(part, node as u64, far, runs);
+        if runs.few < part.run {
             return Word {
                 word: CROWDED + (from % MOST_NODES) as u64,
-                end: run_end(axes, key, node, start, low),
+                end: run_end(axes, key, node, start, runs.low),
             };
         }
         node += 1;
@@ -197,19 +227,18 @@ fn fill(
     size: usize,
     from: usize,
     start: u64,
-    low: u64,
-    few: usize,
+    runs: Runs,
 )
-    requires { ⌜ (axes ≤ 3) × (low < 61) × (base + size ≤ 12288) ⌝ }
+    requires { ⌜ (axes ≤ 3) × (runs .low < 61) × (base + size ≤ 12288) ⌝ }
 {
     let mut node = from;
     let mut code = start;
     let mut at = 0;
     while at < size {
-        let word = word_from(axes, key, node, code, low, few);
+        let word = word_from(axes, key, node, code, runs);
         words[base + at] = word.word;
         node = word.end;
-        code = std::num::wrapping_add_u64(code, 8 << low);
+        code = std::num::wrapping_add_u64(code, 8 << runs.low);
         at += 1;
     }
 }
@@ -229,37 +258,52 @@ fn fill_block(
     word: u64,
     base: usize,
     size: usize,
-    low: u64,
     bits: u64,
-    few: usize,
+    runs: Runs,
 ) -> u64
-    requires { ⌜ (axes ≤ 3) × (low + bits < 61) × (base + size ≤ 12288) ⌝ }
+    requires { ⌜ (axes ≤ 3) × (runs .low + bits < 61) × (base + size ≤ 12288) ⌝ }
 {
     let from = (word % 8388608) as usize;
     if key.len() <= from {
         return 0;
     }
-    let high = low + bits + 3;
+    let high = runs.low + bits + 3;
     let start = (first_of(axes, key[from]) >> high) << high;
-    fill(axes, key, words, base, size, from, start, low, few);
-    block_at(base, start >> (low + 3))
+    fill(axes, key, words, base, size, from, start, runs);
+    block_at(base, start >> (runs.low + 3))
 }
 
-// Makes blocks of the crowded words from `begin` up to `end`, past them; answers where those end, or a number past the last word
-// where they have no room.
+// The words of a block that takes so many bits, 8 at most.
+fn size_of(bits: u64) -> usize
+    ensures { λ r. ⌜ (1 ≤ r) × (r ≤ 256) ⌝ }
+{
+    match bits {
+        0 => 1,
+        1 => 2,
+        2 => 4,
+        3 => 8,
+        4 => 16,
+        5 => 32,
+        6 => 64,
+        7 => 128,
+        _ => 256,
+    }
+}
+
+// Makes blocks of the crowded words from `begin` up to `end`, past them, as long as there is room; answers where those end.
 fn part_words(
     axes: usize,
     key: &[u64],
     words: &mut [u64; WORDS],
     begin: usize,
     end: usize,
-    size: usize,
-    low: u64,
     bits: u64,
-    few: usize,
+    runs: Runs,
 ) -> usize
-    requires { ⌜ (axes ≤ 3) × (low + bits < 61) × (end ≤ 12288) × (size ≤ 8192) ⌝ }
+    requires { ⌜ (axes ≤ 3) × (runs .low + bits < 61) × (end ≤ 12288) ⌝ }
+    ensures { λ r. ⌜ r ≤ 12288 ⌝ }
 {
+    let size = size_of(bits);
     let mut used = end;
     let mut at = begin;
     while at < end {
@@ -268,9 +312,9 @@ fn part_words(
             at += 1;
         } else {
             if WORDS - size < used {
-                return WORDS + 1;
+                return used;
             }
-            words[at] = fill_block(axes, key, words, word, used, size, low, bits, few);
+            words[at] = fill_block(axes, key, words, word, used, size, bits, runs);
             used += size;
             at += 1;
         }
@@ -278,12 +322,52 @@ fn part_words(
     used
 }
 
-// How many nodes may crowd in a word: any number where an eighth of its run is one code.
-fn few_at(low: u64, few: usize) -> usize {
+// A crowded word, filled as any other.
+fn plain_word(axes: usize, key: &[u64], word: u64, runs: Runs) -> u64
+    requires { ⌜ (axes ≤ 3) × (runs .low < 60) ⌝ }
+{
+    let from = (word % 8388608) as usize;
+    if key.len() <= from {
+        return 0;
+    }
+    let high = runs.low + 3;
+    let start = (first_of(axes, key[from]) >> high) << high;
+    word_from(axes, key, from, start, runs).word
+}
+
+// Fills the crowded words from `begin` up to `end`, for which there is no room, as any other.
+fn leave_crowded(
+    axes: usize,
+    key: &[u64],
+    words: &mut [u64; WORDS],
+    begin: usize,
+    end: usize,
+    runs: Runs,
+)
+    requires { ⌜ (axes ≤ 3) × (runs .low < 60) × (end ≤ 12288) ⌝ }
+{
+    let mut at = begin;
+    while at < end {
+        let word = words[at];
+        if word < CROWDED {
+            at += 1;
+        } else {
+            words[at] = plain_word(axes, key, word, runs);
+            at += 1;
+        }
+    }
+}
+
+// How many nodes are no crowd yet in the words that come next: any number where no blocks come after them, as there is little room
+// or an eighth of their runs is one code.
+fn few_at(low: u64, room: usize) -> usize {
     if low < 1 {
         return MOST_NODES;
     }
-    few
+    if room < LITTLE_ROOM {
+        return MOST_NODES;
+    }
+    1
 }
 
 // The first bits of a code choose one of so many first words: on one axis 13 bits, else 12.
@@ -307,89 +391,25 @@ fn top_low(axes: usize) -> u64
     16 * axes as u64 - 15
 }
 
-// The same in a block of such a word.
-fn lower(low: u64, bits: u64) -> u64
-    ensures { λ r. ⌜ (r ≤ low) × (1 ≤ bits → 1 ≤ low → r < low) ⌝ }
-{
-    if low < bits {
-        return 0;
-    }
-    low - bits
-}
-
 // Fills the first words.
-fn fill_tops(axes: usize, key: &[u64], words: &mut [u64; WORDS], few: usize)
+fn fill_tops(axes: usize, key: &[u64], words: &mut [u64; WORDS], mask: u64)
     requires { ⌜ axes ≤ 3 ⌝ }
 {
     let low = top_low(axes);
-    fill(axes, key, words, 0, tops(axes), 0, 0, low, few_at(low, few));
+    let runs = Runs {
+        low,
+        few: few_at(low, WORDS),
+        mask,
+    };
+    fill(axes, key, words, 0, tops(axes), 0, 0, runs);
 }
 
-// The words of a block that takes so many bits, 13 at most.
-fn size_of(bits: u64) -> usize
-    ensures { λ r. ⌜ (1 ≤ r) × (r ≤ 8192) ⌝ }
-{
-    match bits {
-        0 => 1,
-        1 => 2,
-        2 => 4,
-        3 => 8,
-        4 => 16,
-        5 => 32,
-        6 => 64,
-        7 => 128,
-        8 => 256,
-        9 => 512,
-        10 => 1024,
-        11 => 2048,
-        12 => 4096,
-        _ => 8192,
-    }
-}
-
-// Whether a table could be filled.
-fn is_filled(blocks: Blocks) -> bool {
-    blocks.deep < 64
-}
-
-// Fills the table with blocks for words that more than a few nodes crowd in. How many bits they take at each depth stands in
-// `steps`, 4 bits each, the first blocks' lowest. Where they have no room, the answer's depth is 64.
-fn fill_table(axes: usize, key: &[u64], words: &mut [u64; WORDS], steps: u64, few: usize) -> Blocks
-    requires { ⌜ axes ≤ 3 ⌝ }
-{
-    fill_tops(axes, key, words, few);
-    let mut low = top_low(axes);
-    let mut begin = 0;
-    let mut end = tops(axes);
-    let mut rest = steps;
-    let mut plan = 0;
-    let mut deep = 0;
-    while deep < 10 {
-        let bits = rest % 16;
-        low = lower(low, bits);
-        let most = few_at(low, few);
-        let used = part_words(axes, key, words, begin, end, size_of(bits), low, bits, most);
-        if WORDS < used {
-            return Blocks { plan: 0, deep: 64 };
-        }
-        if used <= end {
-            return Blocks { plan, deep };
-        }
-        plan = plan | low << (6 * deep);
-        deep += 1;
-        rest = rest / 16;
-        begin = end;
-        end = used;
-    }
-    Blocks { plan, deep }
-}
-
-// How many of the first words are crowded.
-fn count_crowded(words: &[u64; WORDS], end: usize) -> usize
+// How many of the words from `begin` up to `end` are crowded.
+fn count_crowded(words: &[u64; WORDS], begin: usize, end: usize) -> usize
     requires { ⌜ end ≤ 12288 ⌝ }
 {
     let mut count = 0;
-    let mut at = 0;
+    let mut at = begin;
     while at < end {
         if CROWDED <= words[at] {
             count += 1;
@@ -401,31 +421,27 @@ fn count_crowded(words: &[u64; WORDS], end: usize) -> usize
     count
 }
 
-// Whether a table is worth while for a look-up of so many points, and numbers are small enough for it.
-fn is_worth(nodes: usize, points: usize) -> bool {
-    if MOST_NODES < nodes {
-        return false;
+// The room that blocks of so many bits may take: large ones part of it, since more blocks come after them.
+fn share_of(room: usize, bits: u64) -> usize {
+    if bits < 6 {
+        return room;
     }
-    nodes / NODES_A_POINT <= points
+    if bits < 7 {
+        return room / 4;
+    }
+    room / 8
 }
 
-// The most bits that a block takes in a table of so many nodes.
-fn most_bits(nodes: usize) -> u64
-    ensures { λ r. ⌜ (3 ≤ r) × (r ≤ 8) ⌝ }
+// The bits that so many blocks take, 8 at most and as many as there are; 0 where there are no blocks or no room for them.
+fn bits_for(crowded: usize, room: usize, low: u64) -> u64
+    ensures { λ r. ⌜ (r ≤ 8) × (r ≤ low) ⌝ }
 {
-    if 8192 < nodes {
-        return 6;
+    if crowded < 1 {
+        return 0;
     }
-    8
-}
-
-// The bits that a block takes at first, where so many of the first words become blocks.
-fn first_bits(nodes: usize, blocks: usize) -> u64
-    ensures { λ r. ⌜ (3 ≤ r) × (r ≤ 8) ⌝ }
-{
-    let mut bits = most_bits(nodes);
-    while 3 < bits {
-        if blocks <= 8192 / size_of(bits) {
+    let mut bits = smaller(low, 8);
+    while 0 < bits {
+        if crowded <= share_of(room, bits) / size_of(bits) {
             return bits;
         }
         bits -= 1;
@@ -433,35 +449,10 @@ fn first_bits(nodes: usize, blocks: usize) -> u64
     bits
 }
 
-// A table that is read without blocks.
-fn no_blocks() -> Blocks {
-    Blocks { plan: 0, deep: 0 }
-}
-
-// ---- steps for a table that fits
-
-// Two nodes that begin at a and b, one after the other, crowd in a word if it is for both and neither begins an eighth of it:
-// from this number on, if the eighths have 2 to its power of codes.
-fn crowds_from(a: u64, b: u64) -> u64 {
-    let apart = wide(u64::leading_zeros(a ^ b));
-    let inner = larger(wide(u64::trailing_zeros(a)), wide(u64::trailing_zeros(b)));
-    larger(std::num::wrapping_add_u64(inner, 1), rest_of(61, apart))
-}
-
-fn wide(x: u32) -> u64 {
-    x as u64
-}
-
-fn larger(a: u64, b: u64) -> u64 {
-    if a < b { b } else { a }
-}
-
-// a less b, or 0.
-fn rest_of(a: u64, b: u64) -> u64 {
-    if a < b {
-        return 0;
-    }
-    a - b
+fn smaller(a: u64, b: u64) -> u64
+    ensures { λ r. ⌜ (r ≤ a) × (r ≤ b) ⌝ }
+{
+    if a < b { a } else { b }
 }
 
 // The room that is left after so many words.
@@ -472,165 +463,112 @@ fn rest_of_room(room: usize, words: usize) -> usize {
     room - words
 }
 
-// Counts the words that a node crowds in with the one before, one for each `low` up to the top's; those that were counted for an
-// earlier node were so for every higher `low` too.
-fn count_words(code: u64, from: u64, top: u64, crowded: &mut [usize; 64], last: &mut [u64; 64])
-    requires { ⌜ top < 61 ⌝ }
+// Fills the table, which counts nodes by 2^unit; how many steps of halving come after it stays open.
+fn fill_table(axes: usize, key: &[u64], words: &mut [u64; WORDS], unit: u64) -> Blocks
+    requires { ⌜ (axes ≤ 3) × (unit < 4) ⌝ }
 {
-    let mut low = from;
-    while low <= top {
-        let at = low as usize;
-        let word = std::num::wrapping_add_u64((code >> low) / 8, 1);
-        if last[at] == word {
-            return;
-        }
-        last[at] = word;
-        crowded[at] = std::num::wrapping_add_usize(crowded[at], 1);
-        low += 1;
-    }
-}
-
-// For each `low` up to the top's, how many words would be crowded if the eighths of all had 2^low codes.
-fn count_all(axes: usize, key: &[u64], top: u64, crowded: &mut [usize; 64])
-    requires { ⌜ (axes ≤ 3) × (top < 61) ⌝ }
-{
-    let mut last = [0u64; 64];
-    let mut code = 0;
-    let mut node = 1;
-    while node < key.len() {
-        let next = first_of(axes, key[node]);
-        count_words(next, crowds_from(code, next), top, crowded, &mut last);
-        code = next;
-        node += 1;
-    }
-}
-
-// The highest `low` at which, and below which, hardly a word would be crowded.
-fn finest(crowded: &[usize; 64], top: u64) -> u64
-    requires { ⌜ top < 61 ⌝ }
-    ensures { λ r. ⌜ r ≤ top ⌝ }
-{
-    let mut low = 0;
-    while low < top {
-        if 16 < crowded[low as usize + 1] {
-            return low;
-        }
-        low += 1;
-    }
-    low
-}
-
-// Whether blocks may take so many words: five eighths of the room, or all of it if they are the first blocks.
-fn may_take(words: usize, room: usize, first: bool) -> bool {
-    if first {
-        return words <= room;
-    }
-    words <= room / 8 * 5
-}
-
-// The most bits, 13 at most, that the blocks whose words have eighths of 2^to codes may take; 0 if none.
-fn bits_down_to(crowded: &[usize; 64], to: u64, top: u64, room: usize) -> u64
-    requires { ⌜ (to < top) × (top < 61) ⌝ }
-    ensures { λ r. ⌜ (r ≤ 13) × (to + r ≤ top) ⌝ }
-{
-    let mut most = 0;
-    let mut bits = 1;
-    while bits < 14 {
-        let from = to + bits;
-        if top < from {
-            return most;
-        }
-        if may_take(crowded[from as usize] << bits, room, from == top) {
-            most = bits;
-            bits += 1;
-        } else {
-            bits += 1;
-        }
-    }
-    most
-}
-
-// Steps for `fill_table`, found from the finest blocks up to the first ones; after them, for the few words that are crowded still,
-// steps of 3 bits, for which 512 words are left. 0 if none fit.
-fn steps_for(axes: usize, key: &[u64]) -> u64
-    requires { ⌜ axes ≤ 3 ⌝ }
-{
-    let top = top_low(axes);
-    let mut crowded = [0usize; 64];
-    count_all(axes, key, top, &mut crowded);
-    let mut to = finest(&crowded, top);
-    let mut room = 7680;
-    let mut steps = 0x3333_3333;
-    while to < top {
-        let bits = bits_down_to(&crowded, to, top, room);
+    let mask = std::num::wrapping_sub_u64(1 << unit, 1);
+    fill_tops(axes, key, words, mask);
+    let mut low = top_low(axes);
+    let mut begin = 0;
+    let mut end = tops(axes);
+    let mut plan = 0;
+    let mut deep = 0;
+    while deep < 10 {
+        let crowded = count_crowded(words, begin, end);
+        let room = WORDS - end;
+        let bits = bits_for(crowded, room, low);
         if bits < 1 {
-            return 0;
+            leave_crowded(
+                axes,
+                key,
+                words,
+                begin,
+                end,
+                Runs {
+                    low,
+                    few: MOST_NODES,
+                    mask,
+                },
+            );
+            return Blocks {
+                plan,
+                deep,
+                unit,
+                steps: 0,
+            };
         }
-        to += bits;
-        room = rest_of_room(room, crowded[to as usize] << bits);
-        steps = steps << 4 | bits;
+        low = low - bits;
+        let few = few_at(low, rest_of_room(room, crowded << bits));
+        let used = part_words(axes, key, words, begin, end, bits, Runs { low, few, mask });
+        plan = plan | low << (6 * deep);
+        deep += 1;
+        begin = end;
+        end = used;
     }
-    steps
-}
-
-// Fills the table with blocks of 3 bits, for words that so many nodes crowd in that they have room.
-fn fill_coarsely(axes: usize, key: &[u64], words: &mut [u64; WORDS]) -> Blocks
-    requires { ⌜ axes ≤ 3 ⌝ }
-{
-    let mut few = 1;
-    while few < MOST_NODES {
-        let blocks = fill_table(axes, key, words, each_step(3), few);
-        if is_filled(blocks) {
-            return blocks;
-        }
-        few = few + few + 1;
-    }
-    no_blocks()
-}
-
-// So many bits at each step.
-fn each_step(bits: u64) -> u64 {
-    bits % 16 * 0x1111_1111_1111_1111
-}
-
-// Fills the table for a look-up of so many points, and says how to read it; where that is not worth while, not at all. First with
-// blocks of one size, the larger the less deep they lie; where they have no room, with blocks of a size for each depth; and then
-// with fewer ones.
-pub fn prepare(axes: usize, key: &[u64], points: usize, words: &mut [u64; WORDS]) -> Blocks
-    requires { ⌜ axes ≤ 3 ⌝ }
-{
-    if !is_worth(key.len(), points) {
-        return no_blocks();
-    }
-    fill_tops(axes, key, words, 1);
-    let crowded = count_crowded(words, tops(axes));
-    if crowded < 1 {
-        return no_blocks();
-    }
-    let blocks = fill_table(
+    leave_crowded(
         axes,
         key,
         words,
-        each_step(first_bits(key.len(), crowded)),
-        1,
+        begin,
+        end,
+        Runs {
+            low,
+            few: MOST_NODES,
+            mask,
+        },
     );
-    if is_filled(blocks) {
-        return blocks;
+    Blocks {
+        plan,
+        deep,
+        unit,
+        steps: 0,
     }
-    let steps = steps_for(axes, key);
-    if steps != 0 {
-        let fitted = fill_table(axes, key, words, steps, 1);
-        if is_filled(fitted) {
-            return fitted;
-        }
+}
+
+// Whether a table is worth while for a look-up of so many points, and numbers are small enough for it.
+fn is_worth(nodes: usize, points: usize) -> bool {
+    if MOST_NODES < nodes {
+        return false;
     }
-    fill_coarsely(axes, key, words)
+    nodes / NODES_A_POINT <= points
+}
+
+// By 2 to which power the nodes of a tree are counted: a word counts 31 at most.
+fn unit_for(nodes: usize) -> u64
+    ensures { λ r. ⌜ r < 4 ⌝ }
+{
+    if nodes < 65536 {
+        return 0;
+    }
+    if nodes < 131072 {
+        return 1;
+    }
+    if nodes < 200000 {
+        return 2;
+    }
+    3
+}
+
+// The table for a look-up of so many points; where that is not worth while, one without a number.
+fn table_for(axes: usize, key: &[u64], points: usize, words: &mut [u64; WORDS]) -> Blocks
+    requires { ⌜ axes ≤ 3 ⌝ }
+{
+    if is_worth(key.len(), points) {
+        return fill_table(axes, key, words, unit_for(key.len()));
+    }
+    Blocks {
+        plan: 0,
+        deep: 0,
+        unit: 0,
+        steps: 0,
+    }
 }
 
 // ---- the hint
 
 // The table's number for a code. Each code takes as many turns, so that the turns can be foreseen.
-pub fn hint_of(axes: usize, words: &[u64; WORDS], blocks: Blocks, code: u64) -> usize
+fn number_at(axes: usize, words: &[u64; WORDS], blocks: Blocks, code: u64) -> usize
     requires { ⌜ axes ≤ 3 ⌝ }
 {
     let mut low = top_low(axes);
@@ -651,5 +589,131 @@ pub fn hint_of(axes: usize, words: &[u64; WORDS], blocks: Blocks, code: u64) -> 
         }
     }
     let eighth = (code >> low) % 8;
-    (word % 8388608 + (word >> (23 + 5 * eighth)) % 32) as usize
+    let count = (word >> (23 + 5 * eighth)) % 32;
+    (word % 8388608 + (count << blocks.unit % 4) % 256) as usize
+}
+
+// 1 if a node begins by a code, 0 if not: reckoned and not asked, since the answer cannot be foreseen.
+fn begins_by(axes: usize, k: u64, code: u64) -> u64
+    requires { ⌜ axes ≤ 3 ⌝ }
+{
+    std::num::wrapping_sub_u64(code, first_of(axes, k)) >> 63 ^ 1
+}
+
+// A node's number, or the last one's.
+fn at_most(node: usize, last: usize) -> usize
+    ensures { λ r. ⌜ r ≤ last ⌝ }
+{
+    if node < last { node } else { last }
+}
+
+// The last node that begins by a code, where it is less than 2 to so many steps past `from`: by halving.
+fn close_to(axes: usize, key: &[u64], from: usize, steps: u64, code: u64) -> usize
+    requires { ⌜ axes ≤ 3 ⌝ }
+{
+    if key.len() < 1 {
+        return 0;
+    }
+    let last = key.len() - 1;
+    let mut at = from;
+    let mut left = steps % 32;
+    while 0 < left {
+        left -= 1;
+        let next = at_most(std::num::wrapping_add_usize(at, 1 << left), last);
+        let more = begins_by(axes, key[next], code) << left;
+        at = std::num::wrapping_add_usize(at, more as usize);
+    }
+    at_most(at, last)
+}
+
+// A number that is mostly the leaf's that holds a code.
+pub fn hint_of(axes: usize, key: &[u64], words: &[u64; WORDS], blocks: Blocks, code: u64) -> usize
+    requires { ⌜ axes ≤ 3 ⌝ }
+{
+    let from = number_at(axes, words, blocks, code);
+    close_to(axes, key, from, blocks.steps, code)
+}
+
+// ---- how many steps
+
+fn wide(x: u32) -> u64 {
+    x as u64
+}
+
+// a less b, or 0.
+fn rest_of(a: u64, b: u64) -> u64 {
+    if a < b {
+        return 0;
+    }
+    a - b
+}
+
+// The steps from one number to another: as many as their difference has bits.
+fn steps_between(from: usize, to: usize) -> u64 {
+    if to < from {
+        return 0;
+    }
+    rest_of(64, wide(u64::leading_zeros((to - from) as u64)))
+}
+
+// Counts for each number of steps the codes that take so many from the table's number, of some of the first n; answers of how many.
+fn count_steps(
+    axes: usize,
+    key: &[u64],
+    words: &[u64; WORDS],
+    blocks: Blocks,
+    codes: &[u64],
+    n: usize,
+    counts: &mut [usize; 64],
+) -> usize
+    requires { ⌜ (axes ≤ 3) × (n ≤ length (now codes)) × (n ≤ 1048576) ⌝ }
+{
+    let far = n / PROBES + 1;
+    let mut probes: usize = 0;
+    let mut row = 0;
+    while row < n {
+        let code = codes[row];
+        let node = close_to(axes, key, 0, 23, code);
+        let steps = steps_between(number_at(axes, words, blocks, code), node);
+        let at = (steps % 64) as usize;
+        counts[at] = std::num::wrapping_add_usize(counts[at], 1);
+        probes = std::num::wrapping_add_usize(probes, 1);
+        row += far;
+    }
+    probes
+}
+
+// The fewest steps, 23 at most, that all but a twelfth of the codes do with.
+fn fewest_steps(counts: &[usize; 64], probes: usize) -> u64 {
+    let mut more: usize = 0;
+    let mut steps: u64 = 23;
+    while 0 < steps {
+        more = std::num::wrapping_add_usize(more, counts[steps as usize]);
+        if probes / 12 < more {
+            return steps;
+        }
+        steps -= 1;
+    }
+    steps
+}
+
+// Fills the table for a look-up of the first n codes, and says how to read it.
+pub fn prepare(
+    axes: usize,
+    key: &[u64],
+    codes: &[u64],
+    n: usize,
+    words: &mut [u64; WORDS],
+) -> Blocks
+    requires { ⌜ (axes ≤ 3) × (n ≤ length (now codes)) × (n ≤ 1048576) ⌝ }
+{
+    let blocks = table_for(axes, key, n, words);
+    let mut counts = [0usize; 64];
+    let probes = count_steps(axes, key, words, blocks, codes, n, &mut counts);
+    Blocks {
+        plan: blocks.plan,
+        deep: blocks.deep,
+        unit: blocks.unit,
+        steps: fewest_steps(&counts, probes),
+    }
 }

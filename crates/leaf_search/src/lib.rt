@@ -112,7 +112,19 @@ fn is_leaf_of(axes: usize, key: &[u64], node: usize, code: u64) -> bool
     leaf_holds(axes, key, node, code)
 }
 
-// The leaf that holds a code, from any number: soonest if it is that node, or the next.
+// The leaf that holds a code, by a search from any number.
+pub fn leaf_by_search(axes: usize, key: &[u64], hint: usize, code: u64) -> Found
+    requires { ⌜ TreeKeys axes (now key) ⌝ }
+    ensures { λ r. ⌜ r ≡ leafOf axes (now (key .entry)) code ⌝ }
+{
+    let node = last_from(axes, key, hint, code);
+    if leaf_holds(axes, key, node, code) {
+        return Found::At(node);
+    }
+    Found::Nothing
+}
+
+// The same; soonest if it is the node of that number.
 pub fn leaf_from(axes: usize, key: &[u64], hint: usize, code: u64) -> Found
     requires { ⌜ TreeKeys axes (now key) ⌝ }
     ensures { λ r. ⌜ r ≡ leafOf axes (now (key .entry)) code ⌝ }
@@ -120,13 +132,5 @@ pub fn leaf_from(axes: usize, key: &[u64], hint: usize, code: u64) -> Found
     if is_leaf_of(axes, key, hint, code) {
         return Found::At(hint);
     }
-    let next = std::num::wrapping_add_usize(hint, 1);
-    if is_leaf_of(axes, key, next, code) {
-        return Found::At(next);
-    }
-    let node = last_from(axes, key, hint, code);
-    if leaf_holds(axes, key, node, code) {
-        return Found::At(node);
-    }
-    Found::Nothing
+    leaf_by_search(axes, key, hint, code)
 }

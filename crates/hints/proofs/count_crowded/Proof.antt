@@ -7,10 +7,10 @@ use Rattle.hints.proofs.count_crowded.Reads as reads
 use Rattle.hints.proofs.count_crowded.Lts as lts
 
 abbrev Inv-loop : tie.InvT-loop
-Inv-loop words end count₀ at₀ count at = count ≤ at
+Inv-loop words begin end count₀ at₀ count at = count ≤ at
 
 abbrev μ-loop : tie.MeasureT-loop
-μ-loop words end count₀ at₀ count at = end - at
+μ-loop words begin end count₀ at₀ count at = end - at
 
 loop-holds : tie.Need-loop-holds Inv-loop μ-loop
 loop-holds c = search needs

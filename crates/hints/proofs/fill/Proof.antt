@@ -9,10 +9,10 @@ use Rattle.std.proofs.num.wrapping_add_u64.Reads as wrapping-add-u64-reads
 use Rattle.hints.proofs.word_from.Reads as word-from-reads
 
 abbrev Inv-loop : tie.InvT-loop
-Inv-loop axes key words₀ base size from start low few node₀ code₀ at₀ words node code at = 0 ≤ 0
+Inv-loop axes key words₀ base size from start runs node₀ code₀ at₀ words node code at = 0 ≤ 0
 
 abbrev μ-loop : tie.MeasureT-loop
-μ-loop axes key words₀ base size from start low few node₀ code₀ at₀ words node code at = size - at
+μ-loop axes key words₀ base size from start runs node₀ code₀ at₀ words node code at = size - at
 
 loop-holds : tie.Need-loop-holds Inv-loop μ-loop
 loop-holds c = search needs

@@ -6,12 +6,16 @@ use Rattle.hints.proofs.part_words.Tie as tie
 use Rattle.hints.proofs.part_words.Reads as reads
 use Rattle.hints.proofs.part_words.Lts as lts
 use Rattle.hints.proofs.fill_block.Reads as fill-block-reads
+use Rattle.hints.proofs.size_of.Reads as size-of-reads
 
 abbrev Inv-loop : tie.InvT-loop
-Inv-loop axes key words₀ begin end size low bits few used₀ at₀ words used at = used ≤ 12288
+Inv-loop axes key words₀ begin end bits runs size used₀ at₀ words used at = (used ≤ 12288) × (1 ≤ size) × (size ≤ 256)
 
 abbrev μ-loop : tie.MeasureT-loop
-μ-loop axes key words₀ begin end size low bits few used₀ at₀ words used at = end - at
+μ-loop axes key words₀ begin end bits runs size used₀ at₀ words used at = end - at
+
+size-of-requires : tie.Need-size-of-requires Inv-loop μ-loop
+size-of-requires c κs = search needs
 
 loop-holds : tie.Need-loop-holds Inv-loop μ-loop
 loop-holds c = search needs
@@ -33,9 +37,6 @@ loop-again c = search needs
 
 sub-if2 : tie.Need-sub-if2 Inv-loop μ-loop
 sub-if2 c = search needs
-
-add-result : tie.Need-add-result Inv-loop μ-loop
-add-result c = search needs
 
 returns : tie.Need-returns Inv-loop μ-loop
 returns c = search needs
@@ -66,4 +67,4 @@ returns-2 c = search needs
 
 pub part-words-spec : {M : Type 1} → statement M
 part-words-spec =
-    tie.close (tie.spec Inv-loop μ-loop loop-holds mul-word element-copy-out-word add-at loop-less loop-again sub-if2 add-result returns fill-block-requires mul-words element-write-words add-used add-at-2 loop-less-2 loop-again-2 returns-2)
+    tie.close (tie.spec Inv-loop μ-loop size-of-requires loop-holds mul-word element-copy-out-word add-at loop-less loop-again sub-if2 returns fill-block-requires mul-words element-write-words add-used add-at-2 loop-less-2 loop-again-2 returns-2)

@@ -8,18 +8,22 @@ use Rattle.hints.proofs.word_from.Reads as reads
 use Rattle.hints.proofs.word_from.Lts as lts
 use Rattle.hints.proofs.far_past.Reads as far-past-reads
 use Rattle.hints.proofs.number_before.Reads as number-before-reads
+use Rattle.hints.proofs.rounded.Reads as rounded-reads
 use Rattle.hints.proofs.run_end.Reads as run-end-reads
 use Rattle.hints.proofs.with_node.Reads as with-node-reads
 use Rattle.hints.proofs.word_of.Reads as word-of-reads
 
 abbrev Inv-loop : tie.InvT-loop
-Inv-loop axes key from start low few part₀ node₀ part node = 0 ≤ 0
+Inv-loop axes key from start runs part₀ node₀ part node = 0 ≤ 0
 
 abbrev μ-loop : tie.MeasureT-loop
-μ-loop axes key from start low few part₀ node₀ part node = length key - node
+μ-loop axes key from start runs part₀ node₀ part node = length key - node
 
 number-before-requires : tie.Need-number-before-requires Inv-loop μ-loop
 number-before-requires c κs = search needs
+
+rounded-requires : tie.Need-rounded-requires Inv-loop μ-loop
+rounded-requires c κs = search needs
 
 loop-holds : tie.Need-loop-holds Inv-loop μ-loop
 loop-holds c = search needs
@@ -71,4 +75,4 @@ returns-3 c = search needs
 
 pub word-from-spec : {M : Type 1} → statement M
 word-from-spec =
-    tie.close (tie.spec Inv-loop μ-loop number-before-requires loop-holds mul-far-past shared-slice-read-far-past far-past-requires shr-if1 word-of-requires returns with-node-requires add-t17 run-end-requires returns-2 add-node loop-less loop-again word-of-requires-2 returns-3)
+    tie.close (tie.spec Inv-loop μ-loop number-before-requires rounded-requires loop-holds mul-far-past shared-slice-read-far-past far-past-requires shr-if1 word-of-requires returns with-node-requires add-t17 run-end-requires returns-2 add-node loop-less loop-again word-of-requires-2 returns-3)

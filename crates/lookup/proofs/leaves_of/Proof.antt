@@ -9,7 +9,7 @@ use Rattle.hints.proofs.prepare.Reads as prepare-reads
 use Rattle.lookup.proofs.leaves_by.Reads as leaves-by-reads
 
 prepare-requires : tie.Need-prepare-requires
-prepare-requires c κs = axes-facts _ (c .before .before .before .pre .0 .axes) .1
+prepare-requires c κs = let p = c .before .before .before .before .pre in (axes-facts _ (p .0 .axes) .1, p .1, p .2)
 
 leaves-by-requires : tie.Need-leaves-by-requires
 leaves-by-requires c κs = search needs

@@ -1,18 +1,18 @@
--- `hints::hint_of` meets its contract.
+-- `hints::number_at` meets its contract.
 use Prim.Native.Nat.{_<_}
 use borrow.Author.Needs.{needs}
-use Rattle.hints.proofs.hint_of.Statement.{statement}
-use Rattle.hints.proofs.hint_of.Tie as tie
-use Rattle.hints.proofs.hint_of.Reads as reads
-use Rattle.hints.proofs.hint_of.Lts as lts
-use Rattle.std.proofs.num.wrapping_add_u64.Reads as wrapping-add-u64-reads
+use Rattle.hints.proofs.number_at.Statement.{statement}
+use Rattle.hints.proofs.number_at.Tie as tie
+use Rattle.hints.proofs.number_at.Reads as reads
+use Rattle.hints.proofs.number_at.Lts as lts
 use Rattle.hints.proofs.top_low.Reads as top-low-reads
+use Rattle.std.proofs.num.wrapping_add_u64.Reads as wrapping-add-u64-reads
 
 abbrev Inv-loop : tie.InvT-loop
-Inv-loop axes words code low₀ word₀ plan₀ left₀ low word plan left = low < 64
+Inv-loop axes words blocks code low₀ word₀ plan₀ left₀ low word plan left = low < 64
 
 abbrev μ-loop : tie.MeasureT-loop
-μ-loop axes words code low₀ word₀ plan₀ left₀ low word plan left = left
+μ-loop axes words blocks code low₀ word₀ plan₀ left₀ low word plan left = left
 
 top-low-requires : tie.Need-top-low-requires Inv-loop μ-loop
 top-low-requires c κs = search needs
@@ -65,21 +65,24 @@ loop-again-2 c = search needs
 shr-eighth : tie.Need-shr-eighth Inv-loop μ-loop
 shr-eighth c = search needs
 
-mul-result : tie.Need-mul-result Inv-loop μ-loop
-mul-result c = search needs
+mul-count : tie.Need-mul-count Inv-loop μ-loop
+mul-count c = search needs
+
+add-count : tie.Need-add-count Inv-loop μ-loop
+add-count c = search needs
+
+shr-count : tie.Need-shr-count Inv-loop μ-loop
+shr-count c = search needs
+
+shl-result : tie.Need-shl-result Inv-loop μ-loop
+shl-result c = search needs
 
 add-result : tie.Need-add-result Inv-loop μ-loop
 add-result c = search needs
 
-shr-result : tie.Need-shr-result Inv-loop μ-loop
-shr-result c = search needs
-
-add-result-2 : tie.Need-add-result-2 Inv-loop μ-loop
-add-result-2 c = search needs
-
 returns : tie.Need-returns Inv-loop μ-loop
 returns c = search needs
 
-pub hint-of-spec : {M : Type 1} → statement M
-hint-of-spec =
-    tie.close (tie.spec Inv-loop μ-loop top-low-requires shr-word mul-word element-copy-out-word loop-holds shr-wrapping-add-u64 wrapping-add-u64-requires add-at mul-next element-copy-out-next sub-left loop-less loop-again sub-left-2 loop-less-2 loop-again-2 shr-eighth mul-result add-result shr-result add-result-2 returns)
+pub number-at-spec : {M : Type 1} → statement M
+number-at-spec =
+    tie.close (tie.spec Inv-loop μ-loop top-low-requires shr-word mul-word element-copy-out-word loop-holds shr-wrapping-add-u64 wrapping-add-u64-requires add-at mul-next element-copy-out-next sub-left loop-less loop-again sub-left-2 loop-less-2 loop-again-2 shr-eighth mul-count add-count shr-count shl-result add-result returns)
