@@ -29,8 +29,10 @@ const ONES: u64 = 35468117025;
 
 const FULL: u64 = 1065151889408;
 
-// A look-up of fewer points than one for so many nodes is not worth a table.
-const NODES_A_POINT: usize = 6;
+// A look-up of fewer points than one for so many nodes is not worth a table, and one of fewer than that is not worth blocks.
+const NODES_A_POINT: usize = 16;
+
+const NODES_A_POINT_IN_BLOCKS: usize = 5;
 
 // Blocks that leave less room than this are the last ones.
 const LITTLE_ROOM: usize = 768;
@@ -342,10 +344,13 @@ fn leave_crowded(
     words: &mut [u64; WORDS],
     begin: usize,
     end: usize,
-    runs: Runs,
+    low: u64,
+    mask: u64,
 )
-    requires { ⌜ (axes ≤ 3) × (runs .low < 60) × (end ≤ 12288) ⌝ }
+    requires { ⌜ (axes ≤ 3) × (low < 60) × (end ≤ 12288) ⌝ }
 {
+    let few = MOST_NODES;
+    let runs = Runs { low, few, mask };
     let mut at = begin;
     while at < end {
         let word = words[at];
@@ -358,12 +363,8 @@ fn leave_crowded(
     }
 }
 
-// How many nodes are no crowd yet in the words that come next: any number where no blocks come after them, as there is little room
-// or an eighth of their runs is one code.
-fn few_at(low: u64, room: usize) -> usize {
-    if low < 1 {
-        return MOST_NODES;
-    }
+// How many nodes are no crowd yet in words that leave so much room: any number where it is little, as no blocks come after them.
+fn few_at(room: usize) -> usize {
     if room < LITTLE_ROOM {
         return MOST_NODES;
     }
@@ -392,16 +393,20 @@ fn top_low(axes: usize) -> u64
 }
 
 // Fills the first words.
-fn fill_tops(axes: usize, key: &[u64], words: &mut [u64; WORDS], mask: u64)
+fn fill_tops(axes: usize, key: &[u64], words: &mut [u64; WORDS], few: usize, mask: u64)
     requires { ⌜ axes ≤ 3 ⌝ }
 {
     let low = top_low(axes);
-    let runs = Runs {
-        low,
-        few: few_at(low, WORDS),
-        mask,
-    };
-    fill(axes, key, words, 0, tops(axes), 0, 0, runs);
+    fill(
+        axes,
+        key,
+        words,
+        0,
+        tops(axes),
+        0,
+        0,
+        Runs { low, few, mask },
+    );
 }
 
 // How many of the words from `begin` up to `end` are crowded.
@@ -463,12 +468,29 @@ fn rest_of_room(room: usize, words: usize) -> usize {
     room - words
 }
 
-// Fills the table, which counts nodes by 2^unit; how many steps of halving come after it stays open.
-fn fill_table(axes: usize, key: &[u64], words: &mut [u64; WORDS], unit: u64) -> Blocks
+// A table with blocks so deep. How many steps of halving come after it stays open.
+fn read_by(plan: u64, deep: u64, unit: u64) -> Blocks {
+    Blocks {
+        plan,
+        deep,
+        unit,
+        steps: 0,
+    }
+}
+
+// Fills the table, which counts nodes by 2^unit, with blocks where more than a few nodes crowd in a first word, and then in a
+// block's.
+fn fill_table(
+    axes: usize,
+    key: &[u64],
+    words: &mut [u64; WORDS],
+    top_few: usize,
+    unit: u64,
+) -> Blocks
     requires { ⌜ (axes ≤ 3) × (unit < 4) ⌝ }
 {
     let mask = std::num::wrapping_sub_u64(1 << unit, 1);
-    fill_tops(axes, key, words, mask);
+    fill_tops(axes, key, words, top_few, mask);
     let mut low = top_low(axes);
     let mut begin = 0;
     let mut end = tops(axes);
@@ -479,51 +501,19 @@ fn fill_table(axes: usize, key: &[u64], words: &mut [u64; WORDS], unit: u64) -> 
         let room = WORDS - end;
         let bits = bits_for(crowded, room, low);
         if bits < 1 {
-            leave_crowded(
-                axes,
-                key,
-                words,
-                begin,
-                end,
-                Runs {
-                    low,
-                    few: MOST_NODES,
-                    mask,
-                },
-            );
-            return Blocks {
-                plan,
-                deep,
-                unit,
-                steps: 0,
-            };
+            leave_crowded(axes, key, words, begin, end, low, mask);
+            return read_by(plan, deep, unit);
         }
         low = low - bits;
-        let few = few_at(low, rest_of_room(room, crowded << bits));
+        let few = few_at(rest_of_room(room, crowded << bits));
         let used = part_words(axes, key, words, begin, end, bits, Runs { low, few, mask });
         plan = plan | low << (6 * deep);
         deep += 1;
         begin = end;
         end = used;
     }
-    leave_crowded(
-        axes,
-        key,
-        words,
-        begin,
-        end,
-        Runs {
-            low,
-            few: MOST_NODES,
-            mask,
-        },
-    );
-    Blocks {
-        plan,
-        deep,
-        unit,
-        steps: 0,
-    }
+    leave_crowded(axes, key, words, begin, end, low, mask);
+    read_by(plan, deep, unit)
 }
 
 // Whether a table is worth while for a look-up of so many points, and numbers are small enough for it.
@@ -532,6 +522,14 @@ fn is_worth(nodes: usize, points: usize) -> bool {
         return false;
     }
     nodes / NODES_A_POINT <= points
+}
+
+// How many nodes are no crowd in a first word of a table for so many points: any number where blocks are not worth while.
+fn first_few(nodes: usize, points: usize) -> usize {
+    if points < nodes / NODES_A_POINT_IN_BLOCKS {
+        return MOST_NODES;
+    }
+    1
 }
 
 // By 2 to which power the nodes of a tree are counted: a word counts 31 at most.
@@ -555,14 +553,10 @@ fn table_for(axes: usize, key: &[u64], points: usize, words: &mut [u64; WORDS]) 
     requires { ⌜ axes ≤ 3 ⌝ }
 {
     if is_worth(key.len(), points) {
-        return fill_table(axes, key, words, unit_for(key.len()));
+        let few = first_few(key.len(), points);
+        return fill_table(axes, key, words, few, unit_for(key.len()));
     }
-    Blocks {
-        plan: 0,
-        deep: 0,
-        unit: 0,
-        steps: 0,
-    }
+    read_by(0, 0, 0)
 }
 
 // ---- the hint

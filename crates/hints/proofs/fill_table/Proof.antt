@@ -11,16 +11,17 @@ use Rattle.hints.proofs.few_at.Reads as few-at-reads
 use Rattle.hints.proofs.fill_tops.Reads as fill-tops-reads
 use Rattle.hints.proofs.leave_crowded.Reads as leave-crowded-reads
 use Rattle.hints.proofs.part_words.Reads as part-words-reads
+use Rattle.hints.proofs.read_by.Reads as read-by-reads
 use Rattle.hints.proofs.rest_of_room.Reads as rest-of-room-reads
 use Rattle.hints.proofs.top_low.Reads as top-low-reads
 use Rattle.hints.proofs.tops.Reads as tops-reads
 use Rattle.std.proofs.num.wrapping_sub_u64.Reads as wrapping-sub-u64-reads
 
 abbrev Inv-loop : tie.InvT-loop
-Inv-loop axes key words₀ unit mask low₀ begin₀ end₀ plan₀ deep₀ words low begin end plan deep = (low ≤ 33) × (end ≤ 12288) × (deep ≤ 10)
+Inv-loop axes key words₀ top-few unit mask low₀ begin₀ end₀ plan₀ deep₀ words low begin end plan deep = (low ≤ 33) × (end ≤ 12288) × (deep ≤ 10)
 
 abbrev μ-loop : tie.MeasureT-loop
-μ-loop axes key words₀ unit mask low₀ begin₀ end₀ plan₀ deep₀ words low begin end plan deep = 10 - deep
+μ-loop axes key words₀ top-few unit mask low₀ begin₀ end₀ plan₀ deep₀ words low begin end plan deep = 10 - deep
 
 shl-wrapping-sub-u64 : tie.Need-shl-wrapping-sub-u64 Inv-loop μ-loop
 shl-wrapping-sub-u64 c = search needs
@@ -51,6 +52,9 @@ bits-for-requires c κs = search needs
 
 leave-crowded-requires : tie.Need-leave-crowded-requires Inv-loop μ-loop
 leave-crowded-requires c κs = search needs
+
+read-by-requires : tie.Need-read-by-requires Inv-loop μ-loop
+read-by-requires c κs = search needs
 
 returns : tie.Need-returns Inv-loop μ-loop
 returns c = search needs
@@ -88,9 +92,12 @@ loop-again c = search needs
 leave-crowded-requires-2 : tie.Need-leave-crowded-requires-2 Inv-loop μ-loop
 leave-crowded-requires-2 c κs = search needs
 
+read-by-requires-2 : tie.Need-read-by-requires-2 Inv-loop μ-loop
+read-by-requires-2 c κs = search needs
+
 returns-2 : tie.Need-returns-2 Inv-loop μ-loop
 returns-2 c = search needs
 
 pub fill-table-spec : {M : Type 1} → statement M
 fill-table-spec =
-    tie.close (tie.spec Inv-loop μ-loop shl-wrapping-sub-u64 wrapping-sub-u64-requires fill-tops-requires top-low-requires tops-requires loop-holds count-crowded-requires sub-room bits-for-requires leave-crowded-requires returns sub-low shl-rest-of-room rest-of-room-requires few-at-requires part-words-requires mul-plan shl-plan add-deep loop-less loop-again leave-crowded-requires-2 returns-2)
+    tie.close (tie.spec Inv-loop μ-loop shl-wrapping-sub-u64 wrapping-sub-u64-requires fill-tops-requires top-low-requires tops-requires loop-holds count-crowded-requires sub-room bits-for-requires leave-crowded-requires read-by-requires returns sub-low shl-rest-of-room rest-of-room-requires few-at-requires part-words-requires mul-plan shl-plan add-deep loop-less loop-again leave-crowded-requires-2 read-by-requires-2 returns-2)

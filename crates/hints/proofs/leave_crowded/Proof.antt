@@ -8,10 +8,10 @@ use Rattle.hints.proofs.leave_crowded.Lts as lts
 use Rattle.hints.proofs.plain_word.Reads as plain-word-reads
 
 abbrev Inv-loop : tie.InvT-loop
-Inv-loop axes key words₀ begin end runs at₀ words at = 0 ≤ 0
+Inv-loop axes key words₀ begin end low mask few runs at₀ words at = 0 ≤ 0
 
 abbrev μ-loop : tie.MeasureT-loop
-μ-loop axes key words₀ begin end runs at₀ words at = end - at
+μ-loop axes key words₀ begin end low mask few runs at₀ words at = end - at
 
 loop-holds : tie.Need-loop-holds Inv-loop μ-loop
 loop-holds c = search needs
