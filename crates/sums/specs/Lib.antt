@@ -1,0 +1,5 @@
+pub mod Adding
+pub mod Sums
+pub mod Right
+pub mod Arrangement
+pub mod Tells
