@@ -45,11 +45,11 @@ module _ (d : ℕ) (keys own : List ℕ) where
   unfolding vRow
   v-is b = refl
 
-  u-sourced : (b s : ℕ) → inU d keys own b s ≡ true → sourced d keys own s ≡ true
+  pub u-sourced : (b s : ℕ) → inU d keys own b s ≡ true → sourced d keys own s ≡ true
   unfolding inU
   u-sourced b s h = and-l _ _ (and-r (leaf d keys s) _ h)
 
-  v-sourced : (b c : ℕ) → inV d keys own b c ≡ true → sourced d keys own c ≡ true
+  pub v-sourced : (b c : ℕ) → inV d keys own b c ≡ true → sourced d keys own c ≡ true
   unfolding inV
   v-sourced b c h = and-l _ _ (and-r (neighbour d (parent d b) (parent d c)) _ (and-r (ltb 0 (levelOf b) && ltb 0 (levelOf c)) _ h))
 
