@@ -1,0 +1,4 @@
+pub mod Starts
+pub mod Nodes
+pub mod Path
+pub mod Judged
