@@ -1,0 +1,56 @@
+"""Refusals, as an exception whose text is a sentence with its cure."""
+
+from .library import words
+
+# What holds a point of 6 and 7, and what a Python caller does where room was short: the package lends the most itself
+POINTS = {6: "source", 7: "target or looked-up point"}
+SHORT = {3: "the tree has more than 1048576 nodes: raise the limit, or thin the points out",
+         6: "the U rows have more than 16777216 keys: raise the limit, or thin the points out",
+         7: "the V rows have more than 16777216 keys: raise the limit, or thin the points out"}
+# What the header says of 12 and 14 with `the value`
+INDEXED = {12: "no leaf holds point %d, which is inside the box: build with keep_empty=True, or take the point out",
+           14: "key %d of those to group is not the key of a leaf: pass keys that lookup in this tree has answered"}
+
+
+class Refused(Exception):
+    """A call that was refused: nothing was answered.
+
+    number, value   as docs/REFUSALS.md has them: the value of 6, 7, 12 and 14 is the lowest index that fails, that of 8
+                    says what was short, that of any other number is 0
+    axis, reason    of 6 and 7: the first axis, from 0, on which the point is outside the box, and why: 1 it is not a finite
+                    number, 2 it lies below, 3 it lies above. None with every other number.
+    name            the number's name, as "SOURCE"
+
+    >>> from lohandema import Box, Refused, Tree
+    >>> try:
+    ...     Tree.build([[0.5], [9.0]], Box([4.0], 4.0), limit=1)
+    ... except Refused as refused:
+    ...     print(refused.number, refused.name, refused.value, refused.axis, refused.reason)
+    ...     print(refused)
+    6 SOURCE 1 0 3
+    source 1 lies above the box on axis 0: enlarge the box, or mend or remove it (refused 6 SOURCE)
+    """
+
+    def __init__(self, number, value=0, axis=None, reason=None):
+        self.number, self.value = int(number), int(value)
+        self.axis, self.reason = (int(axis or 0), int(reason)) if reason else (None, None)
+        super().__init__(self.number, self.value, self.axis, self.reason)
+
+    @property
+    def name(self):
+        return words("refusal_name", self.number)
+
+    @property
+    def sentence(self):
+        """What was wrong, and its cure."""
+        if self.reason and self.number in POINTS:
+            return "%s %d %s on axis %d: %s" % (POINTS[self.number], self.value, words("reason_name", self.reason),
+                                                self.axis, words("reason_cure", self.reason))
+        if self.number == 8 and self.value in SHORT:
+            return SHORT[self.value]
+        if self.number in INDEXED:
+            return INDEXED[self.number] % self.value
+        return words("refusal_sentence", self.number)
+
+    def __str__(self):
+        return "%s (refused %d %s)" % (self.sentence, self.number, self.name)

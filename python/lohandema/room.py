@@ -1,0 +1,78 @@
+"""How much room is lent. A call that is lent too little is refused after nearly all of its work, so a build gets room for the
+most nodes that it can have, and the lists a first guess that is seldom short. rust/src/room.rs reckons alike."""
+
+import math
+
+from .arrays import numpy
+from .keys import reference_depth
+
+MOST_POINTS = MOST_NODES = 1048576
+MOST_KEYS = 16777216
+DEEPEST = 16
+V_ROW = {1: 3, 2: 27, 3: 189}
+
+
+def most_nodes(axes, sources, targets, limit, order, keep_empty):
+    """The most nodes that a build can have, of so many sources and used targets. A cell that splits, the root apart, has more
+    sources than the limit or more targets than the near limit, so that a level has only so many of them. Each has at most
+    2^axes children, and without empty cells each child has a source."""
+    splitting = sources // (limit + 1) + targets // (max(limit, order ** axes) + 1)
+    split = sum(min(splitting, 1 << axes * level) for level in range(1, DEEPEST))
+    children = (1 + split) << axes
+    stored = children if keep_empty else min(children, DEEPEST * sources)
+    return min(1 + stored, MOST_NODES)
+
+
+def lists(tree):
+    """How many keys the U rows and the V rows of a tree may have: a first guess.
+
+    Where all leaves are of one level, a U row has three cells along each axis along which cells divide, which is the mean
+    number of children to the power log2 3; near leaves of other levels come on top where the tree is deeper than so many
+    leaves need. V rows come from pairs of neighbours, so that 3^axes - 1 times the squares of the numbers of children is
+    enough. Of the leaves only those with sources are listed."""
+    axes, nodes = tree.box.axes, len(tree.key) - 1
+    if nodes < 1:
+        return 0, 0
+    parents, squares = families(axes, tree.key)
+    leaves = max(1, nodes + 1 - parents)
+    owners = int(numpy.count_nonzero(tree.own)) if numpy else sum(map(bool, tree.own))
+    sourced = owners / leaves
+    spread = max(0, tree.depth - reference_depth(axes, leaves))
+    row = (nodes / parents) ** math.log2(3) * (1 + spread / 2)
+    u = 1.25 * nodes * row * min(1, 2 * sourced)
+    pairs = (3 ** axes - 1) * squares
+    v = min(pairs, nodes * V_ROW[axes] * min(1, 2 * sourced * sourced))
+    return capped(u), capped(v)
+
+
+def families(axes, keys):
+    """How many parents the nodes below the root have, and the squares of the numbers of their children, summed. Among the
+    keys of one level siblings follow each other."""
+    sizes = []
+    if numpy:
+        levels = (keys & 32767).astype(numpy.uint8)
+        for level in range(1, int(levels.max()) + 1):
+            parents = keys[levels == level] >> 15 + axes
+            ends = numpy.flatnonzero(parents[1:] != parents[:-1])
+            sizes.append(numpy.diff(ends, prepend=-1, append=len(parents) - 1))
+        return max(1, sum(len(some) for some in sizes)), sum(float(some @ some) for some in sizes)
+    # of each level, the code of the last key's parent and how many children it had
+    last = {}
+    for key in keys[1:]:
+        level, parent = key & 32767, key >> 15 + axes
+        if last.get(level, (None, 0))[0] == parent:
+            last[level][1][0] += 1
+        else:
+            count = [1]
+            last[level] = parent, count
+            sizes.append(count)
+    return max(1, len(sizes)), float(sum(size * size for [size] in sizes))
+
+
+def capped(keys):
+    return min(math.ceil(keys), MOST_KEYS)
+
+
+def more(room):
+    """Four times the room, for a guess that was short."""
+    return min(4 * max(room, 16), MOST_KEYS)

@@ -1,0 +1,355 @@
+"""Trees: nodes depth first, a cell, then its children ascending, each followed by its own; in columns."""
+
+import ctypes
+
+from . import room
+from .arrays import Lent, Points, column, cut, flag, numpy, packed, shown, three, whole, wholes
+from .boxes import Box
+from .library import call, library
+from .progress import telling
+from .refusal import Refused
+from .rows import Lists, Rows
+
+COLUMNS = ("key", "own", "begin", "total", "order")
+
+
+class Tree:
+    """The tree of a survey: its box, its columns with an entry for each node, and the order of its sources.
+
+    box     the box, whose axes are the tree's
+    key     each node's key
+    own     how many sources a leaf holds; 0 for every other node
+    begin   the sum of own of all nodes before
+    total   how many sources are in the node's cell and all below it
+    order   the indices of the sources, leaf by leaf in the order of the nodes, ascending within a leaf
+
+    The columns are int64 arrays of NumPy where that is installed, else views of the standard library, and are read only.
+    Nodes are numbered depth first: node 0 is the root, the first child of a node stands right behind it, and all that lies in
+    a cell stands together. So the sources of any cell are one part of the order column: order[begin[n]:begin[n] + total[n]].
+
+    >>> tree = Tree.build([[0.5], [1.5], [6.5], [7.5]], Box([4.0], 4.0), limit=1)
+    >>> tree.key.tolist()
+    [0, 1, 2, 3, 32771, 32769, 98306, 196611, 229379]
+    >>> len(tree), tree.depth, tree.cell_sources(5).tolist()
+    (9, 3, [2, 3])
+    """
+
+    __slots__ = ("box", *COLUMNS, "_lent", "_places", "__weakref__")
+
+    def __init__(self, *_):
+        raise TypeError("a tree is made by Tree.build(points, ..), or by Tree.from_columns(..) of columns that were kept")
+
+    @classmethod
+    def build(cls, points, box=None, *, limit=64, keep_empty=False, order=None, targets=None, progress=False):
+        """Builds the tree of points, which are its sources.
+
+        points      a float64 array of one row a point and one column an axis, or a list of such rows: at most 1,048,576. It is
+                    passed on as it is, and must not change before the call is done.
+        box         the box; where there is none, that around the points and the targets
+        limit       a cell with more sources than this splits
+        keep_empty  whether all children of a cell that splits are stored, or only those with sources
+        targets     points where the sum is asked for; they split cells too. They take order and keep_empty=True.
+        order       the order of the interpolation, 1 to 64; it matters only with targets
+        progress    whether to tell on standard error of work that takes longer than a second
+
+        Raises Refused with 1, 2, 4, 5, 6, 7, or 8 where the tree has more than 1,048,576 nodes (docs/REFUSALS.md), and
+        TypeError or ValueError for an array that is not taken as it is; the text has the cure.
+
+        >>> Tree.build([[0.5, 1.5], [6.5, 5.5]], limit=1)
+        Tree(Box([3.5, 3.5], 3.501), 3 nodes, 2 sources)
+        """
+        if box is not None:
+            check_box(box)
+        sources = Points(points, box.axes if box else None)
+        aims = Points([] if targets is None else targets, sources.axes or None, "targets")
+        limit, order = whole(limit, "limit"), checked_order(order, aims)
+        keep_empty = flag(keep_empty, "keep_empty")
+        if aims.rows and not keep_empty:
+            raise ValueError("targets split cells only where empty cells are kept: pass keep_empty=True, or no targets")
+        if box is None:
+            box = Box._around([sources, aims])
+        with telling(progress, "the tree of %d points" % sources.rows):
+            return cls._built(box, sources, aims, limit, order, keep_empty)
+
+    @classmethod
+    def _built(cls, box, sources, aims, limit, order, keep_empty):
+        rows, used = min(sources.rows, room.MOST_POINTS), min(aims.rows, room.MOST_POINTS)
+        nodes = room.most_nodes(box.axes, rows, used, limit, order, keep_empty)
+        work, indices = Lent(memoryview(column(2 * rows + used))), column(rows)
+        columns = [column(nodes) for _ in range(4)]
+        lent = [Lent(memoryview(one)) for one in [indices] + columns]
+        count, depth = ctypes.c_size_t(), ctypes.c_uint64()
+        call("build_tree", *box._words(), sources.lent.address, sources.lent.entries, aims.lent.address, aims.lent.entries,
+             limit, order, keep_empty, aims.rows > 0, work.address, work.entries, *_words(lent), ctypes.byref(count),
+             ctypes.byref(depth))
+        del lent
+        return cls._of(box, [cut(one, count.value) for one in columns] + [cut(indices, rows)])
+
+    @classmethod
+    def from_columns(cls, box, key, own, begin, total, order):
+        """The tree of columns that were kept: int64 or uint64 arrays, passed on as they are, or lists of ints. They may hold
+        anything: every call looks at them anew, and what is no tree is refused 13 TREE.
+
+        >>> tree = Tree.from_columns(Box([4.0], 4.0), [0, 1, 32769], [0, 1, 2], [0, 0, 1], [3, 1, 2], [0, 1, 2])
+        >>> tree.is_well_formed(), tree.leaf_sources(2).tolist()
+        (True, [1, 2])
+        """
+        check_box(box)
+        given = zip(COLUMNS, (key, own, begin, total, order))
+        return cls._of(box, [shown(wholes(column, name)) for name, column in given])
+
+    @classmethod
+    def _of(cls, box, columns):
+        tree = object.__new__(cls)
+        tree.box, tree._places = box, None
+        for name, column in zip(COLUMNS, columns):
+            setattr(tree, name, column)
+        # the views keep the columns where they are, as long as the tree lives
+        tree._lent = {name: Lent(memoryview(column)) for name, column in zip(COLUMNS, columns)}
+        return tree
+
+    def __repr__(self):
+        return "Tree(%r, %d nodes, %d sources)" % (self.box, len(self), len(self.order))
+
+    def __len__(self):
+        """The number of nodes."""
+        return len(self.key)
+
+    def __reduce__(self):
+        return _of_lists, (self.box, [bytes(self._lent[name].view) for name in COLUMNS])
+
+    def _words(self, *names):
+        """What a call takes of the columns."""
+        return _words([self._lent[name] for name in names or COLUMNS[:4]])
+
+    def _node(self, node, key):
+        """A node's number, which was given as such or by its key."""
+        if (node is None) == (key is None):
+            raise TypeError("pass a node's number, or its key as key=")
+        if key is not None:
+            return self.node_of(key)
+        number = whole(node, "node")
+        if number >= len(self):
+            raise IndexError("there is no node %d: they are numbered from 0 to %d" % (number, len(self) - 1))
+        return number
+
+    # What the tree is
+
+    @property
+    def depth(self):
+        """The greatest level of any node, at least 1."""
+        return library.lohandema_depth_of(*self._words("key"))
+
+    def is_well_formed(self):
+        """Whether the columns are a tree (docs/RULES.md, "When columns are a tree"). The order column is not looked at."""
+        return library.lohandema_is_well_formed(self.box.axes, *self._words())
+
+    def leaves(self):
+        """The numbers of the leaves, ascending: nodes other than the root that have no child.
+
+        >>> Tree.build([[0.5], [7.5]], Box([4.0], 4.0), limit=1).leaves().tolist()
+        [1, 2]
+        """
+        self._check()
+        levels = self.levels()
+        if numpy:
+            return 1 + numpy.flatnonzero(numpy.append(levels[1:], 0)[1:] <= levels[1:])
+        return packed(n for n in range(1, len(self)) if n + 1 == len(self) or levels[n + 1] <= levels[n])
+
+    def levels(self):
+        """The level of each node."""
+        return self.key & 32767 if numpy else packed(key & 32767 for key in self.key)
+
+    def parents(self):
+        """The number of each node's parent; -1 for the root.
+
+        >>> Tree.build([[0.5], [1.5], [7.5]], Box([4.0], 4.0), limit=1).parents().tolist()
+        [-1, 0, 1, 2, 2, 0]
+        """
+        self._check()
+        levels = self.levels()
+        if not numpy:
+            last, found = [-1] * (room.DEEPEST + 2), []
+            for node, level in enumerate(levels):
+                found.append(last[level])
+                last[level + 1] = node
+            return packed(found)
+        found = numpy.full(len(self), -1)
+        for level in range(1, int(levels.max()) + 1):
+            here, above = numpy.flatnonzero(levels == level), numpy.flatnonzero(levels == level - 1)
+            found[here] = above[numpy.searchsorted(above, here) - 1]
+        return found
+
+    def path(self, node=None, *, key=None):
+        """The numbers of a node and of each cell above it, up to the root."""
+        code = int(self.key[self._node(node, key)])
+        level, code = code & 32767, code >> 15
+        return [self.node_of((code >> self.box.axes * up) << 15 | level - up) for up in range(level + 1)]
+
+    def _check(self):
+        if not self.is_well_formed():
+            raise Refused(13)
+
+    # From keys to nodes
+
+    def node_of(self, key):
+        """The number of the node with a key; KeyError where none has it.
+
+        >>> Tree.build([[0.5], [7.5]], Box([4.0], 4.0), limit=1).node_of(32769)
+        2
+        """
+        wanted = whole(key, "key")
+        if numpy:
+            return int(self.nodes_of(numpy.array([wanted], dtype=numpy.uint64))[0])
+        return self.nodes_of([wanted])[0]
+
+    def nodes_of(self, keys):
+        """The numbers of the nodes with these keys, as those of a row; KeyError with the first that no node has."""
+        wanted = shown(wholes(keys, "keys"))
+        if self._places is None:
+            self._places = _places(self.box.axes, self.key)
+        if not numpy:
+            missing = [key for key in wanted if key not in self._places]
+            if missing:
+                raise KeyError("no node has the key %d" % (missing[0] % 2 ** 64))
+            return packed(self._places[key] for key in wanted)
+        found = numpy.searchsorted(self._places, _places(self.box.axes, wanted))
+        found[found == len(self)] = 0
+        missing = numpy.flatnonzero(self.key[found] != wanted)
+        if len(missing):
+            raise KeyError("no node has the key %d" % (int(wanted[missing[0]]) % 2 ** 64))
+        return found
+
+    # Sources
+
+    def leaf_sources(self, node=None, *, key=None):
+        """The indices of a leaf's own sources, ascending: a part of the order column, as a view."""
+        return self._part("leaf_sources", "own", self._node(node, key))
+
+    def cell_sources(self, node=None, *, key=None):
+        """The indices of all sources in a node's cell, of any level: a part of the order column, as a view. They come leaf by
+        leaf, and do not ascend as a whole."""
+        return self._part("cell_sources", "total", self._node(node, key))
+
+    def _part(self, name, counts, node):
+        start = ctypes.c_size_t()
+        call_of = getattr(library, "lohandema_" + name)
+        count = call_of(*self._words(counts, "begin", "order"), node, ctypes.byref(start))
+        return self.order[start.value:start.value + count]
+
+    def sourced_cells(self):
+        """The keys of the cells that own sources or have a descendant that does, ascending."""
+        cells, count = column(len(self)), ctypes.c_size_t()
+        lent = Lent(memoryview(cells))
+        call("get_sourced_cells", self.box.axes, *self._words(), *_words([lent]), ctypes.byref(count))
+        del lent
+        return cut(cells, count.value)
+
+    # Points
+
+    def lookup(self, points, *, with_steps=False, progress=False):
+        """The key of the leaf that holds each point. With with_steps also the sum over the points of the depth less the
+        leaf's level. Raises Refused for the first point that is outside the box, 7 POINT, or in no leaf, 12 UNSTORED.
+
+        >>> tree = Tree.build([[0.5], [1.5], [6.5], [7.5]], Box([4.0], 4.0), limit=1)
+        >>> tree.lookup([[7.9], [0.3]]).tolist()
+        [229379, 3]
+        """
+        asked = Points(points, self.box.axes)
+        output, steps = column(min(asked.rows, room.MOST_POINTS)), ctypes.c_size_t()
+        lent = Lent(memoryview(output))
+        with telling(progress, "the leaves of %d points" % asked.rows):
+            call("points_to_keys", *self.box._words(), *self._words(), asked.lent.address, asked.lent.entries,
+                 *_words([lent]), ctypes.byref(steps))
+        del lent
+        output = cut(output, asked.rows)
+        return (output, steps.value) if with_steps else output
+
+    def leaf_of(self, point, *, with_steps=False):
+        """The key of the leaf that holds one point. Each call looks at the whole tree first: for many points use lookup.
+
+        >>> Tree.build([[0.5], [7.5]], Box([4.0], 4.0), limit=1).leaf_of([6.9], with_steps=True)
+        (32769, 0)
+        """
+        leaf, steps = ctypes.c_uint64(), ctypes.c_uint64()
+        call("point_to_leaf", *self.box._words(), *self._words(), three(point, self.box.axes, "point")[0],
+             ctypes.byref(leaf), ctypes.byref(steps))
+        return (leaf.value, steps.value) if with_steps else leaf.value
+
+    def groups(self, points=None, *, keys=None, progress=False):
+        """The indices of the points of each node: rows by node number. The points themselves are given, or as keys= the key of
+        each one's leaf, as lookup answers it. A key of no leaf is refused 14 NOTLEAF.
+
+        >>> tree = Tree.build([[0.5], [1.5], [6.5], [7.5]], Box([4.0], 4.0), limit=1)
+        >>> tree.groups([[7.9], [0.3], [7.2]])[8].tolist()
+        [0, 2]
+        """
+        if (points is None) == (keys is None):
+            raise TypeError("pass points, or the keys of their leaves as keys=")
+        marks = wholes(self.lookup(points, progress=progress) if keys is None else keys, "keys")
+        starts, indices = column(len(self) + 1), column(min(marks.entries, room.MOST_POINTS))
+        lent = [Lent(memoryview(one)) for one in (starts, indices)]
+        call("get_points_to_leaves_map", self.box.axes, *self._words(), marks.address, marks.entries, *_words(lent))
+        del lent
+        return Rows(cut(starts, len(self) + 1), cut(indices, marks.entries))
+
+    # Lists
+
+    def lists(self, *, progress=False):
+        """The near (U) and far (V) rows of all nodes. Refused 8 ROOM where either list has more than 16,777,216 keys."""
+        near, far = room.lists(self)
+        with telling(progress, "the lists of %d nodes" % len(self)):
+            while True:
+                try:
+                    return self._listed(near, far)
+                except Refused as refused:
+                    if (refused.number, refused.value) == (8, 6) and near < room.MOST_KEYS:
+                        near = room.more(near)
+                    elif (refused.number, refused.value) == (8, 7) and far < room.MOST_KEYS:
+                        far = room.more(far)
+                    else:
+                        raise
+
+    def _listed(self, near, far):
+        """The lists with room for so many keys."""
+        columns = [column(len(self) + 1), column(near), column(len(self) + 1), column(far)]
+        lent = [Lent(memoryview(one)) for one in columns]
+        u, v = ctypes.c_size_t(), ctypes.c_size_t()
+        call("get_interaction_lists", self.box.axes, *self._words(), *_words(lent), ctypes.byref(u), ctypes.byref(v))
+        del lent
+        counts = [len(self) + 1, u.value, len(self) + 1, v.value]
+        u_starts, u_keys, v_starts, v_keys = [cut(one, count) for one, count in zip(columns, counts)]
+        return Lists(self, Rows(u_starts, u_keys), Rows(v_starts, v_keys))
+
+
+def _words(lent):
+    """The addresses and lengths of what is lent."""
+    return [word for one in lent for word in (one.address, one.entries)]
+
+
+def _of_lists(box, columns):
+    """The tree of columns that were kept as bytes."""
+    return Tree._of(box, [shown(Lent(memoryview(column).cast("q"))) for column in columns])
+
+
+def _places(axes, keys):
+    """What nodes ascend by: the first code of level 16 in the cell, then the level. Without NumPy, the node of each key."""
+    if not numpy:
+        return {key: node for node, key in enumerate(keys)}
+    # of a key that is not valid the place does not matter, as no node is found there that has it
+    levels = keys & 32767
+    return (keys >> 15) << axes * (room.DEEPEST - numpy.minimum(levels, room.DEEPEST)) << 5 | levels
+
+
+def check_box(box):
+    if not isinstance(box, Box):
+        raise TypeError("box is of type %s: pass a Box, as Box(centre, radius)" % type(box).__name__)
+
+
+def checked_order(order, aims):
+    """The order of the interpolation, which has no meaning without targets, and has to be given with them."""
+    if order is None:
+        if aims.rows:
+            raise TypeError("targets take order=, the order of the interpolation: pass one from 1 to 64")
+        return 1
+    return whole(order, "order")
