@@ -1,11 +1,15 @@
-"""What the command lines of the tools share: options that stand once, the version, and names of files to write."""
+"""What the command lines of the tools share: options that stand once, their numbers and words, the version, and names of
+files to write."""
 
 import argparse
 import os
+import re
 
 from survey_file import Refused, read_bytes
+from table_file import NUMBER
 
 ROOT = os.path.dirname(os.path.dirname(os.path.realpath(__file__)))
+MOST_U32 = 2 ** 32 - 1
 
 
 class Once(argparse.Action):
@@ -42,3 +46,36 @@ def check_named(parser, option, name):
     """That a file to be written has a name of its own."""
     if name == "-":
         parser.error("%s -: nothing is written to standard output; name a file (one called - is ./-)" % option)
+
+
+# What an option takes
+
+
+def number(text):
+    """The f64 nearest to a decimal number; ValueError for any other text."""
+    if not NUMBER.fullmatch(text):
+        raise ValueError(text)
+    return float(text)
+
+
+def numbers(text):
+    try:
+        found = tuple(number(part.strip()) for part in text.split(","))
+    except ValueError as error:
+        raise argparse.ArgumentTypeError("%r is not a number; write one to three with commas between" % str(error))
+    if len(found) > 3:
+        raise argparse.ArgumentTypeError("%d numbers, but at most 3 axes" % len(found))
+    return found
+
+
+def words(text):
+    found = [part.strip() for part in text.split(",")]
+    if "" in found or len(found) > 3:
+        raise argparse.ArgumentTypeError("%r: give one to three columns with commas between" % text)
+    return found
+
+
+def whole(text):
+    if not re.fullmatch("[0-9]+", text) or int(text) > MOST_U32:
+        raise argparse.ArgumentTypeError("%r is not a whole number from 0 to %d" % (text, MOST_U32))
+    return int(text)

@@ -193,3 +193,19 @@ def cell_bounds(survey, key):
     anchors = anchors_of(survey.axes, key)
     lows = [c - survey.radius + side * anchor for c, anchor in zip(survey.centre, anchors)]
     return lows, [low + side for low in lows]
+
+
+# Words for people
+
+
+def comma(row):
+    # repr of a float is the shortest decimal that reads back as the same f64
+    return ",".join(repr(x) for x in row)
+
+
+def some(count, name):
+    return "%d %s%s" % (count, name, "" if count == 1 else "s")
+
+
+def axes_text(count):
+    return "%d ax%ss" % (count, "i" if count == 1 else "e")

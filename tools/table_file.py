@@ -1,6 +1,7 @@
 """A CSV file of places: which of its columns are the axes, and the rows in them."""
 
 import csv
+import itertools
 import re
 from dataclasses import dataclass
 
@@ -28,9 +29,9 @@ def read_table(path, asked, axes, option):
     """The rows of a CSV file, with the columns that are asked for. Without a choice every column is an axis, if the
     header leaves no doubt of it: one name, names of places alone, or as many as there are axes by the box."""
     records = read_records(path)
-    if not records:
+    line, first = next(records, (0, None))
+    if first is None:
         return Table(path, [], [], [], [], [])
-    line, first = records[0]
     columns = chosen_columns(path, line, first, asked, option) if asked else list(range(1, len(first) + 1))
     has_header = is_header(first, columns) or not all(is_whole(word) for word in asked or [])
     if not asked:
@@ -38,30 +39,52 @@ def read_table(path, asked, axes, option):
     called = {i: "%s (column %d)" % (field, i) if has_header and field else "column %d" % i
               for i, field in enumerate(first, 1)}
     left_out = [called[i] for i in called if i not in columns]
-    body = records[1:] if has_header else records
-    rows = [read_row(path, line, fields, columns) for line, fields in body]
-    return Table(path, columns, [called[i] for i in columns], left_out, rows, [line for line, _ in body])
+    table = Table(path, columns, [called[i] for i in columns], left_out, [], [])
+    for line, fields in records if has_header else itertools.chain([(line, first)], records):
+        table.rows.append(read_row(path, line, fields, columns))
+        table.lines.append(line)
+    return table
+
+
+def agreed_axes(sources, targets, centre):
+    """The number of axes, on which sources, targets and the centre of the box, if it is given, must agree."""
+    named = [(sources.path, len(sources.columns)), (targets.path, len(targets.columns)), ("--centre", len(centre or ()))]
+    widths = [(name, width) for name, width in named if width]
+    if not widths or not (sources.rows or targets.rows or centre):
+        raise Refused("%s: no rows; give the box with --centre and --radius" % sources.path)
+    for name, width in widths[1:]:
+        if width != widths[0][1]:
+            raise Refused("%s: %s, but %s has %d; make them agree with --columns, --target-columns or --centre"
+                          % (name, house.axes_text(width), *widths[0]))
+    return widths[0][1]
 
 
 def read_records(path):
     """The fields of each line that is not blank and no comment, with the number of the line."""
-    records = []
+    width = None
     for line, text in house.read_lines(path):
-        if not text.strip() or text.lstrip().startswith("#"):
+        text = text.strip()
+        if not text or text.startswith("#"):
             continue
-        try:
-            fields = next(csv.reader([text.strip()], skipinitialspace=True, strict=True))
-        except csv.Error:
-            raise Refused("%s: line %d: a quote is not closed or stands inside a field; put quotes around whole fields"
-                          % (path, line))
-        for other, name in ((";", "semicolons"), ("\t", "tabs")):
-            if len(fields) == 1 and other in fields[0]:
-                raise Refused("%s: line %d: %s part the columns; save the file with commas" % (path, line, name))
-        if records and len(fields) != len(records[0][1]):
+        fields = read_fields(path, line, text)
+        if width and len(fields) != width:
             raise Refused("%s: line %d: %d columns, but %d before; give every line the same columns"
-                          % (path, line, len(fields), len(records[0][1])))
-        records.append((line, [field.strip() for field in fields]))
-    return records
+                          % (path, line, len(fields), width))
+        width = len(fields)
+        yield line, fields
+
+
+def read_fields(path, line, text):
+    try:
+        # without a quote a comma always parts two fields
+        fields = next(csv.reader([text], skipinitialspace=True, strict=True)) if '"' in text else text.split(",")
+    except csv.Error:
+        raise Refused("%s: line %d: a quote is not closed or stands inside a field; put quotes around whole fields"
+                      % (path, line))
+    for other, name in ((";", "semicolons"), ("\t", "tabs")):
+        if len(fields) == 1 and other in fields[0]:
+            raise Refused("%s: line %d: %s part the columns; save the file with commas" % (path, line, name))
+    return [field.strip() for field in fields]
 
 
 def chosen_columns(path, line, first, asked, option):
