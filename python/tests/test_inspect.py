@@ -1,0 +1,87 @@
+"""tools/inspect over the package: the samples, a CSV larger than a survey file can be, and bad readings by their lines."""
+
+import json
+import os
+import random
+import subprocess
+import sys
+import tempfile
+import unittest
+import xml.etree.ElementTree as xml
+
+from common import ROOT, read
+
+
+class Inspect(unittest.TestCase):
+    def setUp(self):
+        self.folder = tempfile.TemporaryDirectory()
+        self.addCleanup(self.folder.cleanup)
+
+    def path(self, name):
+        return os.path.join(self.folder.name, name)
+
+    def write(self, name, text):
+        with open(self.path(name), "w") as file:
+            file.write(text)
+
+    def inspect(self, *words):
+        tool = os.path.join(ROOT, "tools", "inspect")
+        return subprocess.run([sys.executable, "-B", tool, *words], cwd=self.folder.name, capture_output=True, text=True)
+
+    def refused(self, said, *words):
+        result = self.inspect(*words)
+        self.assertEqual((result.returncode, result.stdout), (1, ""))
+        self.assertIn(said, result.stderr)
+        self.assertEqual(result.stderr.count("\n"), 1, result.stderr)
+
+    def test_samples(self):
+        """The near work of the recorded listing, where the sources are the targets, and every leaf without fault."""
+        for name in ("example", "three-lines"):
+            result = self.inspect(os.path.join(ROOT, "samples", name + ".survey"))
+            self.assertEqual((result.returncode, result.stderr), (0, ""))
+            _, nodes, depth, sources, work = map(int, read("samples", name + ".listing").split("\n")[0].split()[1:])
+            self.assertIn("near work: %d," % work, result.stdout)
+            self.assertIn("tree: %d nodes, depth %d," % (nodes, depth), result.stdout)
+            self.assertIn("meets each of %d readings exactly once\n" % sources, result.stdout)
+
+    def test_large(self):
+        """5,000 readings in a wide CSV, as text and in each file."""
+        made = random.Random(9)
+        rows = ["L%d,%d,%.2f,%.2f,%.1f" % (i // 100, i, 500000 + made.random() * 900, 7000000 + 50 * (i // 100), made.random())
+                for i in range(5000)]
+        self.write("lines.csv", "line,fid,easting,northing,mag\n" + "\n".join(rows) + "\n")
+        self.write("grid.csv", "easting,northing\n" + "".join("%d,%d\n" % (500000 + 9 * (i % 100), 7000000 + 24 * (i // 100))
+                                                              for i in range(10000)))
+        result = self.inspect("lines.csv", "grid.csv", "--columns=easting,northing", "--limit", "20", "--order", "2",
+                              "--keep-empty", "--svg", "a.svg", "--vtk", "a.vtk", "--geojson", "a.json", "--csv", "a.csv")
+        self.assertEqual(result.returncode, 0, result.stderr)
+        self.assertIn("lines.csv: 5000 readings, 10000 targets\n", result.stdout)
+        self.assertIn("x is easting (column 3), y is northing (column 4); not read: line (column 1), fid (column 2), "
+                      "mag (column 5)", result.stdout)
+        self.assertIn(" meets each of 5000 readings exactly once", result.stdout)
+        xml.parse(self.path("a.svg"))
+        with open(self.path("a.json")) as file:
+            self.assertEqual(sum(one["geometry"]["type"] == "Point" for one in json.load(file)["features"]), 5000)
+        with open(self.path("a.csv")) as file:
+            lines = file.read().strip().split("\n")
+        self.assertIn("tree: %d nodes" % (len(lines) - 1), result.stdout)
+        kept = self.inspect("lines.csv", "grid.csv", "--columns=easting,northing")
+        self.assertIn("10000 targets, which split no cell, as cells without readings are not kept", kept.stdout)
+
+    def test_bad(self):
+        self.write("a.csv", "x,y\n1,2\n\n3,nan\n")
+        self.refused("a.csv: line 4: 3.0,nan is not a finite number on axis 1, counted from 0; mend the line", "a.csv")
+        self.refused("a.csv: line 4: source 1 is not a finite number on axis 1: mend or remove it (refused 6 SOURCE)", "a.csv",
+                     "--centre=4,4", "--radius=4")
+        self.write("b.csv", "x,y\n1,2\n3,9\n")
+        self.refused("b.csv: line 3: source 1 lies above the box on axis 1: enlarge the box", "b.csv", "--centre=4,4",
+                     "--radius=4")
+        self.write("c.csv", "x,y\n1,2\n")
+        self.refused("c.csv: the box is outside its domain", "c.csv")
+        self.refused("b.csv: line 3: target or looked-up point 1 lies above the box on axis 1", "c.csv", "b.csv",
+                     "--centre=4,4", "--radius=4", "--keep-empty")
+        self.refused("the order is not from 1 to 64", "c.csv", "b.csv", "--order", "65", "--keep-empty")
+
+
+if __name__ == "__main__":
+    unittest.main()
