@@ -44,7 +44,9 @@ def head(inspection):
 def by_level(inspection):
     """Leaves by level, those without readings lighter on top."""
     found = list(inspection.by_level())
-    bars = [(str(level), [(owners, PLAIN), (leaves - owners, EMPTY)]) for level, leaves, owners, _, _ in found]
+    counts = {level: (leaves, owners) for level, leaves, owners, _, _ in found}
+    levels = [(level, *counts.get(level, (0, 0))) for level in range(min(counts), max(counts) + 1)] if counts else []
+    bars = [(str(level), [(owners, PLAIN), (leaves - owners, EMPTY)]) for level, leaves, owners in levels]
     empty = sum(leaves - owners for _, leaves, owners, _, _ in found)
     note = "lighter: %d without readings" % empty if empty else ""
     return lambda x, y: panel(x, y, "Leaves by level", "level", "leaves", bars, note)
@@ -62,9 +64,9 @@ def histogram(title, across, up, numbers, colour):
         counts[(number - first) // step] += 1
     names = [short(first + i * step) for i in range(len(counts))]
     bars = [(name, [(count, colour)]) for name, count in zip(names, counts)]
-    ranges = "" if step == 1 else "; a bar has %s values from the one named on" % short(step)
-    note = "least %s, median %s, most %s%s" % (short(low), short(int(statistics.median_low(numbers))), short(high), ranges)
-    return lambda x, y: panel(x, y, title, across, up, bars, note)
+    note = "least %s, median %s, most %s" % (short(low), short(int(statistics.median_low(numbers))), short(high))
+    ranges = across if step == 1 else "%s (from the number named on, %s a bar)" % (across, short(step))
+    return lambda x, y: panel(x, y, title, ranges, up, bars, note)
 
 
 def step_of(least):
@@ -98,10 +100,10 @@ def panel(x, y, title, across, up, bars, note):
             bottom -= tall
             if count:
                 shapes.append(box((left + 0.08 * width, bottom, 0.84 * width, tall), fill=colour,
-                                  hint="%s %s: %d %s" % (across, name, count, up)))
+                                  hint="%s %s: %d %s" % (across.split(" (")[0], name, count, up)))
         if i % every == 0:
             shapes.append(words(left + width / 2, y + HEIGHT + 16, name, 11, text_anchor="middle"))
     shapes.append(box((x, y + HEIGHT - 0.5, WIDTH, 1), fill="#333333"))
-    shapes.append(words(x + WIDTH / 2, y + HEIGHT + 36, "%s across, number of %s up" % (across, up), 11, text_anchor="middle",
+    shapes.append(words(x + WIDTH / 2, y + HEIGHT + 36, "%s across, %s up" % (across, up), 11, text_anchor="middle",
                         fill="#555555"))
     return shapes

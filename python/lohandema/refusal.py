@@ -50,7 +50,8 @@ class Refused(Exception):
             return SHORT[self.value]
         if self.number in INDEXED:
             return INDEXED[self.number] % self.value
-        return words("refusal_sentence", self.number)
+        told = words("refusal_sentence", self.number)
+        return "%s; the value is %d" % (told, self.value) if self.value else told
 
     def __str__(self):
         return "%s (refused %d %s)" % (self.sentence, self.number, self.name)

@@ -1,11 +1,16 @@
-"""The examples in the package's own texts."""
+"""The examples in the package's own texts, those in README.md, and those in examples/python."""
 
 import doctest
 import importlib
+import os
 import pkgutil
+import re
+import subprocess
+import sys
 import unittest
 
-import common  # noqa: F401, which says where the others are
+from common import ROOT, in_process, read
+
 import lohandema
 
 
@@ -18,6 +23,22 @@ class Docs(unittest.TestCase):
             self.assertEqual(result.failed, 0, name)
             tried += result.attempted
         self.assertGreater(tried, 40)
+
+    def test_readme(self):
+        """The Python of README.md prints what is said under it."""
+        found = re.findall(r"```python\n(.*?)```\n\nprints `(.*?)`", read("README.md"), re.S)
+        self.assertEqual(len(found), 1)
+        for code, said in found:
+            result = in_process(code)
+            self.assertEqual((result.stdout.strip(), result.stderr), (said, ""))
+
+    def test_examples(self):
+        """Each example runs, and its sums are those of all pairs but for what it allows."""
+        folder = os.path.join(ROOT, "examples", "python")
+        for name in sorted(os.listdir(folder)):
+            result = subprocess.run([sys.executable, "-B", os.path.join(folder, name)], capture_output=True, text=True)
+            self.assertEqual((result.returncode, result.stderr), (0, ""), name)
+            self.assertRegex(result.stdout, r"largest difference from the plain sum: 0\.\d+ %\n")
 
     def test_all_told(self):
         """Everything that the package offers has a text."""
