@@ -109,6 +109,8 @@ def find():
 
 def load(path):
     """The library at a path, with the types of its calls."""
+    if sys.version_info < (3, 8):
+        raise NoLibrary("Lohandema needs Python 3.8 or later, and this is %d.%d: use a later one" % sys.version_info[:2])
     if sys.maxsize != 2 ** 63 - 1 or sys.byteorder != "little":
         raise NoLibrary("Lohandema needs a 64-bit little-endian processor: use the Python of one")
     try:

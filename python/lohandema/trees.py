@@ -101,12 +101,16 @@ class Tree:
     @classmethod
     def _of(cls, box, columns):
         tree = object.__new__(cls)
-        tree.box, tree._places = box, None
-        for name, column in zip(COLUMNS, columns):
-            setattr(tree, name, column)
         # the views keep the columns where they are, as long as the tree lives
-        tree._lent = {name: Lent(memoryview(column)) for name, column in zip(COLUMNS, columns)}
+        lent = {name: Lent(memoryview(column)) for name, column in zip(COLUMNS, columns)}
+        for name, value in zip(cls.__slots__, [box, *columns, lent, None]):
+            object.__setattr__(tree, name, value)
         return tree
+
+    def __setattr__(self, name, *_):
+        raise AttributeError("a tree does not change: make another with Tree.build or Tree.from_columns")
+
+    __delattr__ = __setattr__
 
     def __repr__(self):
         return "Tree(%r, %d nodes, %d sources)" % (self.box, len(self), len(self.order))
@@ -116,7 +120,7 @@ class Tree:
         return len(self.key)
 
     def __reduce__(self):
-        return _of_lists, (self.box, [bytes(self._lent[name].view) for name in COLUMNS])
+        return _kept, (self.box, [bytes(self._lent[name].view) for name in COLUMNS])
 
     def _words(self, *names):
         """What a call takes of the columns."""
@@ -207,7 +211,7 @@ class Tree:
         """The numbers of the nodes with these keys, as those of a row; KeyError with the first that no node has."""
         wanted = shown(wholes(keys, "keys"))
         if self._places is None:
-            self._places = _places(self.box.axes, self.key)
+            object.__setattr__(self, "_places", _places(self.box.axes, self.key))
         if not numpy:
             missing = [key for key in wanted if key not in self._places]
             if missing:
@@ -327,8 +331,8 @@ def _words(lent):
     return [word for one in lent for word in (one.address, one.entries)]
 
 
-def _of_lists(box, columns):
-    """The tree of columns that were kept as bytes."""
+def _kept(box, columns):
+    """The tree of columns that were kept as bytes, by pickle."""
     return Tree._of(box, [shown(Lent(memoryview(column).cast("q"))) for column in columns])
 
 

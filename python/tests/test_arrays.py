@@ -230,6 +230,7 @@ class Bad(unittest.TestCase):
     def test_read_only(self):
         """What the package answers is not written to by chance."""
         tree = Tree.build([0.5, 7.0], LINE, limit=1)
+        self.refused(AttributeError, "a tree does not change", setattr, tree, "key", tree.key)
         for column in (tree.key, tree.order, tree.lists().u.entries, tree.lookup([1.0])):
             with self.assertRaises((TypeError, ValueError)):
                 column[0] = 1
