@@ -4,9 +4,11 @@ import array
 import importlib.util
 import os
 import sys
+from collections import Counter
 
 import survey_file as house
 from command_line import ROOT, number, numbers, whole, words
+from listing_file import Listing, Node, source_keys
 from survey_file import Refused, comma, some
 from table_file import Table, agreed_axes, read_table
 
@@ -127,6 +129,27 @@ def lists_of(survey):
     survey.told = ["%s: centre %s, radius %r" % (line, comma(box.centre), box.radius) if line.startswith("box ") else line
                    for line in survey.told]
     return lists, at_fault
+
+
+class Made(Listing):
+    """A listing that was made here. Its nodes are numbered as in the columns of the calls, depth first."""
+
+    at_fault = ()
+
+    def leaves_at_fault(self):
+        return [self.nodes[node] for node in self.at_fault]
+
+
+def listing_of(survey, lists, at_fault):
+    """The listing of a survey, made from its tree and lists."""
+    tree = lists.tree
+    leaves = set(tree.leaves().tolist() or [0])
+    columns = zip(tree.key.tolist(), tree.own.tolist(), lists.u, lists.v)
+    nodes = [Node(n, key, own, near.tolist(), far.tolist(), n in leaves) for n, (key, own, near, far) in enumerate(columns)]
+    listing = Made(axes=survey.axes, depth=tree.depth, near_work=0, nodes=nodes, by_key={node.key: node for node in nodes},
+                   source_keys=source_keys(survey), held=Counter(dict(zip(tree.key.tolist(), tree.total.tolist()))))
+    listing.near_work, listing.at_fault = listing.near_work_of_rows(), at_fault
+    return listing
 
 
 def package():

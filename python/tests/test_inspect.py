@@ -1,4 +1,5 @@
-"""tools/inspect over the package: the samples, a CSV larger than a survey file can be, and bad readings by their lines."""
+"""tools/inspect and tools/draw over the package: the samples, a CSV larger than a survey file can be, and bad readings by
+their lines."""
 
 import json
 import os
@@ -24,9 +25,12 @@ class Inspect(unittest.TestCase):
         with open(self.path(name), "w") as file:
             file.write(text)
 
+    def run_tool(self, tool, *words):
+        words = [sys.executable, "-B", os.path.join(ROOT, "tools", tool), *words]
+        return subprocess.run(words, cwd=self.folder.name, capture_output=True, text=True)
+
     def inspect(self, *words):
-        tool = os.path.join(ROOT, "tools", "inspect")
-        return subprocess.run([sys.executable, "-B", tool, *words], cwd=self.folder.name, capture_output=True, text=True)
+        return self.run_tool("inspect", *words)
 
     def refused(self, said, *words):
         result = self.inspect(*words)
@@ -67,6 +71,29 @@ class Inspect(unittest.TestCase):
         self.assertIn("tree: %d nodes" % (len(lines) - 1), result.stdout)
         kept = self.inspect("lines.csv", "grid.csv", "--columns=easting,northing")
         self.assertIn("10000 targets, which split no cell, as cells without readings are not kept", kept.stdout)
+
+    def shapes(self, name):
+        """The shapes of a picture, without its words."""
+        return sorted((part.tag, sorted(part.attrib.items())) for part in xml.parse(self.path(name)).iter()
+                      if not part.tag.endswith(("title", "text")))
+
+    def test_draw(self):
+        """The picture of a sample is the same from its CSV as from its survey file and listing."""
+        sample = os.path.join(ROOT, "samples", "three-lines")
+        box = ["--centre=32,32", "--radius=32", "--limit", "2", "--order", "4"]
+        for chosen in (["--at=20,30"], ["--cell", "1"], []):
+            listed = self.run_tool("draw", sample + ".survey", sample + ".listing", "-o", "a.svg", *chosen)
+            made = self.run_tool("draw", sample + ".csv", "--columns=x,y", *box, "-o", "b.svg", *chosen)
+            self.assertEqual((listed.returncode, made.returncode), (0, 0), made.stderr)
+            self.assertEqual(self.shapes("a.svg"), self.shapes("b.svg"))
+
+    def test_draw_large(self):
+        made = random.Random(10)
+        self.write("a.csv", "x,y,z\n" + "".join("%.3f,%.3f,%.3f\n" % tuple(made.gauss(0, 9) for _ in range(3))
+                                               for _ in range(3000)))
+        result = self.run_tool("draw", "a.csv", "--at=0,0,0", "--limit", "30", "-o", "a.svg")
+        self.assertEqual(result.returncode, 0, result.stderr)
+        self.assertGreater(len(self.shapes("a.svg")), 100)
 
     def test_bad(self):
         self.write("a.csv", "x,y\n1,2\n\n3,nan\n")

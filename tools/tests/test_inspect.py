@@ -144,5 +144,20 @@ class Inspect(ToolTest):
         self.write("bad.csv", "")
         self.refused("bad.csv: no rows; give the box with --centre and --radius", "inspect", "bad.csv")
 
+    def test_draw(self):
+        """draw takes readings as CSV by the same way: what it says of options, of files and of a missing library."""
+        for said, arguments in (
+                ("give LISTING too, which ./listing example.survey writes", ["example.survey"]),
+                ("leave out --limit", ["example.survey", "example.listing", "--limit", "0"]),
+                ("targets are read as CSV", ["example.csv", "example.listing"])):
+            result = self.run_tool("draw", *arguments, "-o", "out")
+            self.assertEqual(result.returncode, 2, arguments)
+            self.assertIn(said, result.stderr)
+        self.refused("draw: LOHANDEMA_LIBRARY is", "draw", "three-lines.csv", "-o", "out")
+        self.refused("would be written over three-lines.csv", "draw", "three-lines.csv", "-o", "three-lines.csv")
+        self.write("many.csv", "x\n" + "1\n" * 100001)
+        self.refused("many.csv: 100001 readings, but at most 100000 are drawn; thin them out, or look at all of them with "
+                     "inspect --vtk", "draw", "many.csv", "-o", "out")
+
     def test_version(self):
         self.assertRegex(self.run_tool("inspect", "--version").stdout, r"^\d+\.\d+\.\d+\n$")
