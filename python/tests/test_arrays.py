@@ -202,6 +202,7 @@ class Bad(unittest.TestCase):
         self.refused(KeyError, "no node has the key 77", tree.leaf_sources, key=77)
         for wanted in (2 ** 64 - 1, 2 ** 63, 32767, 17, 131072 + 1):
             self.refused(KeyError, "no node has the key %d" % wanted, tree.node_of, wanted)
+        self.refused(KeyError, "no node has the key 1", Tree.build([], LINE).node_of, 1)
         lists = tree.lists()
         self.refused(IndexError, "there is no node 3", lists.near, 3)
         self.refused(IndexError, "there is no row -1", lists.u.__getitem__, -1)

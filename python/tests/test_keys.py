@@ -82,7 +82,7 @@ class Boxes(unittest.TestCase):
         for count in (1, 2, 255, 256, 257, 700):
             for axes in (1, 2, 3):
                 rows = [[made.uniform(-100, 100) for _ in range(axes)] for _ in range(count)]
-                rows.append([x + 3.0 for x in rows[0]])
+                rows.append([made.choice([-300.0, 300.0]) for _ in range(axes)])  # the farthest comes last
                 columns = list(zip(*rows))
                 box = Box.around(rows)
                 self.assertEqual(box, Box.from_extents([min(c) for c in columns] + [max(c) for c in columns]))
