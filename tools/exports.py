@@ -5,8 +5,8 @@ import json
 
 import survey_file as house
 
-# VTK's numbers of a vertex, and of the cell of 1, 2 and 3 axes whose corners come with the first axis fastest
-VERTEX, CELLS = 1, {1: 3, 2: 8, 3: 11}
+# VTK's numbers of a vertex, and of the line, quadrilateral and hexahedron, with the order in which their corners come
+VERTEX, CELLS = 1, {1: (3, [0, 1]), 2: (9, [0, 1, 3, 2]), 3: (12, [0, 1, 3, 2, 4, 5, 7, 6])}
 
 
 def corners(inspection, node):
@@ -24,8 +24,9 @@ def figures(inspection, leaf):
 
 def write_vtk(inspection):
     """The leaves as cells and the readings as vertices: legacy VTK, ASCII. Of a reading every figure but its index is -1."""
-    axes, leaves, sources = inspection.survey.axes, inspection.leaves, inspection.survey.sources
-    many, count = 2 ** axes, len(leaves) + len(sources)
+    leaves, sources = inspection.leaves, inspection.survey.sources
+    kind, around = CELLS[inspection.survey.axes]
+    many, count = len(around), len(leaves) + len(sources)
     yield "# vtk DataFile Version 3.0\n%s\nASCII\nDATASET UNSTRUCTURED_GRID\n" % title(inspection.name)
     yield "POINTS %d double\n" % (many * len(leaves) + len(sources))
     for point in itertools.chain.from_iterable(corners(inspection, leaf) for leaf in leaves):
@@ -34,11 +35,11 @@ def write_vtk(inspection):
         yield place(point)
     yield "CELLS %d %d\n" % (count, (many + 1) * len(leaves) + 2 * len(sources))
     for i in range(len(leaves)):
-        yield "%d %s\n" % (many, " ".join(str(many * i + corner) for corner in range(many)))
+        yield "%d %s\n" % (many, " ".join(str(many * i + corner) for corner in around))
     for i in range(len(sources)):
         yield "1 %d\n" % (many * len(leaves) + i)
     yield "CELL_TYPES %d\n" % count
-    yield ("%d\n" % CELLS[axes]) * len(leaves) + ("%d\n" % VERTEX) * len(sources)
+    yield ("%d\n" % kind) * len(leaves) + ("%d\n" % VERTEX) * len(sources)
     yield "CELL_DATA %d\n" % count
     told = [figures(inspection, leaf) for leaf in leaves]
     for name in figures(inspection, leaves[0]) if leaves else []:

@@ -48,6 +48,13 @@ class Inspect(unittest.TestCase):
             self.assertIn("tree: %d nodes, depth %d," % (nodes, depth), result.stdout)
             self.assertIn("meets each of %d readings exactly once\n" % sources, result.stdout)
 
+    def test_figures(self):
+        """The sample picture of histograms is what inspect writes."""
+        result = self.inspect(os.path.join(ROOT, "samples", "three-lines.survey"), "--svg", "a.svg")
+        self.assertEqual(result.returncode, 0, result.stderr)
+        with open(self.path("a.svg"), encoding="utf-8") as file:
+            self.assertEqual(file.read(), read("samples", "three-lines-figures.svg"))
+
     def test_large(self):
         """5,000 readings in a wide CSV, as text and in each file."""
         made = random.Random(9)

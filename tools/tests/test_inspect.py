@@ -1,6 +1,7 @@
 """inspect: its options, bad files, what is told and written of a sample's listing, and what it says where there is no library.
 The tests with the library are in python/tests."""
 
+import itertools
 import json
 import os
 import unittest.mock
@@ -72,7 +73,10 @@ class Inspect(ToolTest):
             for leaf, row in zip(leaves, rows):
                 lows, highs = house.cell_bounds(inspection.survey, inspection.key[leaf])
                 here = [points[i][:axes] for i in row[1:]]
-                self.assertEqual((here[0], here[-1], here[1][0]), (lows, highs, highs[0]))
+                self.assertEqual(sorted(here), sorted(map(list, itertools.product(*zip(lows, highs)))))
+                # along the edges in turn: one coordinate changes from corner to corner, within each face
+                steps = [sum(a != b for a, b in zip(*pair)) for pair in zip(here, here[1:])]
+                self.assertEqual(steps, [1] if axes == 1 else [1, 1, 1] if axes == 2 else [1, 1, 1, 2, 1, 1, 1])
             self.assertEqual([points[row[1]][:axes] for row in rows[len(leaves):]], [list(row) for row in sources])
             rest = "\n".join(lines[6 + count + int(cells):])
             for block in rest.split("LOOKUP_TABLE default\n")[1:]:
