@@ -102,6 +102,16 @@ class Inspect(unittest.TestCase):
         self.assertEqual(result.returncode, 0, result.stderr)
         self.assertGreater(len(self.shapes("a.svg")), 100)
 
+    def test_full(self):
+        """Where standard output takes nothing, that is one sentence."""
+        words = [sys.executable, "-B", os.path.join(ROOT, "tools", "inspect"), os.path.join(ROOT, "samples", "example.survey")]
+        if not os.path.exists("/dev/full"):
+            self.skipTest("there is no /dev/full")
+        with open("/dev/full", "w") as full:
+            result = subprocess.run(words, stdout=full, stderr=subprocess.PIPE, text=True)
+        self.assertEqual(result.returncode, 1)
+        self.assertRegex(result.stderr, r"^inspect: standard output: .*\n$")
+
     def test_bad(self):
         self.write("a.csv", "x,y\n1,2\n\n3,nan\n")
         self.refused("a.csv: line 4: 3.0,nan is not a finite number on axis 1, counted from 0; mend the line", "a.csv")
