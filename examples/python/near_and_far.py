@@ -3,9 +3,9 @@
 
     python3 examples/python/near_and_far.py
 
-Readings on flight lines are put in a tree. For each leaf its lists say which readings are near (U): each of these is taken as it
-is. All others are taken cell by cell (V, of the leaf and of each cell above it): a cell counts as one reading of all its weight, at
-the centre of weight.
+Readings on flight lines are put in a tree. For each leaf its lists say which readings are near (U): each of these is taken as
+it is. All others are taken cell by cell (V, of the leaf and of each cell above it): a cell counts as one reading of all its
+weight, at the centre of weight.
 Then the plain sum over all pairs is made too, and both are compared. It needs the shared library, which rust/archive writes, and
 the standard library of Python alone; with NumPy the tree takes arrays as well.
 """
