@@ -27,7 +27,7 @@ module _ (b : Box) (held : fits binary64 (b .radius) ≡ true) (known : radiusKn
   pub cell-nests : (level a k : ℕ) (x : Float) → level ≤ 16 → levelCell b 16 a x ≡ At k → levelCell b level a x ≡ At (k / 2 ^ (16 - level))
   cell-nests level a k x l h = cells-nest (b .radius) x (displacement b a) level k (radius (b .radius) held known) l h
 
-is-at : (p : Place) → isAt p ≡ true → p ≡ At (placeNumber p)
+pub is-at : (p : Place) → isAt p ≡ true → p ≡ At (placeNumber p)
 is-at (At k) h = refl
 is-at NotFinite h = absurd (true≢false (sym h))
 is-at Below h = absurd (true≢false (sym h))

@@ -103,13 +103,13 @@ number-read f xs at a p h e =
     e ∙ without 65536 (floor q) (wallBy x q) (no-cell x q) ∙ ap numberIn (cell-read f xs at a (cellOf 65536 x (getD (f .displacement) a nan) (f .side)) h refl)
 
 -- a coordinate at a cell, and one at none
-at-number : (p : Place) (k : ℕ) → numberIn p ≡ Number k → p ≡ At k
+pub at-number : (p : Place) (k : ℕ) → numberIn p ≡ Number k → p ≡ At k
 at-number (At j) k h = cc
 at-number NotFinite k h = let z : _≡_ {A = ℕ} 0 1 = cc in absurd (omega arith)
 at-number Below k h = let z : _≡_ {A = ℕ} 0 1 = cc in absurd (omega arith)
 at-number Above k h = let z : _≡_ {A = ℕ} 0 1 = cc in absurd (omega arith)
 
-at-none : (p : Place) → numberIn p ≡ Outside → isAt p ≡ false
+pub at-none : (p : Place) → numberIn p ≡ Outside → isAt p ≡ false
 at-none (At j) h = let z : _≡_ {A = ℕ} 0 1 = cc in absurd (omega arith)
 at-none NotFinite h = refl
 at-none Below h = refl

@@ -116,7 +116,7 @@ floor-plus (inf s) g d D h = absurd h
 floor-plus (fin true m e) g d D h = absurd (true≢false (h .0))
 floor-plus (fin false m e) g d D h = ap (λ (k : ℕ). whole (pos k)) (div-same (m * up e) (down e) g d (down-pos e) D (h .1))
 
-ceil-zero : (d : ℕ) → 0 < d → (0 + (d - 1)) / d ≡ 0
+pub ceil-zero : (d : ℕ) → 0 < d → (0 + (d - 1)) / d ≡ 0
 ceil-zero d D = div-eq-of-lt (go d D)
   where
     go : (d : ℕ) → 0 < d → 0 + (d - 1) < d
@@ -136,7 +136,7 @@ opposite : (k a : ℕ) → whole (negℤ (pos k)) ≡ whole (pos a) → (k ≡ 0
 opposite zero a e = (refl, cc)
 opposite (suc k) a e = let k : _≡_ {A = ℕ} 0 1 = cc in absurd (omega arith)
 
-ceil-back : (n d : ℕ) → 0 < d → (n + (d - 1)) / d ≡ 0 → n ≡ 0
+pub ceil-back : (n d : ℕ) → 0 < d → (n + (d - 1)) / d ≡ 0 → n ≡ 0
 ceil-back n d D e = go n d (div-lt-iff-lt-mul D .0 (subst (λ (k : ℕ). k < 1) (sym e) (lit< tt)))
   where
     go : (n d : ℕ) → n + (d - 1) < 1 * d → n ≡ 0

@@ -1,0 +1,4 @@
+pub mod Grids
+pub mod Ranges
+pub mod Exits
+pub mod Spans
