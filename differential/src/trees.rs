@@ -116,9 +116,8 @@ fn spread(r: &mut Random, b: &Bounds, rows: usize, cluster: bool) -> Vec<f64> {
     (0..rows).flat_map(&mut point).collect()
 }
 
-/// Axes, sources, whether they cluster, and whether empty cells are kept. The table of hints has no room for all of the nodes
-/// of the second and the fourth: counts in it are full, and it is made coarser until its parts fit. In the third they fit in
-/// parts of a size for each depth.
+/// Axes, sources, whether they cluster, and whether empty cells are kept. Nodes of all but the first crowd in the table of
+/// hints, so that it has blocks, of the third and the fourth several deep; of the second and the fourth there is no room for all.
 const MANY: [(usize, usize, bool, bool); 4] = [
     (1, 50_000, false, true),
     (2, 30_000, false, true),
@@ -126,13 +125,13 @@ const MANY: [(usize, usize, bool, bool); 4] = [
     (3, 8_000, true, true),
 ];
 
-/// Lookups in trees of many nodes: of the sources, of others, and of so few that no table is made for them.
+/// Lookups in trees of many nodes: of the sources, of others, of so few that the table has no blocks for them, and of so few
+/// that there is no table.
 pub fn lookup_many(t: &mut Tally, r: &mut Random, _case: u64) {
     for (axes, rows, cluster, keep_empty) in MANY {
         let bounds = Bounds::new(&[7.5, -3.25, 100.0][..axes], 64.0);
         let sources = spread(r, &bounds, rows, cluster);
         let others = spread(r, &bounds, 20_000, cluster);
-        let few = others[..axes * 200].to_vec();
         let s = Survey {
             bounds,
             sources,
@@ -145,7 +144,8 @@ pub fn lookup_many(t: &mut Tally, r: &mut Random, _case: u64) {
         let tree = oracle::columns(&s.bounds, &lists);
         let nodes = tree.key.len();
         assert!(nodes > 15_000, "{nodes} nodes are not many");
-        for points in [&s.sources, &others, &few] {
+        let (fewer, few) = (&others[..axes * (nodes / 8)], &others[..axes * 200]);
+        for points in [&s.sources[..], &others, fewer, few] {
             let right = looked_up(&s, &lists.leaves, depth, points);
             let ours = tree.points_to_keys(points);
             let input = || format!("{axes} axes, {} coordinates", points.len());

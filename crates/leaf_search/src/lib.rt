@@ -124,13 +124,17 @@ pub fn leaf_by_search(axes: usize, key: &[u64], hint: usize, code: u64) -> Found
     Found::Nothing
 }
 
-// The same; soonest if it is the node of that number.
+// The same; soonest if it is the node of that number, or the next.
 pub fn leaf_from(axes: usize, key: &[u64], hint: usize, code: u64) -> Found
     requires { ⌜ TreeKeys axes (now key) ⌝ }
     ensures { λ r. ⌜ r ≡ leafOf axes (now (key .entry)) code ⌝ }
 {
     if is_leaf_of(axes, key, hint, code) {
         return Found::At(hint);
+    }
+    let next = std::num::wrapping_add_usize(hint, 1);
+    if is_leaf_of(axes, key, next, code) {
+        return Found::At(next);
     }
     leaf_by_search(axes, key, hint, code)
 }
