@@ -195,7 +195,7 @@ module _ (d : ℕ) (keys own total us uk vs vk : List ℕ) where
       u-total b m = sum-same (ownOf keys total) (ownOf keys own) (rowOf keys us uk b) (λ x n.
           let q = p .u-passes b x m n in total-in x (q .0) ∙ leaf-total d keys own begin t x (u-leaf d keys own b x (q .1)) (q .0))
 
-      met-is : (i : ℕ) → (l : i < length keys) → sourcesMet d keys own (rowOf keys us uk) (rowOf keys vs vk) (getD keys i 0) ≡ rowTotal keys total (rowAt us uk i) + far (getD keys i 0)
+      pub met-is : (i : ℕ) → (l : i < length keys) → sourcesMet d keys own (rowOf keys us uk) (rowOf keys vs vk) (getD keys i 0) ≡ rowTotal keys total (rowAt us uk i) + far (getD keys i 0)
       met-is i l = sym (ap₂ _+_ (ap (rowTotal keys total) (sym (row-at us uk i l)) ∙ u-total (getD keys i 0) (mem i l))
           (sum-same here (λ a. sum (map (totalIn d keys own) (rowOf keys vs vk a))) (ancestors d (getD keys i 0)) (λ a m. v-total a (ancestor-mem d keys own begin t (getD keys i 0) a (mem i l) m))))
 

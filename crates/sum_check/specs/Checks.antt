@@ -30,15 +30,14 @@ firstLarge (x ∷ xs) = cond (isSmall x) (suc (firstLarge xs)) 0
 abbrev pub isLeafAt : ℕ → List ℕ → ℕ → Bool
 isLeafAt d keys node = ltb node (length keys) && leaf d keys (getD keys node 0)
 
-module _ (d : ℕ) (t : Columns) (order : List ℕ) (readings : List ℤ) where
-  -- 1, 13, then 3 when readings and sources differ in number, 20 for a reading that is too large
-  abbrev pub readingsCheck : Outcome
-  readingsCheck = treeCheck d t then ask (eqb (length readings) (sum (t .own))) Shape then ask (eqb (firstLarge readings) (length readings)) (Reading (firstLarge readings))
+-- 1, 13, then 3 when readings and sources differ in number, 20 for a reading that is too large
+abbrev pub readingsCheck : ℕ → Columns → List ℤ → Outcome
+readingsCheck d t readings = treeCheck d t then ask (eqb (length readings) (sum (t .own))) Shape then ask (eqb (firstLarge readings) (length readings)) (Reading (firstLarge readings))
 
-  -- 18 when the lists are not the tree's or the order is no arrangement of all indices
-  abbrev pub builtCheck : (us uk vs vk : List ℕ) → Outcome
-  builtCheck us uk vs vk = ask (listsAre d (t .keys) (t .own) us uk vs vk && arranges order (sum (t .own))) NotBuilt
+-- the lists are the tree's, and the order arranges all indices
+abbrev pub isBuilt : ℕ → Columns → (order us uk vs vk : List ℕ) → Bool
+isBuilt d t order us uk vs vk = listsAre d (t .keys) (t .own) us uk vs vk && arranges order (sum (t .own))
 
-  -- and before that 14, with the number given as its value, when that is no leaf
-  abbrev pub sumCheck : (us uk vs vk : List ℕ) → ℕ → Outcome
-  sumCheck us uk vs vk node = readingsCheck then ask (isLeafAt d (t .keys) node) (NotLeaf node) then builtCheck us uk vs vk
+-- after these 14, with the number given as its value, when that is no leaf, and 18 when the lists or the order are not the tree's
+abbrev pub sumCheck : ℕ → Columns → (order : List ℕ) → List ℤ → (us uk vs vk : List ℕ) → ℕ → Outcome
+sumCheck d t order readings us uk vs vk node = readingsCheck d t readings then ask (isLeafAt d (t .keys) node) (NotLeaf node) then ask (isBuilt d t order us uk vs vk) NotBuilt
