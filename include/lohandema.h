@@ -25,7 +25,8 @@
  * not promises. pthread_attr_setstacksize takes no less than PTHREAD_STACK_MIN, which is 131,072 bytes on some
  * systems, and fails below it: pass the larger of the two.
  *   points_to_keys, get_interaction_lists, get_near_work                                    128 KiB
- *   build_tree, get_sourced_cells                                                            32 KiB
+ *   sum_check, lists_right                                                                   96 KiB
+ *   build_tree, get_sourced_cells, is_arrangement                                            32 KiB
  *   every other call                                                                          8 KiB
  */
 #ifndef LOHANDEMA_H
@@ -367,6 +368,32 @@ lohandema_ended lohandema_get_near_work(size_t axes, const uint64_t *key, size_t
                                         const size_t *begin, size_t begin_len, const size_t *total, size_t total_len,
                                         size_t *starts, size_t starts_len, uint64_t *keys, size_t keys_len,
                                         uint64_t *work);
+
+/* Whether the order column indices has each index below total once, and nothing else: true for the one that a build wrote, with
+ * total the number of its sources. Never refused. */
+bool lohandema_is_arrangement(const size_t *indices, size_t indices_len, size_t total);
+
+/* right: whether the four slices are the lists of the tree, to the last entry: starts of N + 1 entries each, and keys as many as
+ * the last start says. Nothing is lent for it, and no row is made again. right is false after a refusal. Refused 1, 13. */
+lohandema_ended lohandema_lists_right(size_t axes, const uint64_t *key, size_t key_len, const size_t *own, size_t own_len,
+                                      const size_t *begin, size_t begin_len, const size_t *total, size_t total_len,
+                                      const size_t *u_starts, size_t u_starts_len, const uint64_t *u_keys,
+                                      size_t u_keys_len, const size_t *v_starts, size_t v_starts_len,
+                                      const uint64_t *v_keys, size_t v_keys_len, bool *right);
+
+/* The sums of one leaf: readings has a whole number for each source, by the source's index. near: the readings of the leaves in
+ * its U row, one by one. far: those of the cells in the V rows of itself and its ancestors. Together they are the sum of all
+ * readings, for every leaf. additions: one for each near source and one for each far cell. All three are 0 after a refusal.
+ * indices: the order column, as long as there are sources; the lists as the list call wrote them, without what is lent over.
+ * Refused 1, 13, 3 (readings and sources differ in number), 20 (lowest index of a reading over 2^40 in size), 14 (node is no
+ * leaf; value node), 18 (the lists are not the tree's, or indices is no arrangement). Each call checks all of this anew. */
+lohandema_ended lohandema_sum_check(size_t axes, const uint64_t *key, size_t key_len, const size_t *own, size_t own_len,
+                                    const size_t *begin, size_t begin_len, const size_t *total, size_t total_len,
+                                    const size_t *indices, size_t indices_len, const int64_t *readings,
+                                    size_t readings_len, const size_t *u_starts, size_t u_starts_len,
+                                    const uint64_t *u_keys, size_t u_keys_len, const size_t *v_starts,
+                                    size_t v_starts_len, const uint64_t *v_keys, size_t v_keys_len, size_t node,
+                                    int64_t *near, int64_t *far, size_t *additions);
 
 #ifdef __cplusplus
 }

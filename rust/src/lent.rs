@@ -263,6 +263,91 @@ pub fn get_near_work(
     answered(ended, work)
 }
 
+/// Whether an order column has each index below a total once, and nothing else.
+#[must_use]
+pub fn is_arrangement(order: &[usize], total: usize) -> bool {
+    // SAFETY: the slice is read with its own length.
+    unsafe { raw::lohandema_is_arrangement(order.as_ptr(), order.len(), total) }
+}
+
+/// Whether lists are the tree's, to the last entry. Nothing is lent for it, and no row is made again.
+///
+/// # Errors
+/// [`DIMS`](Refusal::DIMS); [`TREE`](Refusal::TREE).
+pub fn lists_right(tree: Columns<'_>, lists: &Lists) -> Result<bool, Refusal> {
+    let mut right = false;
+    // SAFETY: columns and lists are read with their own lengths.
+    let ended = unsafe {
+        raw::lohandema_lists_right(
+            tree.axes,
+            tree.key.as_ptr(),
+            tree.key.len(),
+            tree.own.as_ptr(),
+            tree.own.len(),
+            tree.begin.as_ptr(),
+            tree.begin.len(),
+            tree.total.as_ptr(),
+            tree.total.len(),
+            lists.u.starts.as_ptr(),
+            lists.u.starts.len(),
+            lists.u.keys.as_ptr(),
+            lists.u.keys.len(),
+            lists.v.starts.as_ptr(),
+            lists.v.starts.len(),
+            lists.v.keys.as_ptr(),
+            lists.v.keys.len(),
+            &mut right,
+        )
+    };
+    answered(ended, right)
+}
+
+/// The sums of one leaf: see [`Tree::sum_check`](crate::Tree::sum_check).
+///
+/// # Errors
+/// [`DIMS`](Refusal::DIMS); [`TREE`](Refusal::TREE); [`SHAPE`](Refusal::SHAPE) where readings and sources differ in number;
+/// [`READING`](Refusal::READING); [`NOTLEAF`](Refusal::NOTLEAF) with the node's number; [`NOTBUILT`](Refusal::NOTBUILT).
+pub fn sum_check(
+    tree: Columns<'_>,
+    order: &[usize],
+    readings: &[i64],
+    lists: &Lists,
+    node: usize,
+) -> Result<Sums, Refusal> {
+    let mut sums = Sums::default();
+    // SAFETY: columns, order, readings and lists are read with their own lengths.
+    let ended = unsafe {
+        raw::lohandema_sum_check(
+            tree.axes,
+            tree.key.as_ptr(),
+            tree.key.len(),
+            tree.own.as_ptr(),
+            tree.own.len(),
+            tree.begin.as_ptr(),
+            tree.begin.len(),
+            tree.total.as_ptr(),
+            tree.total.len(),
+            order.as_ptr(),
+            order.len(),
+            readings.as_ptr(),
+            readings.len(),
+            lists.u.starts.as_ptr(),
+            lists.u.starts.len(),
+            lists.u.keys.as_ptr(),
+            lists.u.keys.len(),
+            lists.v.starts.as_ptr(),
+            lists.v.starts.len(),
+            lists.v.keys.as_ptr(),
+            lists.v.keys.len(),
+            node,
+            &mut sums.near,
+            &mut sums.far,
+            &mut sums.additions,
+        )
+    };
+    answered(ended, sums)
+}
+
 /// What a build is asked.
 ///
 /// ```
