@@ -5,6 +5,7 @@ use crate::Refusal;
 use crate::points::Bounds;
 use crate::raw;
 use crate::refusal::answered;
+use crate::trees::{Lists, Sums};
 
 /// The columns of a tree and its number of axes, lent. A [`Tree`](crate::Tree) lends its own, and says how nodes are numbered.
 #[derive(Clone, Copy, Debug, PartialEq, Eq)]

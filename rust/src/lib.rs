@@ -13,7 +13,7 @@
 //!
 //! - [`keys`]: level, parent, children, neighbours, touching, encode and decode.
 //! - [`points`]: the box, a point's cell, the float test of two cells.
-//! - [`trees`]: a tree, its leaves, the sources of a cell, lookup, grouping, sourced cells, lists.
+//! - [`trees`]: a tree, its leaves, the sources of a cell, lookup, grouping, sourced cells, lists, the sums of a leaf.
 //! - [`lent`]: the calls that write, on slices of the caller's own: nothing is allocated.
 //! - [`limits`]: how much the calls take.
 //!
@@ -78,4 +78,4 @@ pub mod trees;
 pub use lent::{Asked, Columns};
 pub use points::Bounds;
 pub use refusal::{Reason, Refusal, Wall};
-pub use trees::{Groups, Leaf, Lists, Rows, Tree};
+pub use trees::{Groups, Leaf, Lists, Rows, Sums, Tree};

@@ -235,7 +235,11 @@ unsafe extern "C" {
         flat_len: usize,
         work: *mut u64,
     ) -> Ended;
-    pub fn lohandema_is_arrangement(indices: *const usize, indices_len: usize, total: usize) -> bool;
+    pub fn lohandema_is_arrangement(
+        indices: *const usize,
+        indices_len: usize,
+        total: usize,
+    ) -> bool;
     pub fn lohandema_lists_right(
         axes: usize,
         key: *const u64,

@@ -88,6 +88,18 @@ pub struct Lists {
     pub v: Rows,
 }
 
+/// The sums of one leaf, and how many additions they take: one for each near source and one for each far cell.
+#[derive(Clone, Copy, Debug, Default, PartialEq, Eq, Hash)]
+#[must_use]
+pub struct Sums {
+    /// The readings of the leaves in the U row.
+    pub near: i64,
+    /// The readings of the cells in the V rows of the leaf and its ancestors.
+    pub far: i64,
+    /// The number of additions.
+    pub additions: usize,
+}
+
 /// The points of each node: those of node n are `indices[starts[n]..starts[n + 1]]`, ascending.
 ///
 /// ```

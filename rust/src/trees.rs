@@ -7,7 +7,7 @@ use crate::points::Bounds;
 use crate::refusal::Refusal;
 use crate::{raw, room};
 
-pub use crate::rows::{Groups, Lists, Rows};
+pub use crate::rows::{Groups, Lists, Rows, Sums};
 
 /// A tree: its box, its columns with an entry for each node, and the order of its sources.
 ///
@@ -307,6 +307,39 @@ impl Tree {
                 answer => return answer,
             }
         }
+    }
+
+    /// Whether lists are this tree's, to the last entry: those that [`get_interaction_lists`](Tree::get_interaction_lists)
+    /// gives are.
+    ///
+    /// # Errors
+    /// [`DIMS`](Refusal::DIMS); [`TREE`](Refusal::TREE).
+    pub fn lists_right(&self, lists: &Lists) -> Result<bool, Refusal> {
+        lent::lists_right(self.columns(), lists)
+    }
+
+    /// The sums of one leaf, by its node number: the readings of the leaves in its U row, and those of the cells in the V
+    /// rows of itself and its ancestors. Together they are the sum of all readings, for every leaf. A reading is a whole
+    /// number, at most 2^40 in size, and stands at its source's index. The lists, the order column and the readings are
+    /// checked anew in each call.
+    ///
+    /// ```
+    /// use lohandema::{Asked, Bounds, Tree};
+    /// let bounds = Bounds::new(&[4.0], 4.0);
+    /// let tree = Tree::build(Asked::new(&bounds, &[0.5, 1.5, 6.5, 7.5], 1))?;
+    /// let lists = tree.get_interaction_lists()?;
+    /// let sums = tree.sum_check(&lists, &[1, 2, 3, 4], 3)?;
+    /// assert_eq!((sums.near, sums.far, sums.additions), (3, 7, 3));
+    /// # Ok::<(), lohandema::Refusal>(())
+    /// ```
+    ///
+    /// # Errors
+    /// [`DIMS`](Refusal::DIMS); [`TREE`](Refusal::TREE); [`SHAPE`](Refusal::SHAPE) where readings and sources differ in
+    /// number; [`READING`](Refusal::READING) with the lowest index of a reading that is too large;
+    /// [`NOTLEAF`](Refusal::NOTLEAF) with the number given; [`NOTBUILT`](Refusal::NOTBUILT) where the lists or the order
+    /// column are not the tree's.
+    pub fn sum_check(&self, lists: &Lists, readings: &[i64], node: usize) -> Result<Sums, Refusal> {
+        lent::sum_check(self.columns(), &self.order, readings, lists, node)
     }
 
     /// The near and far rows.
