@@ -51,6 +51,7 @@ void test_keys(void);
 void test_points(void);
 void test_build(void);
 void test_trees(void);
+void test_near_work(void);
 void test_totals(void);
 void test_order(void);
 void test_null(void);

@@ -88,15 +88,14 @@ static void make_lists(const tree *t, list *u, list *v)
     stop_if_refused(ended);
 }
 
-/* The sum over leaves of own sources times sources in the U row. The call writes the U list again, into slices of its own. */
-static uint64_t near_work(const tree *t, const list *u)
+/* How many pairs of a target and a source are summed singly. No targets are passed, so that the sources serve as such. */
+static uint64_t near_work(const tree *t)
 {
-    size_t room = u->starts[t->nodes], *starts = (size_t *)slice(NULL, t->nodes + 1);
-    uint64_t work, *keys = (uint64_t *)slice(NULL, room);
-    stop_if_refused(lohandema_get_near_work(AXES, t->key, t->nodes, t->own, t->nodes, t->begin, t->nodes, t->total,
-                                            t->nodes, starts, t->nodes + 1, keys, room, &work));
-    free(starts);
-    free(keys);
+    size_t *counts = (size_t *)slice(NULL, t->nodes);
+    uint64_t work;
+    stop_if_refused(lohandema_get_near_work(centre, radius, AXES, t->key, t->nodes, t->own, t->nodes, t->begin, t->nodes,
+                                            t->total, t->nodes, NULL, 0, counts, t->nodes, &work));
+    free(counts);
     return work;
 }
 
@@ -128,7 +127,7 @@ int main(void)
     tree t = build();
     list u = {NULL, NULL}, v = {NULL, NULL};
     make_lists(&t, &u, &v);
-    printf("tree %d %zu %" PRIu64 " %d %" PRIu64 "\n", AXES, t.nodes, t.depth, SOURCES, near_work(&t, &u));
+    printf("tree %d %zu %" PRIu64 " %d %" PRIu64 "\n", AXES, t.nodes, t.depth, SOURCES, near_work(&t));
     print_nodes(&t, &u, &v);
     void *slices[9] = {t.key, t.own, t.begin, t.total, t.order, u.starts, u.keys, v.starts, v.keys};
     for (size_t i = 0; i < 9; i++)

@@ -91,7 +91,7 @@ static void get_interaction_lists(void)
 static void get_near_work(void)
 {
     uint64_t sum;
-    last = lohandema_get_near_work(axes, COLUMNS, u_starts, NODES + 1, u_keys, KEYS, &sum);
+    last = lohandema_get_near_work(BOX, COLUMNS, targets, axes * points, starts, NODES, &sum);
 }
 
 static void keys_of_one(lohandema_ended (*call)(size_t, uint64_t, uint64_t *, size_t *), uint64_t of)

@@ -94,6 +94,7 @@ int main(void)
     test_points();
     test_build();
     test_trees();
+    test_near_work();
     test_totals();
     test_order();
     test_null();

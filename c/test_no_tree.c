@@ -41,9 +41,16 @@ static void lists_refused(tree t)
           LOHANDEMA_TREE, 0);
     EXPECT(u == 0 && v == 0 && ZEROED(u_starts, ROOM) && ZEROED(u_keys, ROOM) && ZEROED(v_starts, ROOM));
     EXPECT(ZEROED(v_keys, ROOM));
-    prepare();
-    ENDED(lohandema_get_near_work(1, TREE_COLUMNS(t), u_starts, ROOM, u_keys, ROOM, &work), LOHANDEMA_TREE, 0);
-    EXPECT(work == 0 && ZEROED(u_starts, ROOM) && ZEROED(u_keys, ROOM));
+}
+
+/* With a target and without. */
+static void near_work_refused(tree t)
+{
+    for (size_t len = 0; len < 2; len++) {
+        prepare();
+        ENDED(lohandema_get_near_work(centre, 4.0, 1, TREE_COLUMNS(t), point, len, u_starts, ROOM, &work), LOHANDEMA_TREE, 0);
+        EXPECT(work == 0 && ZEROED(u_starts, ROOM));
+    }
 }
 
 void no_tree(tree t)
@@ -52,4 +59,5 @@ void no_tree(tree t)
     lookup_refused(t);
     grouping_and_cells_refused(t);
     lists_refused(t);
+    near_work_refused(t);
 }

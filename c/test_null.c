@@ -129,14 +129,26 @@ static void lists(void)
 
 static void near_work(void)
 {
-    uint64_t keys[4] = {0}, work = 7;
-    size_t starts[4] = {0};
-    ENDED(lohandema_get_near_work(1, NO_COLUMNS, NULL, 0, NULL, 0, &work), LOHANDEMA_TREE, 0);
-    ENDED(lohandema_get_near_work(1, COLUMNS, NULL, 0, keys, 4, &work), LOHANDEMA_ROOM, LOHANDEMA_ROOM_U_STARTS);
-    ENDED(lohandema_get_near_work(1, COLUMNS, starts, 4, NULL, 0, &work), LOHANDEMA_ROOM, LOHANDEMA_ROOM_U_KEYS);
+    uint64_t work = 7;
+    size_t counts[4] = {7, 7, 7, 7};
+    ENDED(lohandema_get_near_work(centre, 4.0, 1, NO_COLUMNS, NULL, 0, NULL, 0, &work), LOHANDEMA_TREE, 0);
     EXPECT(work == 0);
-    ENDED(lohandema_get_near_work(1, ROOT, starts, 2, NULL, 0, &work), 0, 0);
-    EXPECT(work == 0);
+    ENDED(lohandema_get_near_work(centre, 4.0, 1, NO_COLUMNS, halves, 2, counts, 4, &work), LOHANDEMA_TREE, 0);
+    EXPECT(all_zero(counts, sizeof counts));
+    ENDED(lohandema_get_near_work(centre, 4.0, 1, key, 3, NULL, 0, begin, 3, total, 3, NULL, 0, NULL, 0, &work),
+          LOHANDEMA_TREE, 0);
+    ENDED(lohandema_get_near_work(centre, 4.0, 1, key, 3, own, 3, NULL, 0, total, 3, NULL, 0, NULL, 0, &work),
+          LOHANDEMA_TREE, 0);
+    ENDED(lohandema_get_near_work(centre, 4.0, 1, key, 3, own, 3, begin, 3, NULL, 0, NULL, 0, NULL, 0, &work),
+          LOHANDEMA_TREE, 0);
+    ENDED(lohandema_get_near_work(centre, 4.0, 1, COLUMNS, NULL, 0, NULL, 0, &work), LOHANDEMA_ROOM, LOHANDEMA_ROOM_POINTS);
+    ENDED(lohandema_get_near_work(centre, 4.0, 1, COLUMNS, halves, 2, NULL, 0, &work), LOHANDEMA_ROOM, LOHANDEMA_ROOM_POINTS);
+    ENDED(lohandema_get_near_work(centre, 4.0, 1, ROOT, NULL, 0, NULL, 0, &work), LOHANDEMA_ROOM, LOHANDEMA_ROOM_POINTS);
+    counts[0] = 7;
+    ENDED(lohandema_get_near_work(centre, 4.0, 1, ROOT, NULL, 0, counts, 4, &work), 0, 0);
+    EXPECT(work == 0 && all_zero(counts, sizeof counts));
+    ENDED(lohandema_get_near_work(centre, 4.0, 1, COLUMNS, NULL, 0, counts, 4, &work), 0, 0);
+    EXPECT(work == 4 && counts[0] == 0 && counts[1] == 1 && counts[2] == 1 && counts[3] == 0);
 }
 
 /* The extents of lohandema_calculate_tree_center_and_radius are tried with the points. */

@@ -229,33 +229,6 @@ static void lists(void)
     LISTS_REFUSED(1, own, 10, 8, 10, 1, LOHANDEMA_ROOM, LOHANDEMA_ROOM_V_KEYS);
 }
 
-static uint64_t work;
-
-static lohandema_ended near_work(size_t axes, const size_t *owns, size_t us, size_t uk)
-{
-    fill_with_junk(u_starts, sizeof u_starts);
-    fill_with_junk(u_keys, sizeof u_keys);
-    work = 77;
-    return lohandema_get_near_work(axes, COLUMNS(owns), u_starts, us, u_keys, uk, &work);
-}
-
-#define WORK_REFUSED(axes, owns, us, uk, number, value)                                                                      \
-    do {                                                                                                                     \
-        ENDED(near_work(axes, owns, us, uk), (number), (value));                                                             \
-        EXPECT(work == 0 && ZEROED(u_starts, (us)) && ZEROED(u_keys, (uk)));                                                 \
-    } while (0)
-
-static void work_of_the_near(void)
-{
-    ENDED(near_work(1, own, 12, 13), 0, 0);
-    EXPECT(work == 8 && STARTS_WITH(u_starts, first_near) && REST_ZEROED(u_starts, NODES + 1, 12));
-    EXPECT(STARTS_WITH(u_keys, near_keys) && REST_ZEROED(u_keys, 8, 13));
-    WORK_REFUSED(4, lying, 9, 7, LOHANDEMA_DIMS, 0);
-    WORK_REFUSED(1, lying, 9, 7, LOHANDEMA_TREE, 0);
-    WORK_REFUSED(1, own, 9, 7, LOHANDEMA_ROOM, LOHANDEMA_ROOM_U_STARTS);
-    WORK_REFUSED(1, own, 10, 7, LOHANDEMA_ROOM, LOHANDEMA_ROOM_U_KEYS);
-}
-
 void test_trees(void)
 {
     known_columns();
@@ -266,5 +239,4 @@ void test_trees(void)
     refused_by_count();
     sourced_cells();
     lists();
-    work_of_the_near();
 }

@@ -362,12 +362,15 @@ lohandema_ended lohandema_get_interaction_lists(size_t axes, const uint64_t *key
                                                 size_t v_starts_len, uint64_t *v_keys, size_t v_keys_len, size_t *u,
                                                 size_t *v);
 
-/* work: near work, the sum over leaves of own sources times sources in the U row. starts and keys: the U list, as above, which
- * it writes. Refused 1, 13, 8 (4 starts, 6 keys). */
-lohandema_ended lohandema_get_near_work(size_t axes, const uint64_t *key, size_t key_len, const size_t *own, size_t own_len,
-                                        const size_t *begin, size_t begin_len, const size_t *total, size_t total_len,
-                                        size_t *starts, size_t starts_len, uint64_t *keys, size_t keys_len,
-                                        uint64_t *work);
+/* work: near work, the sum over leaves of the targets in the leaf times the sources in its U row: how many pairs of a target
+ * and a source are summed singly. counts: how many targets each node has, in the numbering of the columns; only leaves have any.
+ * Without targets (targets_len 0) the sources serve as targets, and counts is own. targets_len counts coordinates; counts needs
+ * N entries. No list is needed, and none is made.
+ * Refused 1, 2, 3, 4, 13, 8 (value 8), and then for the first target that is outside (7) or in no leaf (12). */
+lohandema_ended lohandema_get_near_work(const double centre[3], double radius, size_t axes, const uint64_t *key,
+                                        size_t key_len, const size_t *own, size_t own_len, const size_t *begin,
+                                        size_t begin_len, const size_t *total, size_t total_len, const double *targets,
+                                        size_t targets_len, size_t *counts, size_t counts_len, uint64_t *work);
 
 /* Whether the order column indices has each index below total once, and nothing else: true for the one that a build wrote, with
  * total the number of its sources. Never refused. */
