@@ -1,5 +1,5 @@
-//! What it costs that room is guessed: build, lists and near work of a survey, with room made by the crate and with exactly
-//! the room that is needed. `cargo run --release --example room`, or with the number of points after `--`.
+//! What it costs that room is guessed: build and lists of a survey, with room made by the crate and with exactly the room
+//! that is needed. `cargo run --release --example room`, or with the number of points after `--`.
 #[path = "../../bench/src/clock.rs"]
 mod clock;
 #[path = "../../bench/src/shapes.rs"]
@@ -43,13 +43,6 @@ fn lists_exactly(tree: &Tree, lists: &Lists) -> Lists {
     same
 }
 
-/// Near work with as much room as it needs.
-fn near_exactly(tree: &Tree, lists: &Lists) -> u64 {
-    let mut starts = vec![0; lists.u.starts.len()];
-    let mut keys = vec![0; lists.u.keys.len()];
-    lent::get_near_work(tree.columns(), &mut starts, &mut keys).expect("room")
-}
-
 fn tell(call: &str, [guessed, exact]: [f64; 2]) {
     let ratio = guessed / exact;
     println!("  {call}: {guessed:.1} ms, with exact room {exact:.1} ms: {ratio:.3}");
@@ -74,10 +67,6 @@ fn measure(name: &str, asked: Asked) {
             || tree.get_interaction_lists(),
             || lists_exactly(&tree, &lists),
         ),
-    );
-    tell(
-        "near work",
-        least_of_two(5, || tree.get_near_work(), || near_exactly(&tree, &lists)),
     );
 }
 

@@ -231,21 +231,29 @@ pub fn get_interaction_lists(
     answered(ended, (u, v))
 }
 
-/// Near work: the sum over leaves of own sources times sources in the U row. The U list goes into the two slices, as
-/// [`get_interaction_lists`] writes it.
+/// Near work: the sum over leaves of the targets in the leaf times the sources in its U row, which is how many pairs of a target
+/// and a source are summed singly. How many targets each node has goes into `counts`, which has at least one entry for each
+/// node; only leaves have any. Without targets the sources serve as targets, and `counts` is `own`. The targets are rows of one
+/// coordinate for each axis, flat.
 ///
 /// # Errors
-/// [`DIMS`](Refusal::DIMS); [`TREE`](Refusal::TREE); [`ROOM`](Refusal::ROOM) 4 or 6.
+/// [`DIMS`](Refusal::DIMS), also if box and tree differ in their axes; [`BOX`](Refusal::BOX); [`SHAPE`](Refusal::SHAPE);
+/// [`COUNT`](Refusal::COUNT); [`TREE`](Refusal::TREE); [`ROOM`](Refusal::ROOM) 8; then for the lowest failing target
+/// [`POINT`](Refusal::POINT) if it is outside the box or [`UNSTORED`](Refusal::UNSTORED) if no leaf holds it.
 pub fn get_near_work(
+    bounds: &Bounds,
     tree: Columns<'_>,
-    u_starts: &mut [usize],
-    u_keys: &mut [u64],
+    targets: &[f64],
+    counts: &mut [usize],
 ) -> Result<u64, Refusal> {
+    tree.same_axes(bounds).inspect_err(|_| counts.fill(0))?;
     let mut work = 0;
-    // SAFETY: columns are read with their own lengths; both slices, lent to us alone, are written within theirs.
+    // SAFETY: columns and targets are read with their own lengths; `counts`, lent to us alone, is written within its own.
     let ended = unsafe {
         raw::lohandema_get_near_work(
-            tree.axes,
+            &bounds.centre,
+            bounds.radius,
+            bounds.axes,
             tree.key.as_ptr(),
             tree.key.len(),
             tree.own.as_ptr(),
@@ -254,10 +262,10 @@ pub fn get_near_work(
             tree.begin.len(),
             tree.total.as_ptr(),
             tree.total.len(),
-            u_starts.as_mut_ptr(),
-            u_starts.len(),
-            u_keys.as_mut_ptr(),
-            u_keys.len(),
+            targets.as_ptr(),
+            targets.len(),
+            counts.as_mut_ptr(),
+            counts.len(),
             &mut work,
         )
     };

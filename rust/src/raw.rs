@@ -220,6 +220,8 @@ unsafe extern "C" {
         v: *mut usize,
     ) -> Ended;
     pub fn lohandema_get_near_work(
+        centre: *const [f64; 3],
+        radius: f64,
         axes: usize,
         key: *const u64,
         key_len: usize,
@@ -229,10 +231,10 @@ unsafe extern "C" {
         begin_len: usize,
         total: *const usize,
         total_len: usize,
-        starts: *mut usize,
-        starts_len: usize,
-        flat: *mut u64,
-        flat_len: usize,
+        targets: *const f64,
+        targets_len: usize,
+        counts: *mut usize,
+        counts_len: usize,
         work: *mut u64,
     ) -> Ended;
     pub fn lohandema_is_arrangement(

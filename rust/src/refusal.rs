@@ -158,7 +158,7 @@ impl Refusal {
                 "the V keys are short: lend more, or, where the most that count (16777216) were lent, raise the limit of a cell"
             }
             8 => {
-                "the lookup output or the grouping's starts or indices are short: lend one entry for each point, and one start more than there are nodes"
+                "the lookup output, the grouping's starts or indices, or near work's counts are short: lend one output or index for each point, one start more than there are nodes, one count for each node"
             }
             9 => "the sourced cells are short: lend one entry for each node",
             _ => {

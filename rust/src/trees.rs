@@ -292,21 +292,26 @@ impl Tree {
         Ok(room::cut(cells, count))
     }
 
-    /// Near work: the sum over leaves of own sources times sources in the U row.
+    /// Near work: the sum over leaves of the targets in the leaf times the sources in its U row, which is how many pairs of a
+    /// target and a source are summed singly. Without targets the sources serve as targets. The targets are rows of one
+    /// coordinate for each axis, flat. [`lent::get_near_work`] also tells how many targets each node has.
+    ///
+    /// ```
+    /// use lohandema::{Asked, Bounds, Refusal, Tree};
+    /// let bounds = Bounds::new(&[4.0], 4.0);
+    /// let tree = Tree::build(Asked::new(&bounds, &[0.5, 1.5, 6.5, 7.5], 1))?;
+    /// assert_eq!(tree.get_near_work(&[]), Ok(8));
+    /// assert_eq!(tree.get_near_work(&[0.5, 0.7, 7.9]), Ok(6));
+    /// // no leaf holds 3.0, as empty cells are not kept
+    /// assert_eq!(tree.get_near_work(&[0.5, 3.0]), Err(Refusal::new(Refusal::UNSTORED, 1)));
+    /// # Ok::<(), lohandema::Refusal>(())
+    /// ```
     ///
     /// # Errors
-    /// [`DIMS`](Refusal::DIMS); [`TREE`](Refusal::TREE); [`ROOM`](Refusal::ROOM) 6 if the U list has more than 16,777,216
-    /// keys.
-    pub fn get_near_work(&self) -> Result<u64, Refusal> {
-        let mut starts = vec![0; self.key.len() + 1];
-        let (mut room, _) = room::lists(self);
-        loop {
-            let mut keys = vec![0; room];
-            match lent::get_near_work(self.columns(), &mut starts, &mut keys) {
-                Err(room::U_SHORT) if room < MOST_KEYS => room = room::more(room),
-                answer => return answer,
-            }
-        }
+    /// As [`lent::get_near_work`] with the tree's own box; never [`ROOM`](Refusal::ROOM).
+    pub fn get_near_work(&self, targets: &[f64]) -> Result<u64, Refusal> {
+        let mut counts = vec![0; self.key.len()];
+        lent::get_near_work(&self.bounds, self.columns(), targets, &mut counts)
     }
 
     /// Whether lists are this tree's, to the last entry: those that [`get_interaction_lists`](Tree::get_interaction_lists)

@@ -48,7 +48,8 @@ fn the_example() {
     assert_eq!(groups.starts, [0, 0, 0, 0, 1, 1, 1, 1, 1, 3]);
     assert_eq!(groups.indices, [1, 0, 2]);
     assert_eq!(tree.get_sourced_cells().unwrap().len(), 9);
-    assert_eq!(tree.get_near_work(), Ok(8));
+    assert_eq!(tree.get_near_work(&[]), Ok(8));
+    assert_eq!(tree.get_near_work(&[0.5]), Ok(2));
     let lists = tree.get_interaction_lists().unwrap();
     assert_eq!(lists.u.row(3), [3, 32771]);
     assert_eq!(lists.u.row(2), []);

@@ -94,7 +94,10 @@ fn calls(tree: &Tree) {
     judged(axes, tree.get_points_to_leaves_map(&[]));
     judged(axes, tree.get_points_to_leaves_map(&NUMBERS));
     judged(axes, tree.get_sourced_cells());
-    judged(axes, tree.get_near_work());
+    for length in 0..5 {
+        judged(axes, tree.get_near_work(&[4.5; 5][..length]));
+        judged(axes, tree.get_near_work(&[f64::NAN; 5][..length]));
+    }
     judged(axes, tree.get_interaction_lists());
 }
 
@@ -193,12 +196,12 @@ fn slices_of_no_entries() {
     for axes in AXES {
         let columns = Columns::new(axes, &[], &[], &[], &[]);
         judged(axes, lent::get_sourced_cells(columns, &mut []));
-        judged(axes, lent::get_near_work(columns, &mut [], &mut []));
         let lists = lent::get_interaction_lists(columns, &mut [], &mut [], &mut [], &mut []);
         judged(axes, lists);
         let map = lent::get_points_to_leaves_map(columns, &[], &mut [], &mut []);
         judged(axes, map);
         assert!(lent::points_to_keys(&bounds, columns, &[], &mut []).is_err());
+        assert!(lent::get_near_work(&bounds, columns, &[], &mut []).is_err());
     }
     let columns = Columns::new(1, &[0, 1, 32769], &[0; 3], &[0; 3], &[0; 3]);
     let cells = lent::get_sourced_cells(columns, &mut []);
@@ -207,6 +210,8 @@ fn slices_of_no_entries() {
     assert_eq!(lists, Err(Refusal::new(Refusal::ROOM, 4)));
     let points = lent::points_to_keys(&bounds, columns, &[1.0], &mut []);
     assert_eq!(points, Err(Refusal::new(Refusal::ROOM, 8)));
+    let work = lent::get_near_work(&bounds, columns, &[], &mut []);
+    assert_eq!(work, Err(Refusal::new(Refusal::ROOM, 8)));
 }
 
 #[test]
@@ -225,6 +230,10 @@ fn more_points_than_are_taken() {
         tree.points_to_keys(&many[1..]).unwrap().0.len(),
         MOST_POINTS
     );
+    assert_eq!(tree.get_near_work(&many), Err(count));
+    let most = MOST_POINTS as u64;
+    assert_eq!(tree.get_near_work(&many[1..]), Ok(most * most));
+    assert_eq!(tree.get_near_work(&[]), Ok(most * most));
     let leaves = vec![1; MOST_POINTS + 1];
     assert_eq!(tree.get_points_to_leaves_map(&leaves), Err(count));
     assert!(tree.get_points_to_leaves_map(&leaves[1..]).is_ok());

@@ -159,13 +159,15 @@ fn room_names_the_slice() {
         let (cause, _) = sentence(Refusal::new(Refusal::ROOM, place + 1));
         assert!(cause.contains(slice) && cause.contains("short"), "{cause}");
     }
+    let (cause, cure) = sentence(Refusal::new(Refusal::ROOM, 8));
+    assert!(cause.contains("near work's counts") && cure.contains("one count for each node"));
     let (cause, _) = sentence(Refusal::new(Refusal::ROOM, 12));
     assert_eq!(cause, "a lent slice is short");
 }
 
 #[test]
 fn a_number_without_a_name_is_told_too() {
-    for number in [0, 16, 99, u64::MAX] {
+    for number in [0, 21, 99, u64::MAX] {
         let refusal = Refusal::new(number, 3);
         assert_eq!(refusal.name(), "");
         let end = format!("(refused {number} 3)");

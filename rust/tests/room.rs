@@ -1,7 +1,6 @@
 //! Room is made: no build is refused for want of it, and long lists are whole.
 
-use lohandema::{Asked, Bounds, Leaf, Lists, Rows, Tree, lent};
-use std::collections::HashMap;
+use lohandema::{Asked, Bounds, Lists, Rows, Tree, lent};
 
 /// Numbers from 0 to 1, by a fixed rule.
 struct Unit(u64);
@@ -100,26 +99,4 @@ fn lists_are_whole_where_the_first_guess_is_short() {
     for tree in [long_u, long_v] {
         assert!(tree.get_interaction_lists().unwrap() == with_much_room(&tree));
     }
-}
-
-#[test]
-fn near_work_is_whole_too() {
-    let bounds = Bounds::new(&[4.0; 3], 4.0);
-    let tree = Tree::build(Asked::new(&bounds, &shells(&bounds)[..1200], 1)).unwrap();
-    let lists = tree.get_interaction_lists().unwrap();
-    let own: HashMap<u64, usize> = tree.key.iter().copied().zip(tree.own.clone()).collect();
-    let near = |leaf: Leaf| {
-        lists
-            .u
-            .row(leaf.node)
-            .iter()
-            .map(|key| own[key])
-            .sum::<usize>()
-    };
-    let work: usize = tree
-        .leaves()
-        .unwrap()
-        .map(|leaf| leaf.sources.len() * near(leaf))
-        .sum();
-    assert_eq!(tree.get_near_work(), Ok(work as u64));
 }

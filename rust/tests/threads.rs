@@ -13,7 +13,8 @@ fn calls(sources: &[f64], axes: usize) -> (Tree, Lists, Groups, u64) {
     tree.point_to_leaf(&sources[..axes]).unwrap();
     let groups = tree.get_points_to_leaves_map(&leaves).unwrap();
     tree.get_sourced_cells().unwrap();
-    let work = tree.get_near_work().unwrap();
+    let work = tree.get_near_work(sources).unwrap();
+    assert_eq!(tree.get_near_work(&[]), Ok(work));
     (tree, lists, groups, work)
 }
 

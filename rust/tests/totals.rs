@@ -70,7 +70,8 @@ fn refused(tree: &Tree) {
     assert_eq!(tree.points_to_keys(&[0.5]), Err(WRONG));
     assert_eq!(tree.get_points_to_leaves_map(&[]), Err(WRONG));
     assert_eq!(tree.get_sourced_cells(), Err(WRONG));
-    assert_eq!(tree.get_near_work(), Err(WRONG));
+    assert_eq!(tree.get_near_work(&[]), Err(WRONG));
+    assert_eq!(tree.get_near_work(&[0.5]), Err(WRONG));
     assert_eq!(tree.get_interaction_lists(), Err(WRONG));
 }
 
