@@ -97,6 +97,7 @@ int main(void)
     test_near_work();
     test_totals();
     test_order();
+    test_sums();
     test_null();
     printf("%u checks, %u failed\n", made, failed);
     return failed == 0 ? 0 : 1;
