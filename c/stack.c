@@ -20,10 +20,12 @@ static uint64_t work[3 * POINTS], key[NODES], u_keys[KEYS], v_keys[KEYS], output
 static size_t order[POINTS], own[NODES], begin[NODES], total[NODES], u_starts[NODES + 1], v_starts[NODES + 1];
 static size_t starts[NODES + 1], indices[POINTS], nodes;
 static size_t points, limit;
+static int64_t readings[POINTS];
 static lohandema_ended last;
 
 #define BOX centre, 32.0, axes
 #define COLUMNS key, nodes, own, nodes, begin, nodes, total, nodes
+#define LISTS u_starts, nodes + 1, u_keys, u_starts[nodes], v_starts, nodes + 1, v_keys, v_starts[nodes]
 
 static void nothing(void)
 {
@@ -92,6 +94,27 @@ static void get_near_work(void)
 {
     uint64_t sum;
     last = lohandema_get_near_work(BOX, COLUMNS, targets, axes * points, starts, NODES, &sum);
+}
+
+/* With the lists as the list call has just written them; the last node is a leaf. */
+static void lists_right(void)
+{
+    bool right;
+    last = lohandema_lists_right(axes, COLUMNS, LISTS, &right);
+    if (last.number == 0 && !right)
+        last.number = 99;
+}
+
+static void sum_check(void)
+{
+    int64_t near, far;
+    size_t additions;
+    last = lohandema_sum_check(axes, COLUMNS, order, points, readings, points, LISTS, nodes - 1, &near, &far, &additions);
+}
+
+static void is_arrangement(void)
+{
+    last.number = lohandema_is_arrangement(order, points, points) ? 0 : 99;
 }
 
 static void keys_of_one(lohandema_ended (*call)(size_t, uint64_t, uint64_t *, size_t *), uint64_t of)
@@ -216,6 +239,9 @@ static struct {
     {"get_sourced_cells", get_sourced_cells, 32 * KIB, 0},
     {"get_interaction_lists", get_interaction_lists, LOHANDEMA_STACK, 0},
     {"get_near_work", get_near_work, LOHANDEMA_STACK, 0},
+    {"lists_right", lists_right, 96 * KIB, 0},
+    {"sum_check", sum_check, 96 * KIB, 0},
+    {"is_arrangement", is_arrangement, 32 * KIB, 0},
     {"get_neighbours", get_neighbours, 8 * KIB, 0},
     {"get_children", get_children, 8 * KIB, 0},
     {"get_siblings", get_siblings, 8 * KIB, 0},
