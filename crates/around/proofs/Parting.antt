@@ -16,7 +16,7 @@ use Rattle.sourced.proofs.Putting.{put-room, store-past, filter-yes, filter-no}
 use Rattle.links.specs.Links.{inner}
 use Rattle.links.proofs.Children.{filter-here, filter-past}
 use Rattle.around.specs.Masks.{bitOf}
-use Rattle.around.specs.Parting.{keyOf, nearAt, farAt, Parting, Parts, innerAt, leavesAt, Splits}
+use Rattle.around.specs.Parting.{keyOf, nearAt, farAt, Parting, Parts, Storable, Stored, innerAt, leavesAt, Splits}
 use Rattle.around.proofs.Lists.{map-append, length-mapped, filter-longer}
 
 -- ---- keys put into a slice
@@ -96,6 +96,41 @@ module _ {keys nodes masks : List ℕ} {s : ℕ} {far₀ : List ℕ} {f₀ : ℕ
         near = w .near ∙ ap (λ n. nearAt masks n s) e;
         few = parts-few c p b;
       }
+
+-- ---- entries stored one after the other, where there is room for all
+pub record Storing (keys nodes masks : List ℕ) (c s : ℕ) (far₀ : List ℕ) (f₀ : ℕ) (near₀ : List ℕ) (far : List ℕ) (f : ℕ) (near : List ℕ) (t j : ℕ) : Type 0 where
+  pub parts : PartsTo keys nodes masks s far₀ f₀ far f near t j
+  pub long : length far ≡ length far₀
+  pub kept : length near ≡ length near₀
+  pub room : f + (c - j) ≤ length far₀
+  pub most : j ≤ c
+
+module _ {keys nodes masks : List ℕ} {c s : ℕ} {far₀ : List ℕ} {f₀ : ℕ} {near₀ : List ℕ} (p : Parting keys nodes masks c s) (big : 28 ≤ length near₀) where
+  pub storing-start : f₀ + c ≤ length far₀ → Storing keys nodes masks c s far₀ f₀ near₀ far₀ f₀ near₀ 0 0
+  storing-start h = record { parts = parts-start keys nodes masks s far₀ f₀ near₀; long = refl; kept = refl; room = omega arith; most = omega arith }
+
+  module _ {far : List ℕ} {f : ℕ} {near : List ℕ} {t j : ℕ} (w : Storing keys nodes masks c s far₀ f₀ near₀ far f near t j) (h : j < c) where
+    pub storing-can : Storable keys nodes masks s j far f near t
+    storing-can = record {
+      entry = omega (arith, p .fits);
+      masked = omega (arith, p .fits, p .room);
+      inside = p .inside j h;
+      index = p .index;
+      room = omega (arith, w .long, w .room);
+      more = omega (arith, w .kept, parts-few (w .parts) c p (w .most));
+    }
+
+    pub storing-one : {far' : List ℕ} {f' : ℕ} {near' : List ℕ} {t' : ℕ} → Stored keys nodes masks s j far f far' f' near t near' t' → Storing keys nodes masks c s far₀ f₀ near₀ far' f' near' t' (j + 1)
+    storing-one {far'} {f'} {near'} {t'} b = record {
+      parts = rw (b .key, b .position, b .counted, b .found) (parts-store (w .parts) (storing-can .room) (storing-can .more) (b .touches) (b .few) (b .tells));
+      long = ap length (b .key) ∙ length-set far f (keyOf keys nodes j) ∙ w .long;
+      kept = ap length (b .position) ∙ length-set near t j ∙ w .kept;
+      room = omega (arith, b .counted, w .room, h);
+      most = omega (arith, h);
+    }
+
+  pub storing-all : {far : List ℕ} {f : ℕ} {near : List ℕ} {t j : ℕ} → Storing keys nodes masks c s far₀ f₀ near₀ far f near t j → c ≤ j → Parts keys nodes masks c s far₀ f₀ far f near t
+  storing-all w h = parts-all (w .parts) c p h (w .most)
 
 -- ---- the near entries up to i were split
 module _ (keys nodes places near owners₀ : List ℕ) (o₀ : ℕ) where

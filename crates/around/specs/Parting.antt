@@ -2,8 +2,9 @@
 use mathlib.Core.Path.{_≡_}
 use mathlib.Core.Bool.{not}
 use mathlib.Core.List.{List, map}
-use Prim.Native.Nat.{ℕ, _≤_, _<_}
-use lib.ListN.{length, getD, take}
+use Prim.Native.Nat.{ℕ, _+_, _-_, _≤_, _<_}
+use lib.Dec.{eqb}
+use lib.ListN.{length, getD, take, set}
 use Rattle.slices.specs.Lists.{filter, range}
 use Rattle.sourced.specs.Room.{Puts}
 use Rattle.links.specs.Links.{inner}
@@ -35,6 +36,25 @@ pub record Parts (keys nodes masks : List ℕ) (c s : ℕ) (far : List ℕ) (f :
   pub fits : t ≤ length near'
   pub near : take t near' ≡ nearAt masks c s
   pub few : t ≤ 27
+
+-- the entry at position j can be stored past f far keys and t near positions
+pub record Storable (keys nodes masks : List ℕ) (s j : ℕ) (far : List ℕ) (f : ℕ) (near : List ℕ) (t : ℕ) : Type 0 where
+  pub entry : j < length nodes
+  pub masked : j < length masks
+  pub inside : getD nodes j 0 < length keys
+  pub index : s < 64
+  pub room : f < length far
+  pub more : t < length near
+
+-- it was: its key and its position, of which one counts
+pub record Stored (keys nodes masks : List ℕ) (s j : ℕ) (far : List ℕ) (f : ℕ) (far' : List ℕ) (f' : ℕ) (near : List ℕ) (t : ℕ) (near' : List ℕ) (t' : ℕ) : Type 0 where
+  pub key : far' ≡ set far f (keyOf keys nodes j)
+  pub position : near' ≡ set near t j
+  pub touches : ℕ
+  pub few : touches < 2
+  pub tells : eqb touches 1 ≡ bitOf (getD masks j 0) s
+  pub counted : f' ≡ f + (1 - touches)
+  pub found : t' ≡ t + touches
 
 -- the first t of `near` are positions of entries
 pub record Positions (keys nodes places near : List ℕ) (t : ℕ) : Type 0 where

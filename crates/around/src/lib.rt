@@ -10,7 +10,7 @@ ghost use Rattle.links.specs.Links.{inner, sourcedChildren, LinkedTree};
 ghost use Rattle.places.specs.Places.{placeOf};
 ghost use Rattle.around.specs.Masks.{Beneath, MaskOf};
 ghost use Rattle.around.specs.Around.{nodesIn, EntriesIn, FrameIn, NearListed, Beside};
-ghost use Rattle.around.specs.Parting.{Parting, Parts, Positions, Splits};
+ghost use Rattle.around.specs.Parting.{Parting, Parts, Storable, Stored, Positions, Splits};
 
 // The most nodes near a cell, itself among them.
 pub const NEAR_ROOM: usize = Three::NEIGHBOURS + 1;
@@ -127,7 +127,31 @@ pub struct Parted {
     pub near: usize,
 }
 
-// Parts the entries around a cell for its child s, where there is room for all of them: each key and each position is stored, and the next one takes its place unless it counts.
+// Parts one entry for child s: its key and its position are stored, and one of them counts; the next takes the place of the other.
+fn store_part(
+    key: &[u64],
+    nodes: &[usize],
+    masks: &[usize],
+    j: usize,
+    s: u64,
+    far: &mut [u64],
+    m: usize,
+    near: &mut [usize],
+    t: usize,
+) -> Parted
+    requires { ⌜ Storable (now key) (now nodes) (now masks) s j (now far) m (now near) t ⌝ }
+    ensures { λ r. ⌜ Stored (now (key .entry)) (now (nodes .entry)) (now (masks .entry)) s j (now (far .entry)) m (now (far .exit)) (r .far) (now (near .entry)) t (now (near .exit)) (r .near) ⌝ }
+{
+    let bit = (masks[j] >> s) % 2;
+    far[m] = key[nodes[j]];
+    near[t] = j;
+    Parted {
+        far: m + (1 - bit),
+        near: t + bit,
+    }
+}
+
+// Parts the entries around a cell for its child s, where there is room for all of them, four in a turn while there are four.
 fn store_parts(
     key: &[u64],
     nodes: &[usize],
@@ -145,12 +169,21 @@ fn store_parts(
     let mut t: usize = 0;
     let mut j: usize = 0;
     while j < c {
-        let bit = (masks[j] >> s) % 2;
-        far[m] = key[nodes[j]];
-        near[t] = j;
-        m += 1 - bit;
-        t += bit;
+        let one = store_part(key, nodes, masks, j, s, far, m, near, t);
         j += 1;
+        if 2 < c - j {
+            let two = store_part(key, nodes, masks, j, s, far, one.far, near, one.near);
+            j += 1;
+            let three = store_part(key, nodes, masks, j, s, far, two.far, near, two.near);
+            j += 1;
+            let four = store_part(key, nodes, masks, j, s, far, three.far, near, three.near);
+            j += 1;
+            m = four.far;
+            t = four.near;
+        } else {
+            m = one.far;
+            t = one.near;
+        }
     }
     Parted { far: m, near: t }
 }
