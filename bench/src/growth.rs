@@ -2,7 +2,7 @@
 use crate::clock::least_of_two;
 use crate::plain::Reading;
 use crate::report::{Named, Report};
-use crate::slices::Lent;
+use crate::slices::{fill, room_for};
 use crate::survey::list_times;
 use crate::{POINTS, plain_build, shapes};
 use lohandema::trees::Tree;
@@ -37,7 +37,8 @@ pub fn measure(report: &Report, named: Named, runs: usize) {
 pub fn clearing(report: &Report, named: Named, runs: usize) {
     let tree = tree_of(named, POINTS);
     let rows = tree.get_interaction_lists().expect("room enough");
-    let (mut long, mut exact) = (Lent::with_keys(&rows, MOST_KEYS), Lent::new(&rows));
-    let times = least_of_two(runs, || long.fill(&tree), || exact.fill(&tree));
+    let (mut long, mut exact) = (room_for(&rows, MOST_KEYS), room_for(&rows, 0));
+    let (long, exact) = (|| fill(&tree, &mut long), || fill(&tree, &mut exact));
+    let times = least_of_two(runs, long, exact);
     report.beside("clearing", "exact", named, times);
 }

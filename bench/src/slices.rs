@@ -2,40 +2,28 @@
 use lohandema::lent::{self, Asked};
 use lohandema::trees::{Lists, Tree};
 
-/// The slices of a list call, as long as the answer needs or longer.
-pub struct Lent {
-    u_starts: Vec<usize>,
-    u_keys: Vec<u64>,
-    v_starts: Vec<usize>,
-    v_keys: Vec<u64>,
+/// Lists as long as some others, or with at least so many keys each. All entries are written, so that no later call is the
+/// first to touch a page of them.
+pub fn room_for(lists: &Lists, least: usize) -> Lists {
+    let mut room = lists.clone();
+    for rows in [&mut room.u, &mut room.v] {
+        let keys = rows.keys.len().max(least);
+        rows.keys.resize(keys, 1);
+    }
+    room
 }
 
-impl Lent {
-    pub fn new(lists: &Lists) -> Lent {
-        Lent::with_keys(lists, 0)
-    }
-
-    /// The same with at least so many keys of each list. All entries are written, so that no later call is the first to touch
-    /// a page of them.
-    pub fn with_keys(lists: &Lists, least: usize) -> Lent {
-        Lent {
-            u_starts: vec![1; lists.u.starts.len()],
-            u_keys: vec![1; lists.u.keys.len().max(least)],
-            v_starts: vec![1; lists.v.starts.len()],
-            v_keys: vec![1; lists.v.keys.len().max(least)],
-        }
-    }
-
-    pub fn fill(&mut self, tree: &Tree) -> (usize, usize) {
-        lent::get_interaction_lists(
-            tree.columns(),
-            &mut self.u_starts,
-            &mut self.u_keys,
-            &mut self.v_starts,
-            &mut self.v_keys,
-        )
-        .expect("room enough")
-    }
+/// Our list call, with lists of these lengths lent to it.
+pub fn fill(tree: &Tree, lists: &mut Lists) -> (usize, usize) {
+    let (u, v) = (&mut lists.u, &mut lists.v);
+    lent::get_interaction_lists(
+        tree.columns(),
+        &mut u.starts,
+        &mut u.keys,
+        &mut v.starts,
+        &mut v.keys,
+    )
+    .expect("room enough")
 }
 
 /// The columns of a build of 3 axes without targets.

@@ -2,7 +2,7 @@
 use crate::clock::{least_of_two, lower, rounds};
 use crate::plain::{self, READINGS, Reading};
 use crate::report::{Named, Report};
-use crate::slices::{Lent, Room};
+use crate::slices::{self, Room};
 use crate::words::Words;
 use crate::{customer, shapes};
 use ferreus_bbfmm::bbfmm::TreeLists;
@@ -12,11 +12,11 @@ use std::collections::{HashMap, HashSet};
 
 type Readings<'a> = &'a [(&'a str, Reading)];
 
-/// The times of our list call and of plain readings, in turn. The rows of all are compared before; all write where there is
-/// room already.
+/// The times of our list call and of plain readings, in turn. The rows of all are compared before; all write to the same
+/// memory, where there is room already, so that each finds it as the side before left it.
 pub fn list_times(tree: &Tree, readings: Readings, runs: usize) -> (f64, Vec<f64>) {
     let ours = tree.get_interaction_lists().expect("room enough");
-    let (mut slices, mut rows) = (Lent::new(&ours), ours.clone());
+    let mut rows = slices::room_for(&ours, 0);
     let plain =
         |reading, rows: &mut _| plain::lists(reading, tree.axes(), &tree.key, &tree.own, rows);
     for (name, reading) in readings {
@@ -25,7 +25,7 @@ pub fn list_times(tree: &Tree, readings: Readings, runs: usize) -> (f64, Vec<f64
     }
     let (mut time, mut times) = (f64::INFINITY, vec![f64::INFINITY; readings.len()]);
     for _ in rounds(runs) {
-        lower(&mut time, || slices.fill(tree));
+        lower(&mut time, || slices::fill(tree, &mut rows));
         for (time, (_, reading)) in times.iter_mut().zip(readings) {
             lower(time, || plain(*reading, &mut rows));
         }
