@@ -38,6 +38,16 @@ static void build_tree(void)
                                 order, points, key, NODES, own, NODES, begin, NODES, total, NODES, &nodes, &depth);
 }
 
+static void build_tree_on_grid(void)
+{
+    const double origin[3] = {0.0, 0.0, 0.0}, spacing[3] = {0.5, 0.5, 0.5};
+    const size_t shape[3] = {64, 64, 64};
+    uint64_t depth;
+    last = lohandema_build_tree_on_grid(BOX, sources, axes * points, origin, spacing, shape, limit, 1, true, true, work,
+                                        2 * POINTS, order, points, key, NODES, own, NODES, begin, NODES, total, NODES,
+                                        &nodes, &depth);
+}
+
 static void is_well_formed(void)
 {
     last.number = lohandema_is_well_formed(axes, COLUMNS) ? 0 : 99;
@@ -228,6 +238,7 @@ static struct {
     size_t said, seen;
 } calls[] = {
     {"(nothing, for comparison)", nothing, 8 * KIB, 0},
+    {"build_tree_on_grid", build_tree_on_grid, 32 * KIB, 0},
     {"build_tree", build_tree, 32 * KIB, 0},
     {"is_well_formed", is_well_formed, 8 * KIB, 0},
     {"depth_of", depth_of, 8 * KIB, 0},

@@ -26,7 +26,7 @@
  * systems, and fails below it: pass the larger of the two.
  *   points_to_keys, get_interaction_lists, get_near_work                                    128 KiB
  *   sum_check, lists_right                                                                   96 KiB
- *   build_tree, get_sourced_cells, is_arrangement                                            32 KiB
+ *   build_tree, build_tree_on_grid, get_sourced_cells, is_arrangement                        32 KiB
  *   every other call                                                                          8 KiB
  */
 #ifndef LOHANDEMA_H
@@ -300,6 +300,21 @@ lohandema_ended lohandema_build_tree(const double centre[3], double radius, size
                                      size_t *indices, size_t indices_len, uint64_t *key, size_t key_len, size_t *own,
                                      size_t own_len, size_t *begin, size_t begin_len, size_t *total, size_t total_len,
                                      size_t *nodes, uint64_t *depth);
+
+/* Builds the same tree as lohandema_build_tree on the listed points of a regular grid, which are nowhere listed and need no
+ * work: those of a cell are counted by index ranges. On axis a the coordinate of index i is origin[a] + i * spacing[a], one
+ * product and one sum, for i from 0 to shape[a] - 1; the last axis is the fastest. All three places of each array must be
+ * there; the values past the axes do not matter. The grid is used with both flags, else not looked at.
+ *   work              two entries a source
+ * All else is as above. Refused 1, 2, 16 (a shape of 0, an origin or spacing that is not finite, a spacing not above 0), 3,
+ * 4 (sources, then more than 1,048,576 points), 5, 6, 7 (with the row of the point), 8 (1 work, 2 indices, 3 columns). */
+lohandema_ended lohandema_build_tree_on_grid(const double centre[3], double radius, size_t axes, const double *sources,
+                                             size_t sources_len, const double origin[3], const double spacing[3],
+                                             const size_t shape[3], size_t limit, size_t order, bool keep_empty, bool refine,
+                                             uint64_t *work, size_t work_len, size_t *indices, size_t indices_len,
+                                             uint64_t *key, size_t key_len, size_t *own, size_t own_len, size_t *begin,
+                                             size_t begin_len, size_t *total, size_t total_len, size_t *nodes,
+                                             uint64_t *depth);
 
 /* Whether the columns are a well-formed tree (docs/RULES.md); false for axes other than 1 to 3. Never refused. */
 bool lohandema_is_well_formed(size_t axes, const uint64_t *key, size_t key_len, const size_t *own, size_t own_len,

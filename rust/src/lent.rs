@@ -422,6 +422,43 @@ impl<'a> Asked<'a> {
     }
 }
 
+/// A regular grid of points, the last axis fastest: on axis a the coordinate of index i is `origin[a] + i * spacing[a]`, one
+/// product and one sum, for each index below `shape[a]`. Entries past the axes of the box are not looked at.
+///
+/// ```
+/// use lohandema::{Asked, Bounds, Grid, Tree};
+/// let bounds = Bounds::new(&[4.0], 4.0);
+/// let sources = [0.5, 1.5, 6.5, 7.5];
+/// let asked = Asked::new(&bounds, &sources, 4).refined(&[], 1);
+/// let grid = Grid::new([0.0; 3], [0.001, 1.0, 1.0], [8000, 1, 1]);
+/// let listed: Vec<f64> = (0..8000).map(|i| 0.0 + f64::from(i) * 0.001).collect();
+/// let on_grid = Tree::build_on_grid(asked, &grid)?;
+/// assert_eq!(on_grid, Tree::build(asked.refined(&listed, 1))?);
+/// # Ok::<(), lohandema::Refusal>(())
+/// ```
+#[derive(Clone, Copy, Debug, PartialEq)]
+#[must_use]
+#[non_exhaustive]
+pub struct Grid {
+    /// The coordinates of the first point.
+    pub origin: [f64; 3],
+    /// The distance between neighbours, above 0.
+    pub spacing: [f64; 3],
+    /// The number of points along each axis, at least 1; at most 1,048,576 in all.
+    pub shape: [usize; 3],
+}
+
+impl Grid {
+    /// The grid of these figures, as they are.
+    pub const fn new(origin: [f64; 3], spacing: [f64; 3], shape: [usize; 3]) -> Grid {
+        Grid {
+            origin,
+            spacing,
+            shape,
+        }
+    }
+}
+
 /// The tree of the sources, into its columns and the order column `indices`; answers the number of nodes and the depth.
 /// `work` has two entries for each source and one for each target that is used, `indices` one for each source, and each of
 /// the four columns one for each node.
@@ -450,6 +487,59 @@ pub fn build_tree(
             asked.sources.len(),
             asked.targets.as_ptr(),
             asked.targets.len(),
+            asked.limit,
+            asked.order,
+            asked.keep_empty,
+            asked.refine,
+            work.as_mut_ptr(),
+            work.len(),
+            indices.as_mut_ptr(),
+            indices.len(),
+            key.as_mut_ptr(),
+            key.len(),
+            own.as_mut_ptr(),
+            own.len(),
+            begin.as_mut_ptr(),
+            begin.len(),
+            total.as_mut_ptr(),
+            total.len(),
+            &mut nodes,
+            &mut depth,
+        )
+    };
+    answered(ended, (nodes, depth))
+}
+
+/// The same tree as on the listed points of a grid, which are nowhere listed: those of a cell are counted by index ranges.
+/// `asked.targets` are not looked at; the grid is used with `keep_empty` and `refine`, else not looked at either. `work` has
+/// two entries for each source; all else is as in [`build_tree`].
+///
+/// # Errors
+/// [`DIMS`](Refusal::DIMS); [`BOX`](Refusal::BOX); [`GRID`](Refusal::GRID); [`SHAPE`](Refusal::SHAPE);
+/// [`COUNT`](Refusal::COUNT), sources before the grid's points; [`ORDER`](Refusal::ORDER); [`SOURCE`](Refusal::SOURCE);
+/// [`POINT`](Refusal::POINT) with the row of a grid's point; [`ROOM`](Refusal::ROOM) 1 to 3.
+pub fn build_tree_on_grid(
+    asked: Asked<'_>,
+    grid: &Grid,
+    work: &mut [u64],
+    indices: &mut [usize],
+    key: &mut [u64],
+    own: &mut [usize],
+    begin: &mut [usize],
+    total: &mut [usize],
+) -> Result<(usize, u64), Refusal> {
+    let (mut nodes, mut depth) = (0, 0);
+    // SAFETY: the sources are read with their own length, the grid is three arrays of three; the six slices, lent to us alone, are written within theirs.
+    let ended = unsafe {
+        raw::lohandema_build_tree_on_grid(
+            &asked.bounds.centre,
+            asked.bounds.radius,
+            asked.bounds.axes,
+            asked.sources.as_ptr(),
+            asked.sources.len(),
+            &grid.origin,
+            &grid.spacing,
+            &grid.shape,
             asked.limit,
             asked.order,
             asked.keep_empty,

@@ -75,7 +75,7 @@ mod room;
 mod rows;
 pub mod trees;
 
-pub use lent::{Asked, Columns};
+pub use lent::{Asked, Columns, Grid};
 pub use points::Bounds;
 pub use refusal::{Reason, Refusal, Wall};
 pub use trees::{Groups, Leaf, Lists, Rows, Sums, Tree};

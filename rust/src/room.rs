@@ -2,7 +2,7 @@
 //! the most nodes that it can have, and the lists a first guess that is seldom short.
 
 use crate::Refusal;
-use crate::lent::Asked;
+use crate::lent::{Asked, Grid};
 use crate::limits::{DEEPEST, MOST_KEYS, MOST_NODES, MOST_POINTS, V_ROW};
 use crate::points::reference_depth;
 use crate::trees::Tree;
@@ -21,6 +21,18 @@ fn targets(asked: &Asked) -> usize {
     }
 }
 
+/// How many points of a grid a build may use, as far as a call counts them.
+pub(crate) fn points(asked: &Asked, grid: &Grid) -> usize {
+    if asked.refine {
+        let axes = asked.bounds.axes.clamp(1, 3);
+        let all = grid.shape[..axes].iter();
+        all.fold(1_usize, |points, shape| points.saturating_mul(*shape))
+            .min(MOST_POINTS)
+    } else {
+        0
+    }
+}
+
 /// The entries of `work`: two for each source and one for each target that may be used.
 pub(crate) fn work(asked: &Asked) -> usize {
     2 * rows(asked.bounds.axes, asked.sources.len()) + targets(asked)
@@ -30,11 +42,16 @@ pub(crate) fn work(asked: &Asked) -> usize {
 /// than the near limit, so that a level has only so many of them. Each has at most 2^axes children, and without empty cells
 /// each child has a source.
 pub(crate) fn most_nodes(asked: &Asked) -> usize {
+    most_nodes_with(asked, targets(asked))
+}
+
+/// The same with so many targets.
+pub(crate) fn most_nodes_with(asked: &Asked, targets: usize) -> usize {
     let axes = asked.bounds.axes.clamp(1, 3);
     let sources = rows(axes, asked.sources.len());
     let near_limit = asked.limit.max(asked.order.saturating_pow(axes as u32));
     let by_sources = sources / asked.limit.saturating_add(1);
-    let by_targets = targets(asked) / near_limit.saturating_add(1);
+    let by_targets = targets / near_limit.saturating_add(1);
     let splitting = |level| (by_sources + by_targets).min(1_usize << (axes as u64 * level));
     let split: usize = (1..DEEPEST).map(splitting).sum();
     let children = (1 + split) << axes;

@@ -1,7 +1,7 @@
 //! Trees: nodes depth first, a cell, then its children ascending, each followed by its own; in columns.
 
 use crate::keys;
-use crate::lent::{self, Asked, Columns};
+use crate::lent::{self, Asked, Columns, Grid};
 use crate::limits::MOST_KEYS;
 use crate::points::Bounds;
 use crate::refusal::Refusal;
@@ -89,6 +89,26 @@ impl Tree {
         let (mut begin, mut total) = (vec![0; room], vec![0; room]);
         let (nodes, _) = lent::build_tree(
             asked, &mut work, &mut order, &mut key, &mut own, &mut begin, &mut total,
+        )?;
+        let (key, own) = (room::cut(key, nodes), room::cut(own, nodes));
+        let (begin, total) = (room::cut(begin, nodes), room::cut(total, nodes));
+        let bounds = *asked.bounds;
+        Ok(Tree::from_columns(bounds, key, own, begin, total, order))
+    }
+
+    /// The tree of a survey that is refined by the points of a grid; `asked.targets` are not looked at. It is the tree that
+    /// [`Tree::build`] makes of the listed points, but nothing has to be listed: see [`Grid`].
+    ///
+    /// # Errors
+    /// As [`lent::build_tree_on_grid`]; [`ROOM`](Refusal::ROOM) only, with 3, if the tree has more than 1,048,576 nodes.
+    pub fn build_on_grid(asked: Asked<'_>, grid: &Grid) -> Result<Tree, Refusal> {
+        let room = room::most_nodes_with(&asked, room::points(&asked, grid));
+        let rows = room::rows(asked.bounds.axes, asked.sources.len());
+        let (mut work, mut order) = (vec![0; 2 * rows], vec![0; rows]);
+        let (mut key, mut own) = (vec![0; room], vec![0; room]);
+        let (mut begin, mut total) = (vec![0; room], vec![0; room]);
+        let (nodes, _) = lent::build_tree_on_grid(
+            asked, grid, &mut work, &mut order, &mut key, &mut own, &mut begin, &mut total,
         )?;
         let (key, own) = (room::cut(key, nodes), room::cut(own, nodes));
         let (begin, total) = (room::cut(begin, nodes), room::cut(total, nodes));

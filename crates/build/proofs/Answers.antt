@@ -4,7 +4,6 @@ use mathlib.Core.List.{List}
 use Prim.Native.Nat.{ℕ, _+_, _≤_, _<_, min}
 use native.Mathlib.Omega.{arith}
 use lib.Dec.{leb}
-use lib.Ieee.{Float}
 use lib.ListN.{length}
 use borrow.Author.Tests.{leb-true, le-leb, lt-leb}
 use Rattle.refusal.specs.declared.Refusal.{Refusal}
@@ -15,7 +14,6 @@ use Rattle.refusal.specs.Chain.{ask, _then_}
 use Rattle.refusal.proofs.Chain.{after-done, after-refused}
 use Rattle.slices.proofs.Tests.{same-test}
 use Rattle.tree.specs.Order.{depthOf}
-use Rattle.space.specs.declared.Box.{Box}
 use Rattle.space.specs.Rows.{rowsOf}
 use Rattle.laying.specs.Outcomes.{askedOutcome, insideOutcome, workOutcome}
 use Rattle.build.specs.declared.Built.the-variants.{Tree, Refused as NotBuilt}
@@ -33,20 +31,20 @@ then-all (Refused r) p q = refl
 
 module _ (a : Asked) (work order nodes : ℕ) where
   abbrev early : Outcome
-  early = layOutcome (a .box) (a .sources) (a .targets) (a .order) work order
+  early = layOutcome a work order
 
   abbrev last : Outcome
   last = ask (leb (length (builtKeys a)) nodes) (Room 3)
 
   parts : buildOutcome a work order nodes ≡ early then last
   unfolding columnOutcome
-  parts = then-all (askedOutcome (a .box) (a .sources) (a .targets) (a .order) then insideOutcome (a .box) (a .sources) (a .targets) then workOutcome (a .box) (a .sources) (a .targets) work) (ask (leb (rowsOf (a .box) (a .sources)) order) (Room 2)) last
+  parts = then-all (a .early then askedOutcome (a .box) (a .sources) (a .targets) (a .order) then insideOutcome (a .box) (a .sources) (a .targets) then workOutcome (a .box) (a .sources) (a .held) work) (ask (leb (rowsOf (a .box) (a .sources)) order) (Room 2)) last
 
-  pub early-so : (r : Refusal) → Refused r ≡ layOutcome (a .box) (a .sources) (a .targets) (a .order) work order → Refused r ≡ buildOutcome a work order nodes
+  pub early-so : (r : Refusal) → Refused r ≡ layOutcome a work order → Refused r ≡ buildOutcome a work order nodes
   early-so r e = sym (parts ∙ after-refused early last r (sym e))
 
   -- n rows were counted, up to one more than the room
-  pub late-so : Done ≡ layOutcome (a .box) (a .sources) (a .targets) (a .order) work order → (n room : ℕ) (keys : List ℕ) → keys ≡ builtKeys a → room ≡ nodes → n ≡ min (length keys) (room + 1)
+  pub late-so : Done ≡ layOutcome a work order → (n room : ℕ) (keys : List ℕ) → keys ≡ builtKeys a → room ≡ nodes → n ≡ min (length keys) (room + 1)
       → ask (leb n room) (Room 3) ≡ buildOutcome a work order nodes
   late-so e n room keys k r c = ap (λ b. ask b (Room 3)) same ∙ sym (parts ∙ after-done early last (sym e))
     where
@@ -61,15 +59,22 @@ pub tree-so : (a : Asked) (o : Outcome) (n depth : ℕ) (first : List ℕ) → o
 tree-so a o n depth first d e f g = ap₂ (λ (x y : ℕ). Tree x y) e (g ∙ ap depthOf f) ∙ sym (ap (λ q. treeOr q (builtKeys a)) d)
 
 -- where the points are laid out, their checks have passed
-module _ (b : Box) (s t : List Float) (order work room : ℕ) where
-  abbrev checks : Outcome
-  checks = askedOutcome b s t order then insideOutcome b s t then workOutcome b s t work
+module _ (a : Asked) (work room : ℕ) where
+  abbrev pub checksOf : Outcome
+  checksOf =
+      a .early
+      then askedOutcome (a .box) (a .sources) (a .targets) (a .order)
+      then insideOutcome (a .box) (a .sources) (a .targets)
+      then workOutcome (a .box) (a .sources) (a .held) work
 
-  pub refused-so : (r : Refusal) (o : Outcome) → o ≡ Refused r → checks ≡ Refused r → o ≡ layOutcome b s t order work room
-  refused-so r o e c = e ∙ sym (after-refused checks (ask (leb (rowsOf b s) room) (Room 2)) r c)
+  abbrev rows : ℕ
+  rows = rowsOf (a .box) (a .sources)
 
-  pub short-so : (o : Outcome) → o ≡ Refused (Room 2) → checks ≡ Done → room < rowsOf b s → o ≡ layOutcome b s t order work room
-  short-so o e c h = e ∙ sym (after-done checks (ask (leb (rowsOf b s) room) (Room 2)) c ∙ ap (λ x. ask x (Room 2)) (lt-leb (rowsOf b s) room h))
+  pub refused-so : (r : Refusal) (o : Outcome) → o ≡ Refused r → checksOf ≡ Refused r → o ≡ layOutcome a work room
+  refused-so r o e c = e ∙ sym (after-refused checksOf (ask (leb rows room) (Room 2)) r c)
 
-  pub laid-so : checks ≡ Done → rowsOf b s ≤ room → Done ≡ layOutcome b s t order work room
-  laid-so c h = sym (after-done checks (ask (leb (rowsOf b s) room) (Room 2)) c ∙ ap (λ x. ask x (Room 2)) (le-leb (rowsOf b s) room h))
+  pub short-so : (o : Outcome) → o ≡ Refused (Room 2) → checksOf ≡ Done → room < rowsOf (a .box) (a .sources) → o ≡ layOutcome a work room
+  short-so o e c h = e ∙ sym (after-done checksOf (ask (leb rows room) (Room 2)) c ∙ ap (λ x. ask x (Room 2)) (lt-leb rows room h))
+
+  pub laid-so : checksOf ≡ Done → rowsOf (a .box) (a .sources) ≤ room → Done ≡ layOutcome a work room
+  laid-so c h = sym (after-done checksOf (ask (leb rows room) (Room 2)) c ∙ ap (λ x. ask x (Room 2)) (le-leb rows room h))

@@ -10,7 +10,6 @@ use Rattle.refusal.specs.declared.Outcome.{Outcome}
 use Rattle.refusal.specs.declared.Outcome.the-variants.{Done, Refused}
 use Rattle.refusal.proofs.Left.{left-done, left-refused}
 use Rattle.slices.specs.Lists.{filled}
-use Rattle.slices.specs.Order.{ascending}
 use Rattle.growth.specs.Columns.{ownColumn, beginColumn, orderColumn}
 use Rattle.growth.proofs.Runs.{length-own, length-begin}
 use Rattle.tree.specs.Order.{depthOf}
@@ -28,11 +27,10 @@ use Rattle.build.specs.declared.Built.the-variants.{Tree, Refused as Not
 use Rattle.build.specs.Outcomes.{Rooms, buildCheck, buildAnswer, orderLeft, keysLeft, ownLeft, beginsLeft, totalsLeft}
 use Rattle.build.specs.Summing.{indices}
 use Rattle.build.specs.Steps.{TreeStarted, BuiltSlices}
-use Rattle.build.proofs.Sorted.{nodes-any}
 use Rattle.build.proofs.Answers.{refusal-so, tree-so}
 
 module _ (a : Asked) (z : Setting) (work work′ : List ℕ) (s : Marked) (coded : Coded (ruleOf a) z work) (q : Grows (ruleOf a) z work work′ s)
-    (sources-are : sourceCodes z work ≡ codesOf (a .box) (a .sources)) (targets-are : targetCodes z work ≡ ascending (codesOf (a .box) (a .targets))) where
+    (sources-are : sourceCodes z work ≡ codesOf (a .box) (a .sources)) (nodes-are : nodes (ruleOf a) (codesOf (a .box) (a .sources)) (targetCodes z work) ≡ builtKeys a) where
   abbrev d : ℕ
   d = a .box .axes
 
@@ -43,8 +41,7 @@ module _ (a : Asked) (z : Setting) (work work′ : List ℕ) (s : Marked) (coded
   keys = nodes (ruleOf a) (sourceCodes z work) (targetCodes z work)
 
   pub keys-asked : nodes (ruleOf a) (sourceCodes z work) (targetCodes z work) ≡ builtKeys a
-  unfolding builtKeys
-  keys-asked = ap₂ (nodes (ruleOf a)) sources-are targets-are ∙ nodes-any (ruleOf a) (codesOf (a .box) (a .sources)) (codesOf (a .box) (a .targets))
+  keys-asked = ap (λ (xs : List ℕ). nodes (ruleOf a) xs (targetCodes z work)) sources-are ∙ nodes-are
 
   own-asked : ownColumn d keys src ≡ builtOwn a
   unfolding builtOwn

@@ -1,6 +1,6 @@
 -- From the work as it is laid out to what the growth asks for.
-use mathlib.Core.Path.{_≡_, refl, sym, ap, subst, _∙_}
-use mathlib.Core.Bool.{true}
+use mathlib.Core.Path.{_≡_, refl, sym, ap, ap₂, subst, _∙_}
+use mathlib.Core.Bool.{Bool, true, cond, true≢false}
 use mathlib.Core.List.{List, [], _∷_}
 use Prim.Native.Nat.{ℕ, zero, suc, _+_, _*_, _-_, _^_, _≤_, _<_}
 use native.Mathlib.Omega.{arith}
@@ -25,9 +25,18 @@ use Rattle.refine.proofs.Made.{summable}
 use Rattle.laying.specs.Points.{codesOf}
 use Rattle.laying.proofs.Prepared.{Passed}
 use Rattle.laying.specs.Layout.{PointsLaid}
-use Rattle.build.specs.Asked.{Asked}
+use Rattle.grids.specs.Ranges.{gridCodes}
+use Rattle.growth.specs.Nodes.{nodes}
+use Rattle.parting.specs.declared.Sizes.{Sizes}
+use Rattle.parting.specs.Setting.{setting, aimsAt}
+use Rattle.build.specs.Asked.{Asked, ruleOf, builtKeys}
+use Rattle.build.proofs.Sorted.{nodes-any}
 use Rattle.build.specs.Summing.{Sourced, SumsMade}
-use Rattle.build.specs.Steps.{LaidOut}
+use Rattle.build.specs.Steps.{Plain, LaidOut}
+
+pub keys-are : (a : Asked) → nodes (ruleOf a) (codesOf (a .box) (a .sources)) (codesOf (a .box) (a .targets)) ≡ builtKeys a
+unfolding builtKeys
+keys-are a = refl
 
 -- a part that is lent is the slice up to its end
 pub slice-lent : (a t e : ℕ) (s : List ℕ) → e ≡ a + t → take t (drop a s) ≡ slice a e s
@@ -98,24 +107,34 @@ module _ (a : Asked) (room : ℕ) (p : Passed (a .box) (a .sources) (a .targets)
     targets-at : take (rowsOf (a .box) (a .targets)) (drop (2 * rowsOf (a .box) (a .sources)) work) ≡ ascending (codesOf (a .box) (a .targets))
     targets-at = slice-lent (2 * n) k (2 * n + k) work refl ∙ laid .targets-at
 
-    pub work-laid : (depth nodes : ℕ) (sums : List ℕ) → rowsOf (a .box) (a .sources) ≤ length sums → SumsMade (a .box .axes) (rowsOf (a .box) (a .sources)) (rowsOf (a .box) (a .targets)) work depth sums
-        → LaidOut a nodes (record { sources = rowsOf (a .box) (a .sources); targets = rowsOf (a .box) (a .targets); room = nodes; depth = depth }) work sums
-    work-laid depth nodes sums fits made = record {
-      room-is = refl;
-      fits = fits;
+    pub work-laid : (depth nodes′ : ℕ) (sums : List ℕ) (z : Sizes) → Plain (rowsOf (a .box) (a .sources)) (rowsOf (a .box) (a .targets)) nodes′ depth z → rowsOf (a .box) (a .sources) ≤ length sums → SumsMade (a .box .axes) (rowsOf (a .box) (a .sources)) (rowsOf (a .box) (a .targets)) work depth sums
+        → LaidOut a nodes′ z work sums
+    work-laid depth nodes′ sums z Z fits made = record {
+      room-is = Z .room-is;
+      fits = omega (arith, Z .sources-are);
       coded = record {
         known = box-known;
-        few = p .call .few;
-        beside = omega (arith, p .room, len);
-        codes = sources-below;
+        few = omega (arith, p .call .few, Z .sources-are);
+        beside = omega (arith, p .room, len, Z .sources-are);
+        room = λ off. omega (arith, p .room, len, Z .sources-are, Z .targets-are);
+        some = λ on. absurd (true≢false (sym on ∙ Z .off-grid));
+        codes = λ i h. subst (λ (m : ℕ). getD work (m + i) 0 < 2 ^ (a .box .axes * 16)) (sym (Z .sources-are)) (sources-below i (omega (arith, Z .sources-are)));
         refined = λ h. record {
-          order = some-targets h;
-          few = p .call .fewer;
-          sorted = subst Sorted (sym targets-at) (ascending-sorted t);
-          deep = made .deep h;
-          sums = made .made h;
+          order = some-targets (omega (arith, Z .targets-are));
+          few = omega (arith, p .call .fewer, Z .targets-are);
+          sorted = λ off. subst Sorted (sym aims) (ascending-sorted t);
+          on-grid = λ on. absurd (true≢false (sym on ∙ Z .off-grid));
+          deep = Z .depth-is ∙ made .deep (omega (arith, Z .targets-are)) ∙ ap (referenceDepth (a .box .axes)) (sym (Z .sources-are));
+          sums = subst (λ (m : ℕ). Sums (a .box .axes) (z .depth) (slice m (2 * m) work) sums) (sym (Z .sources-are)) (subst (λ (m : ℕ). Sums (a .box .axes) m (slice n (2 * n) work) sums) (sym (Z .depth-is)) (made .made (omega (arith, Z .targets-are))));
         };
       };
-      sources-are = laid .sources-at;
-      targets-are = targets-at;
+      sources-are = ap (λ (m : ℕ). slice m (2 * m) work) (Z .sources-are) ∙ laid .sources-at;
+      nodes-are = ap (nodes (ruleOf a) s) aims ∙ nodes-any (ruleOf a) s t ∙ keys-are a;
+      spanned = λ on. absurd (true≢false (sym on ∙ Z .off-grid));
     }
+      where
+        aims : aimsAt (setting z sums) (drop (2 * z .sources) work) ≡ ascending (codesOf (a .box) (a .targets))
+        aims =
+            ap (λ (u : Bool). cond u (gridCodes (z .frame) (z .grid)) (take (z .targets) (drop (2 * z .sources) work))) (Z .off-grid)
+            ∙ ap₂ (λ (m k : ℕ). take k (drop (2 * m) work)) (Z .sources-are) (Z .targets-are)
+            ∙ targets-at

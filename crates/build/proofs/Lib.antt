@@ -4,3 +4,4 @@ pub mod Growing
 pub mod Columns
 pub mod Answers
 pub mod Returned
+pub mod OnGrid

@@ -41,7 +41,7 @@ use Rattle.growth.proofs.Meets.{meets-once, meets-near}
 use Rattle.space.specs.Rows.{rowsOf, rowsInside, wallOf}
 use Rattle.laying.specs.Points.{codesOf}
 use Rattle.laying.specs.Outcomes.{askedOutcome, insideOutcome, workOutcome}
-use Rattle.laying.proofs.Prepared.{Passed, passed}
+use Rattle.laying.proofs.Calls.{Called, checked}
 use Rattle.build.specs.Asked.{Asked, ruleOf, builtKeys, builtOwn, builtBegins, builtTotals, builtOrder}
 use Rattle.build.specs.Outcomes.{columnOutcome, buildOutcome}
 use Rattle.build.proofs.Growing.{codes-lt}
@@ -85,17 +85,20 @@ module _ (a : Asked) where
 
 -- a build that is not refused, with so much work, room in the order column and room in the node columns
 module _ (a : Asked) (work order nodes : ℕ) (done : buildOutcome a work order nodes ≡ Done) where
-  points-done : askedOutcome (a .box) (a .sources) (a .targets) (a .order) then insideOutcome (a .box) (a .sources) (a .targets) then workOutcome (a .box) (a .sources) (a .targets) work ≡ Done
-  points-done = both-done _ (columnOutcome a order nodes) done .0
+  points-done : a .early then askedOutcome (a .box) (a .sources) (a .targets) (a .order) then insideOutcome (a .box) (a .sources) (a .targets) ≡ Done
+  points-done = both-done _ (workOutcome (a .box) (a .sources) (a .held) work) (both-done _ (columnOutcome a order nodes) done .0) .0
 
-  checks : Passed (a .box) (a .sources) (a .targets) (a .order) work
-  checks = passed (a .box) (a .sources) (a .targets) (a .order) work points-done
+  asked-done : askedOutcome (a .box) (a .sources) (a .targets) (a .order) ≡ Done
+  asked-done = both-done (a .early) (askedOutcome (a .box) (a .sources) (a .targets) (a .order)) (both-done _ (insideOutcome (a .box) (a .sources) (a .targets)) points-done .0) .1
+
+  checks : Called (a .box) (a .sources) (a .targets) (a .order)
+  checks = checked (a .box) (a .sources) (a .targets) (a .order) asked-done
 
   pub built-axes : axesKnown (axes a) ≡ true
-  built-axes = axes-known (axes a) (checks .call .box .least) (checks .call .box .most)
+  built-axes = axes-known (axes a) (checks .box .least) (checks .box .most)
 
   pub built-few : count a ≤ mostSources
-  built-few = checks .call .few
+  built-few = checks .few
 
   few : length (sources a) ≤ mostSources
   few = omega (arith, as-many a, built-few)
@@ -104,8 +107,7 @@ module _ (a : Asked) (work order nodes : ℕ) (done : buildOutcome a work order 
   pub built-inside : (x : ℕ) → x < count a → inside (frameOf (a .box)) (drop (x * axes a) (a .sources)) ≡ true
   unfolding insideOutcome
   built-inside x h =
-      let second = both-done (askedOutcome (a .box) (a .sources) (a .targets) (a .order) then insideOutcome (a .box) (a .sources) (a .targets)) _ points-done in
-      let inner = both-done (askedOutcome (a .box) (a .sources) (a .targets) (a .order)) (insideOutcome (a .box) (a .sources) (a .targets)) (second .0) .1 in
+      let inner = both-done (a .early then askedOutcome (a .box) (a .sources) (a .targets) (a .order)) (insideOutcome (a .box) (a .sources) (a .targets)) points-done .1 in
       let first = both-done (ask (eqb (rowsInside (a .box) (a .sources)) (count a)) (Source (wallOf (a .box) (a .sources)))) _ inner .0 in
       let all : rowsInside (a .box) (a .sources) ≡ count a = eqb-true (rowsInside (a .box) (a .sources)) (count a) (asked _ _ first) in
       row-inside (count a) x (frameOf (a .box)) (a .sources) (omega (arith, all))

@@ -2,3 +2,4 @@ pub mod Asked
 pub mod Outcomes
 pub mod Summing
 pub mod Steps
+pub mod OnGrid

@@ -25,9 +25,10 @@ columnOutcome a order nodes = ask (leb (rowsOf (a .box) (a .sources)) order) (Ro
 
 abbrev pub buildOutcome : Asked → ℕ → ℕ → ℕ → Outcome
 buildOutcome a work order nodes =
-    askedOutcome (a .box) (a .sources) (a .targets) (a .order)
+    a .early
+    then askedOutcome (a .box) (a .sources) (a .targets) (a .order)
     then insideOutcome (a .box) (a .sources) (a .targets)
-    then workOutcome (a .box) (a .sources) (a .targets) work
+    then workOutcome (a .box) (a .sources) (a .held) work
     then columnOutcome a order nodes
 
 -- the number of nodes and the depth, or the refusal

@@ -1,31 +1,43 @@
 -- The steps of a build: the points laid out, all rows put, and the lent slices at the end.
 use mathlib.Core.Path.{_≡_}
+use mathlib.Core.Bool.{false}
 use mathlib.Core.List.{List, map}
 use Prim.Native.Nat.{ℕ, _≤_}
 use lib.Dec.{leb}
-use lib.Ieee.{Float}
 use lib.ListN.{length, take, replicate}
 use Rattle.refusal.specs.declared.Refusal.the-variants.{Room}
 use Rattle.refusal.specs.declared.Outcome.{Outcome}
 use Rattle.refusal.specs.Chain.{ask, _then_}
 use Rattle.slices.specs.Lists.{sum, filled}
-use Rattle.slices.specs.Order.{ascending}
-use Rattle.space.specs.declared.Box.{Box}
 use Rattle.space.specs.Rows.{rowsOf}
 use Rattle.laying.specs.Points.{codesOf}
 use Rattle.laying.specs.Outcomes.{askedOutcome, insideOutcome, workOutcome}
 use Rattle.parting.specs.declared.Sizes.{Sizes}
+use Rattle.growth.specs.Nodes.{nodes}
 use Rattle.parting.specs.Setting.{setting}
+use Rattle.parting.specs.Spans.{SpanAt}
 use Rattle.parting.specs.Parts.{sourceCodes, targetCodes, Coded}
 use Rattle.grow.specs.Rows.{sumMarked, ownMarked}
 use Rattle.build.specs.Asked.{Asked, ruleOf, builtKeys, builtOwn, builtBegins, builtTotals, builtOrder}
 use Rattle.build.specs.Outcomes.{Rooms}
 use Rattle.build.specs.Summing.{indices}
 
+-- sizes without a grid
+pub record Plain (sources targets room depth : ℕ) (z : Sizes) : Type 0 where
+  pub sources-are : z .sources ≡ sources
+  pub targets-are : z .targets ≡ targets
+  pub room-is : z .room ≡ room
+  pub depth-is : z .depth ≡ depth
+  pub off-grid : z .gridded ≡ false
+
 -- the refusals before the tree is grown, with so much work and so much room in the order column
-abbrev pub layOutcome : Box → List Float → List Float → ℕ → ℕ → ℕ → Outcome
-layOutcome b sources targets order work room =
-    askedOutcome b sources targets order then insideOutcome b sources targets then workOutcome b sources targets work then ask (leb (rowsOf b sources) room) (Room 2)
+abbrev pub layOutcome : Asked → ℕ → ℕ → Outcome
+layOutcome a work room =
+    a .early
+    then askedOutcome (a .box) (a .sources) (a .targets) (a .order)
+    then insideOutcome (a .box) (a .sources) (a .targets)
+    then workOutcome (a .box) (a .sources) (a .held) work
+    then ask (leb (rowsOf (a .box) (a .sources)) room) (Room 2)
 
 -- the codes stand in the work as the growth asks for them, with room for so many rows
 pub record LaidOut (a : Asked) (room : ℕ) (z : Sizes) (work sums : List ℕ) : Type 0 where
@@ -33,7 +45,8 @@ pub record LaidOut (a : Asked) (room : ℕ) (z : Sizes) (work sums : List ℕ) :
   pub fits : z .sources ≤ length sums
   pub coded : Coded (ruleOf a) (setting z sums) work
   pub sources-are : sourceCodes (setting z sums) work ≡ codesOf (a .box) (a .sources)
-  pub targets-are : targetCodes (setting z sums) work ≡ ascending (codesOf (a .box) (a .targets))
+  pub nodes-are : nodes (ruleOf a) (codesOf (a .box) (a .sources)) (targetCodes (setting z sums) work) ≡ builtKeys a
+  pub spanned : SpanAt (a .box .axes) z 0
 
 -- all nodes of the tree that is asked for are put, n of them in so much room: their keys and marks, and the words of as many sources in the order of the order column
 pub record TreeStarted (a : Asked) (room rows n : ℕ) (work order key mark : List ℕ) : Type 0 where

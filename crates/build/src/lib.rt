@@ -1,11 +1,15 @@
 // The tree grown from points: `build_tree` of `linear_tree.rs`, without its lists.
+mod on_grid; // on_grid.rt: the checks of a build on a grid, and its sources laid out
+
+use grids::Grid;
+use grids::spans;
 use growth::Rule;
 use parting::Sizes;
 use refusal::Outcome;
 use refusal::Refusal;
 use space::Box;
 ghost use mathlib.Core.Path.{_≡_};
-ghost use mathlib.Core.Bool.{Bool};
+ghost use mathlib.Core.Bool.{Bool, true, _&&_};
 ghost use mathlib.Core.List.{_++_, map};
 ghost use Prim.Native.Nat.{ℕ, _-_, _≤_, min};
 ghost use lib.Dec.{leb};
@@ -17,10 +21,10 @@ ghost use Rattle.refusal.specs.Chain.{ask};
 ghost use Rattle.tree.specs.Order.{depthOf};
 ghost use Rattle.growth.specs.Columns.{beginColumn};
 ghost use Rattle.grow.specs.Rows.{ownMarked, sumMarked};
-ghost use Rattle.build.specs.Asked.{used, asks, asksFor};
+ghost use Rattle.build.specs.Asked.{used, asks, asksAt, asksFor, asksOnGrid};
 ghost use Rattle.build.specs.Outcomes.{nodeRoom, rooms, buildOutcome, buildAnswer, orderLeft, keysLeft, ownLeft, beginsLeft, totalsLeft};
 ghost use Rattle.build.specs.Summing.{Sourced, SumsMade, indices as indicesOf};
-ghost use Rattle.build.specs.Steps.{layOutcome, LaidOut, TreeStarted};
+ghost use Rattle.build.specs.Steps.{Plain, layOutcome, LaidOut, TreeStarted};
 
 pub const MOST_NODES: usize = 1048576;
 
@@ -41,6 +45,16 @@ fn used_targets<'a>(targets: &'a [f64], keep: bool, refine: bool) -> &'a [f64]
         return &targets[..0];
     }
     targets
+}
+
+// Whether both flags are set: only then are targets used.
+fn both(keep: bool, refine: bool) -> bool
+    ensures { λ r. ⌜ r ≡ (keep && refine) ⌝ }
+{
+    if keep {
+        return refine;
+    }
+    false
 }
 
 // The smaller of two numbers.
@@ -109,16 +123,41 @@ struct Laid {
     sizes: Sizes,
 }
 
+// A grid of no points, for a build that is on none.
+fn no_grid() -> Grid
+    ensures { λ _. ⌜ true ≡ true ⌝ }
+{
+    Grid {
+        origin: [0.0, 0.0, 0.0],
+        spacing: [0.0, 0.0, 0.0],
+        shape: [0, 0, 0],
+    }
+}
+
+// Sizes without a grid.
+fn sizes_of(b: Box, sources: usize, targets: usize, room: usize, depth: u64) -> Sizes
+    ensures { λ r. ⌜ Plain sources targets room depth r ⌝ }
+{
+    let frame = space::frame_of(b);
+    let grid = no_grid();
+    let span = spans::whole(grid);
+    Sizes {
+        sources,
+        targets,
+        room,
+        depth,
+        gridded: false,
+        frame,
+        grid,
+        span,
+    }
+}
+
 // A refusal before any size is known.
-fn unlaid(refusal: Refusal) -> Laid
+fn unlaid(b: Box, refusal: Refusal) -> Laid
     ensures { λ r. ⌜ r .outcome ≡ Refused refusal ⌝ }
 {
-    let sizes = Sizes {
-        sources: 0,
-        targets: 0,
-        room: 0,
-        depth: 0,
-    };
+    let sizes = sizes_of(b, 0, 0, 0, 0);
     Laid {
         outcome: Outcome::Refused(refusal),
         sizes,
@@ -135,26 +174,21 @@ fn lay_out(
     work: &mut [u64],
     indices: &mut [usize],
 ) -> Laid
-    ensures { λ r. ⌜ r .outcome ≡ layOutcome b (now (sources .entry)) (now (targets .entry)) order (length (now (work .entry))) (length (now (indices .entry))) ⌝ }
+    ensures { λ r. ⌜ r .outcome ≡ layOutcome (asks b 0 order true (now (sources .entry)) (now (targets .entry))) (length (now (work .entry))) (length (now (indices .entry))) ⌝ }
     ensures { λ r. ⌜ (r .outcome ≡ Done → (limit : ℕ) (keep : Bool) → LaidOut (asks b limit order keep (now (sources .entry)) (now (targets .entry))) room (r .sizes) (now (work .exit)) (now (indices .exit))) ⌝ }
 {
     let prepared = laying::prepare(b, sources, targets, order, work);
     if let Outcome::Refused(refusal) = prepared {
-        return unlaid(refusal);
+        return unlaid(b, refusal);
     }
     let axes = b.axes;
     let rows = sources.len() / axes;
     let marks = targets.len() / axes;
     if indices.len() < rows {
-        return unlaid(Refusal::Room(2));
+        return unlaid(b, Refusal::Room(2));
     }
     let depth = sum_sources(axes, rows, marks, work, indices);
-    let sizes = Sizes {
-        sources: rows,
-        targets: marks,
-        room,
-        depth,
-    };
+    let sizes = sizes_of(b, rows, marks, room, depth);
     Laid {
         outcome: Outcome::Done,
         sizes,
@@ -194,15 +228,38 @@ fn settle(room: usize, rows: usize, n: usize) -> Started
     }
 }
 
+// Lays the points out: of the targets those of the grid, where the build is `sited`, and else these.
+fn lay(
+    b: Box,
+    sources: &[f64],
+    targets: &[f64],
+    sited: bool,
+    grid: Grid,
+    order: usize,
+    room: usize,
+    work: &mut [u64],
+    indices: &mut [usize],
+) -> Laid
+    ensures { λ r. ⌜ r .outcome ≡ layOutcome (asksAt b 0 order true (now (sources .entry)) (now (targets .entry)) sited grid) (length (now (work .entry))) (length (now (indices .entry))) ⌝ }
+    ensures { λ r. ⌜ (r .outcome ≡ Done → (limit : ℕ) (keep : Bool)
+        → LaidOut (asksAt b limit order keep (now (sources .entry)) (now (targets .entry)) sited grid) room (r .sizes) (now (work .exit)) (now (indices .exit))) ⌝ }
+{
+    if sited {
+        return on_grid::lay_on_grid(b, sources, grid, order, room, work, indices);
+    }
+    lay_out(b, sources, targets, order, room, work, indices)
+}
+
 // Lays the points out and grows their tree, with the marks of its rows in `mark`. After a refusal the slices hold anything.
 fn start(
     b: Box,
     sources: &[f64],
     targets: &[f64],
+    sited: bool,
+    grid: Grid,
     limit: usize,
     order: usize,
     keep: bool,
-    refine: bool,
     room: usize,
     work: &mut [u64],
     indices: &mut [usize],
@@ -210,12 +267,11 @@ fn start(
     mark: &mut [usize],
 ) -> Started
     requires { ⌜ (room ≤ length (now key)) × (room ≤ length (now mark)) ⌝ }
-    ensures { λ r. ⌜ r .outcome ≡ buildOutcome (asksFor b (now (sources .entry)) (now (targets .entry)) limit order keep refine) (length (now (work .entry))) (length (now (indices .entry))) room ⌝ }
+    ensures { λ r. ⌜ r .outcome ≡ buildOutcome (asksAt b limit order keep (now (sources .entry)) (now (targets .entry)) sited grid) (length (now (work .entry))) (length (now (indices .entry))) room ⌝ }
     ensures { λ r. ⌜ (r .outcome ≡ Done
-        → TreeStarted (asksFor b (now (sources .entry)) (now (targets .entry)) limit order keep refine) room (r .rows) (r .nodes) (now (work .exit)) (now (indices .exit)) (now (key .exit)) (now (mark .exit))) ⌝ }
+        → TreeStarted (asksAt b limit order keep (now (sources .entry)) (now (targets .entry)) sited grid) room (r .rows) (r .nodes) (now (work .exit)) (now (indices .exit)) (now (key .exit)) (now (mark .exit))) ⌝ }
 {
-    let marked = used_targets(targets, keep, refine);
-    let laid = lay_out(b, sources, marked, order, room, work, indices);
+    let laid = lay(b, sources, targets, sited, grid, order, room, work, indices);
     let outcome = laid.outcome;
     if let Outcome::Refused(refusal) = outcome {
         return unstarted(refusal);
@@ -253,6 +309,64 @@ fn clear_columns(own: &mut [usize], begin: &mut [usize], total: &mut [usize])
     slices::clear_usize(total);
 }
 
+// Builds the tree with these targets, or, where it is `sited`, with those of the grid.
+fn raise(
+    b: Box,
+    sources: &[f64],
+    targets: &[f64],
+    sited: bool,
+    grid: Grid,
+    limit: usize,
+    order: usize,
+    keep: bool,
+    work: &mut [u64],
+    indices: &mut [usize],
+    key: &mut [u64],
+    own: &mut [usize],
+    begin: &mut [usize],
+    total: &mut [usize],
+) -> Built
+    ensures { λ r. ⌜ r ≡ buildAnswer (asksAt b limit order keep (now (sources .entry)) (now (targets .entry)) sited grid)
+        (rooms (now (work .entry)) (now (indices .entry)) (now (key .entry)) (now (own .entry)) (now (begin .entry)) (now (total .entry))) ⌝ }
+    ensures { λ _. ⌜ now (work .exit) ≡ replicate (length (now (work .entry))) 0 ⌝ }
+    ensures { λ _. ⌜ now (indices .exit) ≡ orderLeft (asksAt b limit order keep (now (sources .entry)) (now (targets .entry)) sited grid)
+        (rooms (now (work .entry)) (now (indices .entry)) (now (key .entry)) (now (own .entry)) (now (begin .entry)) (now (total .entry))) ⌝ }
+    ensures { λ _. ⌜ now (key .exit) ≡ keysLeft (asksAt b limit order keep (now (sources .entry)) (now (targets .entry)) sited grid)
+        (rooms (now (work .entry)) (now (indices .entry)) (now (key .entry)) (now (own .entry)) (now (begin .entry)) (now (total .entry))) ⌝ }
+    ensures { λ _. ⌜ now (own .exit) ≡ ownLeft (asksAt b limit order keep (now (sources .entry)) (now (targets .entry)) sited grid)
+        (rooms (now (work .entry)) (now (indices .entry)) (now (key .entry)) (now (own .entry)) (now (begin .entry)) (now (total .entry))) ⌝ }
+    ensures { λ _. ⌜ now (begin .exit) ≡ beginsLeft (asksAt b limit order keep (now (sources .entry)) (now (targets .entry)) sited grid)
+        (rooms (now (work .entry)) (now (indices .entry)) (now (key .entry)) (now (own .entry)) (now (begin .entry)) (now (total .entry))) ⌝ }
+    ensures { λ _. ⌜ now (total .exit) ≡ totalsLeft (asksAt b limit order keep (now (sources .entry)) (now (targets .entry)) sited grid)
+        (rooms (now (work .entry)) (now (indices .entry)) (now (key .entry)) (now (own .entry)) (now (begin .entry)) (now (total .entry))) ⌝ }
+{
+    let room = node_room(key.len(), own.len(), begin.len(), total.len());
+    let started = start(
+        b,
+        sources,
+        targets,
+        sited,
+        grid,
+        limit,
+        order,
+        keep,
+        room,
+        work,
+        indices,
+        key,
+        total,
+    );
+    let outcome = started.outcome;
+    if let Outcome::Refused(refusal) = outcome {
+        clear_keys(work, indices, key);
+        clear_columns(own, begin, total);
+        return Built::Refused(refusal);
+    }
+    let depth = finish(started.rows, started.nodes, work, indices, key);
+    fill_columns(started.nodes, own, begin, total);
+    Built::Tree(started.nodes, depth)
+}
+
 // The tree of the sources: its keys, own sources, begins and totals, and the order column in `indices`.
 // `order` is that of the expansions, and `keep` and `refine` are the two flags.
 pub fn build_tree(
@@ -284,28 +398,72 @@ pub fn build_tree(
     ensures { λ _. ⌜ now (total .exit) ≡ totalsLeft (asksFor b (now (sources .entry)) (now (targets .entry)) limit order keep refine)
         (rooms (now (work .entry)) (now (indices .entry)) (now (key .entry)) (now (own .entry)) (now (begin .entry)) (now (total .entry))) ⌝ }
 {
-    let room = node_room(key.len(), own.len(), begin.len(), total.len());
-    let started = start(
+    let marked = used_targets(targets, keep, refine);
+    let grid = no_grid();
+    raise(
         b,
         sources,
-        targets,
+        marked,
+        false,
+        grid,
         limit,
         order,
         keep,
-        refine,
-        room,
         work,
         indices,
         key,
+        own,
+        begin,
         total,
-    );
-    let outcome = started.outcome;
-    if let Outcome::Refused(refusal) = outcome {
-        clear_keys(work, indices, key);
-        clear_columns(own, begin, total);
-        return Built::Refused(refusal);
-    }
-    let depth = finish(started.rows, started.nodes, work, indices, key);
-    fill_columns(started.nodes, own, begin, total);
-    Built::Tree(started.nodes, depth)
+    )
+}
+
+// The same tree as on the listed points of a grid, which are nowhere listed: counted by index ranges, they need no work.
+pub fn build_tree_on_grid(
+    b: Box,
+    sources: &[f64],
+    grid: Grid,
+    limit: usize,
+    order: usize,
+    keep: bool,
+    refine: bool,
+    work: &mut [u64],
+    indices: &mut [usize],
+    key: &mut [u64],
+    own: &mut [usize],
+    begin: &mut [usize],
+    total: &mut [usize],
+) -> Built
+    ensures { λ r. ⌜ r ≡ buildAnswer (asksOnGrid b (now (sources .entry)) grid limit order keep refine)
+        (rooms (now (work .entry)) (now (indices .entry)) (now (key .entry)) (now (own .entry)) (now (begin .entry)) (now (total .entry))) ⌝ }
+    ensures { λ _. ⌜ now (work .exit) ≡ replicate (length (now (work .entry))) 0 ⌝ }
+    ensures { λ _. ⌜ now (indices .exit) ≡ orderLeft (asksOnGrid b (now (sources .entry)) grid limit order keep refine)
+        (rooms (now (work .entry)) (now (indices .entry)) (now (key .entry)) (now (own .entry)) (now (begin .entry)) (now (total .entry))) ⌝ }
+    ensures { λ _. ⌜ now (key .exit) ≡ keysLeft (asksOnGrid b (now (sources .entry)) grid limit order keep refine)
+        (rooms (now (work .entry)) (now (indices .entry)) (now (key .entry)) (now (own .entry)) (now (begin .entry)) (now (total .entry))) ⌝ }
+    ensures { λ _. ⌜ now (own .exit) ≡ ownLeft (asksOnGrid b (now (sources .entry)) grid limit order keep refine)
+        (rooms (now (work .entry)) (now (indices .entry)) (now (key .entry)) (now (own .entry)) (now (begin .entry)) (now (total .entry))) ⌝ }
+    ensures { λ _. ⌜ now (begin .exit) ≡ beginsLeft (asksOnGrid b (now (sources .entry)) grid limit order keep refine)
+        (rooms (now (work .entry)) (now (indices .entry)) (now (key .entry)) (now (own .entry)) (now (begin .entry)) (now (total .entry))) ⌝ }
+    ensures { λ _. ⌜ now (total .exit) ≡ totalsLeft (asksOnGrid b (now (sources .entry)) grid limit order keep refine)
+        (rooms (now (work .entry)) (now (indices .entry)) (now (key .entry)) (now (own .entry)) (now (begin .entry)) (now (total .entry))) ⌝ }
+{
+    let none = &sources[..0];
+    let sited = both(keep, refine);
+    raise(
+        b,
+        sources,
+        none,
+        sited,
+        grid,
+        limit,
+        order,
+        keep,
+        work,
+        indices,
+        key,
+        own,
+        begin,
+        total,
+    )
 }

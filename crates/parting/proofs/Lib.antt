@@ -3,6 +3,7 @@ pub mod Digits
 pub mod Loops
 pub mod Splitting
 pub mod Aiming
+pub mod Descending
 pub mod Parted
 pub mod Words
 pub mod Choosing

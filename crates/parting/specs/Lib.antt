@@ -1,4 +1,5 @@
 pub mod Pairs
 pub mod Cells
 pub mod Setting
+pub mod Spans
 pub mod Parts

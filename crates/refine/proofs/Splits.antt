@@ -1,5 +1,5 @@
 -- When the targets in a cell split it.
-use mathlib.Core.Path.{_≡_, sym, ap₂}
+use mathlib.Core.Path.{_≡_, sym, ap, ap₂}
 use mathlib.Core.Bool.{false}
 use mathlib.Core.List.{List}
 use Prim.Native.Nat.{ℕ, _*_, _^_, _≤_, _<_}
@@ -10,7 +10,7 @@ use lib.ListN.{length}
 use borrow.Author.Tests.{le-ltb}
 use Rattle.morton.specs.Keys.{levelOf, codeOf}
 use Rattle.refine.specs.Counts.{targetsIn}
-use Rattle.refine.specs.Refinement.{nearLimit, factor, splitsAt}
+use Rattle.refine.specs.Refinement.{nearLimit, factor, splitsBy, splitsAt}
 use Rattle.refine.proofs.Peers.{count-at-few}
 use Rattle.refine.proofs.Factors.{factor-size}
 
@@ -21,15 +21,21 @@ module _ (d depth limit order : ℕ) (sources targets : List ℕ) (k : ℕ) wher
       le-ltb (nearLimit d limit order * factor d depth sources k) (targetsIn d targets k)
       (omega (arith, mul-le-mul-left (nearLimit d limit order) (factor-size d depth sources k .0), mul-one (nearLimit d limit order)))
 
-  module _ (near held : ℕ) (en : near ≡ nearLimit d limit order) (eh : held ≡ targetsIn d targets k) where
-    pub few-held : held ≤ near → false ≡ splitsAt d depth limit order sources targets k
-    few-held h = sym (few-stay (omega arith))
+module _ (d depth limit order : ℕ) (sources : List ℕ) (k near held : ℕ) (en : near ≡ nearLimit d limit order) where
+  pub few-held : held ≤ near → false ≡ splitsBy d depth limit order sources held k
+  few-held h =
+      sym (le-ltb (nearLimit d limit order * factor d depth sources k) held
+      (omega (arith, mul-le-mul-left (nearLimit d limit order) (factor-size d depth sources k .0), mul-one (nearLimit d limit order))))
 
-    pub product-fits : (f : ℕ) → near < held → f ≡ factor d depth sources k → length targets ≤ 1048576 → near * f < 2 ^ 64
-    product-fits f h ef few =
-        let a : near ≤ 1048576 = omega (arith, count-at-few d targets (levelOf k) (codeOf k)) in
-        let b : f ≤ 32 = omega (arith, factor-size d depth sources k .1) in
-        omega (arith, mul-le-mul {n₁ = near} {m₁ = f} {n₂ = 1048576} {m₂ = 32} a b)
+  pub product-fits : (f : ℕ) → near < held → f ≡ factor d depth sources k → held ≤ 1048576 → near * f < 2 ^ 64
+  product-fits f h ef few =
+      let a : near ≤ 1048576 = omega arith in
+      let b : f ≤ 32 = omega (arith, factor-size d depth sources k .1) in
+      omega (arith, mul-le-mul {n₁ = near} {m₁ = f} {n₂ = 1048576} {m₂ = 32} a b)
 
-    pub splits-is : (f : ℕ) → f ≡ factor d depth sources k → ltb (near * f) held ≡ splitsAt d depth limit order sources targets k
-    splits-is f ef = ap₂ ltb (ap₂ (λ (x y : ℕ). x * y) en ef) eh
+  pub splits-is : (f : ℕ) → f ≡ factor d depth sources k → ltb (near * f) held ≡ splitsBy d depth limit order sources held k
+  splits-is f ef = ap (λ (n : ℕ). ltb n held) (ap₂ (λ (x y : ℕ). x * y) en ef)
+
+-- a cell has no more targets than there are
+pub held-few : (d : ℕ) (targets : List ℕ) (k held : ℕ) → held ≡ targetsIn d targets k → length targets ≤ 1048576 → held ≤ 1048576
+held-few d targets k held e few = omega (arith, count-at-few d targets (levelOf k) (codeOf k))

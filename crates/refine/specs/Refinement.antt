@@ -45,9 +45,13 @@ factorBy coarse cs = cond (eqb (sum cs) 0) 32 (cond (coarse && alike cs) 16 1)
 unfoldable pub factor : ℕ → ℕ → List ℕ → ℕ → ℕ
 factor d depth sources k = factorBy (leb (levelOf k) depth) (countsAround d depth sources k)
 
--- the targets exceed near limit times factor
+-- so many targets exceed near limit times factor
+abbrev pub splitsBy : ℕ → ℕ → ℕ → ℕ → List ℕ → ℕ → ℕ → Bool
+splitsBy d depth limit order sources held k = ltb (nearLimit d limit order * factor d depth sources k) held
+
+-- the targets do
 abbrev pub splitsAt : ℕ → ℕ → ℕ → ℕ → List ℕ → List ℕ → ℕ → Bool
-splitsAt d depth limit order sources targets k = ltb (nearLimit d limit order * factor d depth sources k) (targetsIn d targets k)
+splitsAt d depth limit order sources targets k = splitsBy d depth limit order sources (targetsIn d targets k) k
 
 -- the same at the sources' reference depth
 abbrev pub splitsForTargets : ℕ → ℕ → ℕ → List ℕ → List ℕ → ℕ → Bool

@@ -11,7 +11,7 @@ ghost use Rattle.morton.specs.Keys.{levelOf, codeOf, ValidKey};
 ghost use Rattle.morton.specs.Depth.{referenceDepth};
 ghost use Rattle.refine.specs.Counts.{countAt, targetsIn};
 ghost use Rattle.refine.specs.Sums.{Summed, OfSources};
-ghost use Rattle.refine.specs.Refinement.{nearLimit, lifted as liftedAbove, countsAround, aroundBy, factor as factorOf, splitsAt};
+ghost use Rattle.refine.specs.Refinement.{nearLimit, lifted as liftedAbove, countsAround, aroundBy, factor as factorOf, splitsBy, splitsAt};
 
 // The counts around a cell: how many peers, the sum of their counts, and the sum of the counts' squares.
 pub struct Around {
@@ -125,7 +125,27 @@ pub fn factor(axes: usize, key: u64, depth: u64, sums: &[usize]) -> usize
     }
 }
 
-// Whether the targets in a cell split it. With at most the near limit they do not, whatever the factor, and the rest fits.
+// Whether so many targets in a cell split it. With at most the near limit they do not, whatever the factor, and the rest fits.
+pub fn splits_for_count(
+    axes: usize,
+    key: u64,
+    limit: usize,
+    order: usize,
+    depth: u64,
+    sums: &[usize],
+    held: usize,
+) -> bool
+    requires { ⌜ ValidKey axes key × Summed axes depth (now sums) × (order ≤ 64) × (held ≤ 1048576) ⌝ }
+    ensures { λ r. ⌜ OfSources axes depth (now (sums .entry)) (λ sources. r ≡ splitsBy axes depth limit order sources held key) ⌝ }
+{
+    let near = near_limit(axes, limit, order);
+    if held <= near {
+        return false;
+    }
+    near * factor(axes, key, depth, sums) < held
+}
+
+// Whether the targets in a cell split it.
 pub fn splits_for_targets(
     axes: usize,
     key: u64,
@@ -138,10 +158,6 @@ pub fn splits_for_targets(
     requires { ⌜ ValidKey axes key × Summed axes depth (now sums) × (order ≤ 64) × Sorted (now targets) × (length (now targets) ≤ 1048576) ⌝ }
     ensures { λ r. ⌜ OfSources axes depth (now (sums .entry)) (λ sources. r ≡ splitsAt axes depth limit order sources (now (targets .entry)) key) ⌝ }
 {
-    let near = near_limit(axes, limit, order);
     let held = target_count(axes, targets, key);
-    if held <= near {
-        return false;
-    }
-    near * factor(axes, key, depth, sums) < held
+    splits_for_count(axes, key, limit, order, depth, sums, held)
 }

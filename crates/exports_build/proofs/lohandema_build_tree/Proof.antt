@@ -4,7 +4,8 @@ use denote.Ref.{now}
 use lib.ListN.{length}
 use Rattle.exports_keys.specs.Told.{told}
 use Rattle.exports_build.specs.Told.{builtEnd, nodesIn, depthIn}
-use Rattle.build.specs.Asked.{used, builtKeys, builtOwn, builtBegins, builtTotals, builtOrder}
+use Rattle.space.specs.declared.Box.{Box}
+use Rattle.build.specs.Asked.{asksFor, builtKeys, builtOwn, builtBegins, builtTotals, builtOrder}
 use Rattle.build.specs.Outcomes.{nodeRoom}
 use Rattle.exports_build.proofs.Same.{built-same, column-same}
 use borrow.Author.Needs.{needs}
@@ -43,22 +44,23 @@ returns c =
     let a = c .before .before .before .before .before .before .before .before .before .before .before .before .before .before .before .before .before .before .before .before .before .before .before .before .before .before .before .before .before .before .before .args in
     let room = nodeRoom (length (now (a .key))) (length (now (a .own))) (length (now (a .begin))) (length (now (a .total))) in
     let x = c .before .before .before .before .before .before .before .before .before .before .before .before .before .before .before .before .before .before .before .before .before .before .box-at .ensures in
+    let same = ap (λ (b : Box). asksFor b (now (a .sources)) (now (a .targets)) (a .limit) (a .order) (a .keep) (a .refine)) x in
     let g = c .before .before .before .before .before .before .before .before .before .before .before .before .before .before .before .build-tree .ensures in
     let t = c .tell-built .ensures in
-    let f = built-same (a .limit) (a .order) (a .keep) (now (a .sources)) (used (a .keep) (a .refine) (now (a .targets))) (length (now (a .work))) (length (now (a .indices))) room x _ (g .0) in (
+    let f = built-same _ _ (length (now (a .work))) (length (now (a .indices))) room same _ (g .0) in (
       t .0 ∙ ap (λ y. told (builtEnd y)) f,
       (
         g .1 .0,
         (
-          column-same (a .limit) (a .order) (a .keep) (now (a .sources)) (used (a .keep) (a .refine) (now (a .targets))) (length (now (a .work))) (length (now (a .indices))) room x builtOrder (length (now (a .indices))) _ (g .1 .1 .0),
+          column-same _ _ (length (now (a .work))) (length (now (a .indices))) room same builtOrder (length (now (a .indices))) _ (g .1 .1 .0),
           (
-            column-same (a .limit) (a .order) (a .keep) (now (a .sources)) (used (a .keep) (a .refine) (now (a .targets))) (length (now (a .work))) (length (now (a .indices))) room x builtKeys (length (now (a .key))) _ (g .1 .1 .1 .0),
+            column-same _ _ (length (now (a .work))) (length (now (a .indices))) room same builtKeys (length (now (a .key))) _ (g .1 .1 .1 .0),
             (
-              column-same (a .limit) (a .order) (a .keep) (now (a .sources)) (used (a .keep) (a .refine) (now (a .targets))) (length (now (a .work))) (length (now (a .indices))) room x builtOwn (length (now (a .own))) _ (g .1 .1 .1 .1 .0),
+              column-same _ _ (length (now (a .work))) (length (now (a .indices))) room same builtOwn (length (now (a .own))) _ (g .1 .1 .1 .1 .0),
               (
-                column-same (a .limit) (a .order) (a .keep) (now (a .sources)) (used (a .keep) (a .refine) (now (a .targets))) (length (now (a .work))) (length (now (a .indices))) room x builtBegins (length (now (a .begin))) _ (g .1 .1 .1 .1 .1 .0),
+                column-same _ _ (length (now (a .work))) (length (now (a .indices))) room same builtBegins (length (now (a .begin))) _ (g .1 .1 .1 .1 .1 .0),
                 (
-                  column-same (a .limit) (a .order) (a .keep) (now (a .sources)) (used (a .keep) (a .refine) (now (a .targets))) (length (now (a .work))) (length (now (a .indices))) room x builtTotals (length (now (a .total))) _ (g .1 .1 .1 .1 .1 .1),
+                  column-same _ _ (length (now (a .work))) (length (now (a .indices))) room same builtTotals (length (now (a .total))) _ (g .1 .1 .1 .1 .1 .1),
                   (
                     t .1 .0 ∙ ap nodesIn f,
                     t .1 .1 ∙ ap depthIn f,
