@@ -17,7 +17,8 @@ def corners(inspection, node):
 
 def figures(inspection, leaf):
     """What is told of a leaf: its name and figure."""
-    return {"node": leaf, "level": inspection.level(leaf), "readings": inspection.own[leaf],
+    targets = {"targets": inspection.aims[leaf]} if inspection.targets else {}
+    return {"node": leaf, "level": inspection.level(leaf), "readings": inspection.own[leaf], **targets,
             "near_keys": len(inspection.near[leaf]), "far_keys": len(inspection.far[leaf]),
             "near_readings": inspection.near_readings[leaf], "near_work": inspection.work[leaf]}
 

@@ -24,18 +24,24 @@ class Inspection:
     far: object
     # the leaves that do not meet each reading exactly once
     at_fault: list
+    # for each node, the targets in it; where there are none, own, as the readings serve as targets
+    aims: list
 
     def __post_init__(self):
         own = dict(zip(self.key, self.own))
         # for each leaf, the readings in its U row
         self.near_readings = {leaf: sum(own[key] for key in self.near[leaf].tolist()) for leaf in self.leaves}
-        self.work = {leaf: self.own[leaf] * near for leaf, near in self.near_readings.items()}
+        self.work = {leaf: self.aims[leaf] * near for leaf, near in self.near_readings.items()}
         self.near_sizes = [len(self.near[leaf]) for leaf in self.leaves]
         self.far_sizes = [len(self.far[node]) for node in range(len(self.key))]
 
     @property
     def readings(self):
         return self.total[0]
+
+    @property
+    def targets(self):
+        return len(self.survey.targets)
 
     @property
     def depth(self):
@@ -92,13 +98,18 @@ def summary(sizes):
 
 
 def work(inspection):
-    pairs = inspection.readings ** 2
-    lines = ["near work: %d, the readings of each leaf times those in its U row; %s of all %d pairs of readings"
-             % (inspection.near_work, percent(inspection.near_work, pairs), pairs)]
-    found = [(leaf, inspection.key[leaf], inspection.level(leaf), inspection.own[leaf], inspection.near_readings[leaf],
-              inspection.work[leaf], percent(inspection.work[leaf], inspection.near_work)) for leaf in inspection.heaviest()]
-    names = ["node", "key", "level", "readings", "in its U row", "near work", "part"]
-    return lines + ["the heaviest leaves"] + columns(names, found) if found else lines
+    targets = inspection.targets
+    pairs = inspection.readings * (targets or inspection.readings)
+    lines = ["near work: %d, the %s in its U row; %s of all %d pairs of %s" % (
+        inspection.near_work, "targets of each leaf times the readings" if targets else "readings of each leaf times those",
+        percent(inspection.near_work, pairs), pairs, "a target and a reading" if targets else "readings")]
+    names = ["node", "key", "level", "readings", "targets", "in its U row", "near work", "part"]
+    found = [[leaf, inspection.key[leaf], inspection.level(leaf), inspection.own[leaf], inspection.aims[leaf],
+              inspection.near_readings[leaf], inspection.work[leaf], percent(inspection.work[leaf], inspection.near_work)]
+             for leaf in inspection.heaviest()]
+    # without targets there is no column for them
+    shown = [line if targets else line[:4] + line[5:] for line in [names] + found]
+    return lines + ["the heaviest leaves"] + columns(shown[0], shown[1:]) if found else lines
 
 
 def once(inspection):

@@ -29,6 +29,8 @@ class Node:
     near: list
     far: list
     is_leaf: bool = True
+    # the targets that lie in a leaf; where the survey has none, its own sources, which serve as targets
+    aims: int = 0
 
 
 @dataclass
@@ -56,8 +58,8 @@ class Listing:
         return [(house.level_of(leaf.key), leaf.near)] + [(house.level_of(node.key), node.far) for node in around]
 
     def near_work_of_rows(self):
-        """The sum over leaves of own sources times sources in the U row."""
-        return sum(node.own * sum(self.by_key[key].own for key in node.near) for node in self.nodes)
+        """The sum over leaves of the targets in the leaf times the sources in its U row."""
+        return sum(node.aims * sum(self.by_key[key].own for key in node.near) for node in self.nodes)
 
     def meets_once(self, leaf):
         """Whether a leaf's rows hold each source exactly once: no cell of them lies in another, and none is missing."""
@@ -101,8 +103,10 @@ def checked_listing(path, survey, survey_name):
     held = Counter(around for key in keys for around in house.ancestors(axes, key))
     listing = Listing(axes, depth, near_work, nodes, by_key, keys, held)
     check_sources(path, listing, survey_name)
+    count_targets(listing, survey, survey_name)
     if near_work != listing.near_work_of_rows():
-        raise Refused("%s: line 1: near work %d, but the U rows give %d" % (path, near_work, listing.near_work_of_rows()))
+        raise Refused("%s: line 1: near work %d, but the U rows and the %s of %s give %d" % (
+            path, near_work, "targets" if survey.targets else "sources", survey_name, listing.near_work_of_rows()))
     return listing
 
 
@@ -181,11 +185,16 @@ def check_survey(survey, survey_name):
     if fault:
         raise NoTree("%s: the box is outside its domain: %s; make the file anew with another box" % (survey_name, fault))
     for number, source in enumerate(survey.sources):
-        wall = house.wall_of(survey.centre, survey.radius, source)
-        if wall:
-            larger = "" if "finite" in wall[1] else "make the file anew with a larger box, or "
-            raise NoTree("%s: source %d, counted from 0, %s on axis %d, counted from 0; %smend that reading or take it out"
-                         % (survey_name, number, wall[1], wall[0], larger))
+        check_inside(survey, survey_name, "source %d" % number, source, "that reading")
+
+
+def check_inside(survey, survey_name, point, row, it):
+    """That a source or target is inside the box."""
+    wall = house.wall_of(survey.centre, survey.radius, row)
+    if wall:
+        larger = "" if "finite" in wall[1] else "make the file anew with a larger box, or "
+        raise NoTree("%s: %s, counted from 0, %s on axis %d, counted from 0; %smend %s or take it out"
+                     % (survey_name, point, wall[1], wall[0], larger, it))
 
 
 def check_sources(path, listing, survey_name):
@@ -198,3 +207,16 @@ def check_sources(path, listing, survey_name):
         if node.own != owned[i]:
             raise Refused("%s: line %d: %d own sources, but %d of %s lie there"
                           % (path, i + 2, node.own, owned[i], survey_name))
+
+
+def count_targets(listing, survey, survey_name):
+    """Puts each target into its leaf. The program refuses a survey with one that is outside, or that no leaf holds."""
+    for node in listing.nodes:
+        node.aims = 0 if survey.targets else node.own
+    for number, target in enumerate(survey.targets):
+        check_inside(survey, survey_name, "target %d" % number, target, "that target")
+        leaf = listing.leaf_at(house.point_key(survey.centre, survey.radius, target))
+        if not leaf:
+            raise NoTree("%s: no leaf holds target %d, counted from 0, so that the program refuses the survey (refused 12 %d); "
+                         "make the file anew with --keep-empty, or take that target out" % (survey_name, number, number))
+        leaf.aims += 1

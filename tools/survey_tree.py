@@ -56,9 +56,10 @@ def is_csv(name):
 
 
 class Survey(house.Survey):
-    """A survey with what is told of where it came from: lines of its rows, if it has any, and sentences."""
+    """A survey with what is told of where it came from: lines of its rows, if it has any, and sentences; and with what its
+    tree says of the targets."""
 
-    lines, target_lines, told, name, targets_name = None, None, (), None, None
+    lines, target_lines, told, name, targets_name, near_work, aims = None, None, (), None, None, 0, ()
 
 
 def read(options):
@@ -112,7 +113,7 @@ def told(survey, tables, origin):
 
 def lists_of(survey):
     """The lists of a survey, which know their tree, and the leaves that do not meet each reading exactly once. The survey
-    gets its box."""
+    gets its box, its near work and the targets of each node."""
     lohandema = package()
     sources, targets = [rows_of(rows, survey.axes) for rows in (survey.sources, survey.targets)]
     used = {"targets": targets, "order": survey.order} if survey.targets and survey.keep_empty else {}
@@ -120,6 +121,7 @@ def lists_of(survey):
         box = lohandema.Box(survey.centre, survey.radius) if survey.centre else lohandema.Box.around(sources, targets)
         tree = lohandema.Tree.build(sources, box, limit=survey.limit, keep_empty=survey.keep_empty, progress=True, **used)
         lists = tree.lists(progress=True)
+        survey.near_work, survey.aims = tree.near_work(targets, with_counts=True, progress=True)
         at_fault = lists.at_fault(progress=True).tolist()
     except lohandema.Refused as refused:
         raise Refused(where(survey, refused))
@@ -144,11 +146,16 @@ def listing_of(survey, lists, at_fault):
     """The listing of a survey, made from its tree and lists."""
     tree = lists.tree
     leaves = set(tree.leaves().tolist() or [0])
-    columns = zip(tree.key.tolist(), tree.own.tolist(), lists.u, lists.v)
-    nodes = [Node(n, key, own, near.tolist(), far.tolist(), n in leaves) for n, (key, own, near, far) in enumerate(columns)]
-    listing = Made(axes=survey.axes, depth=tree.depth, near_work=0, nodes=nodes, by_key={node.key: node for node in nodes},
-                   source_keys=source_keys(survey), held=Counter(dict(zip(tree.key.tolist(), tree.total.tolist()))))
-    listing.near_work, listing.at_fault = listing.near_work_of_rows(), at_fault
+    columns = zip(tree.key.tolist(), tree.own.tolist(), lists.u, lists.v, survey.aims.tolist())
+    nodes = [Node(n, key, own, near.tolist(), far.tolist(), n in leaves, aims)
+             for n, (key, own, near, far, aims) in enumerate(columns)]
+    listing = Made(axes=survey.axes, depth=tree.depth, near_work=survey.near_work, nodes=nodes,
+                   by_key={node.key: node for node in nodes}, source_keys=source_keys(survey),
+                   held=Counter(dict(zip(tree.key.tolist(), tree.total.tolist()))))
+    listing.at_fault = at_fault
+    if listing.near_work != listing.near_work_of_rows():
+        raise Refused("%s: near work is %d, but the U rows give %d; please report it with the file"
+                      % (survey.name, listing.near_work, listing.near_work_of_rows()))
     return listing
 
 
@@ -183,12 +190,15 @@ def rows_of(rows, axes):
 
 def where(survey, refused):
     """A refusal with the file and, where it has lines, the line that it is of."""
-    name, lines = survey.name, survey.lines
-    if refused.number == 7:
+    name, lines, told = survey.name, survey.lines, str(refused)
+    if refused.number in (7, 12):
         name, lines = survey.targets_name, survey.target_lines
-    if refused.number in (6, 7) and lines:
-        return "%s: line %d: %s" % (name, lines[refused.value], refused)
-    return "%s: %s" % (name, refused)
+    if refused.number == 12:
+        told = "no leaf holds target %d, as cells without readings are not kept: %s, or take the target out (refused 12 %s)" % (
+            refused.value, "give --keep-empty" if lines else "make the file anew with --keep-empty", refused.name)
+    if refused.number in (6, 7, 12) and lines:
+        return "%s: line %d: %s" % (name, lines[refused.value], told)
+    return "%s: %s" % (name, told)
 
 
 def not_finite(survey):

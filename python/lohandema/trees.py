@@ -297,6 +297,29 @@ class Tree:
         del lent
         return Rows(cut(starts, len(self) + 1), cut(indices, marks.entries))
 
+    # Near work
+
+    def near_work(self, targets=None, *, with_counts=False, progress=False):
+        """Near work: the sum over leaves of the targets in the leaf times the sources in its U row, which is how many pairs of
+        a target and a source are summed singly. Where no targets are given the sources serve as targets. With with_counts
+        also how many targets each node has; only leaves have any. No list is needed. Raises Refused for the first target that
+        is outside the box, 7 POINT, or in no leaf, 12 UNSTORED.
+
+        >>> tree = Tree.build([[0.5], [1.5], [6.5], [7.5]], Box([4.0], 4.0), limit=1)
+        >>> tree.near_work(), tree.near_work([[0.5], [0.7], [7.9]])
+        (8, 6)
+        >>> tree.near_work([[0.5]], with_counts=True)[1].tolist()
+        [0, 0, 0, 1, 0, 0, 0, 0, 0]
+        """
+        aims = Points([] if targets is None else targets, self.box.axes, "targets")
+        counts, work = column(len(self)), ctypes.c_uint64()
+        lent = Lent(memoryview(counts))
+        with telling(progress, "the near work of %d targets" % (aims.rows or len(self.order))):
+            call("get_near_work", *self.box._words(), *self._words(), aims.lent.address, aims.lent.entries, *_words([lent]),
+                 ctypes.byref(work))
+        del lent
+        return (work.value, cut(counts, len(self))) if with_counts else work.value
+
     # Lists
 
     def lists(self, *, progress=False):

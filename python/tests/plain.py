@@ -94,6 +94,12 @@ class Plain:
             and up_to(self.axes, c, level_of(key) - 1) != parent
             and touch(self.axes, up_to(self.axes, c, level_of(key) - 1), parent))
 
+    def near_work(self, codes):
+        """For each level-16 key of a target the sources in the U row of its leaf, summed; and the targets of each node."""
+        leaves = [self.key.index(self.leaf_of(code)) for code in codes]
+        met = {leaf: sum(self.held[key] for key in self.near(leaf)) for leaf in set(leaves)}
+        return sum(met[leaf] for leaf in leaves), [leaves.count(node) for node in range(len(self.key))]
+
     def leaf_of(self, code):
         """The key of the leaf that holds a level-16 key, or None."""
         leaves = {key for key, leaf in zip(self.key, self.leaf) if leaf}

@@ -39,8 +39,8 @@ class Inspect(unittest.TestCase):
         self.assertEqual(result.stderr.count("\n"), 1, result.stderr)
 
     def test_samples(self):
-        """The near work of the recorded listing, where the sources are the targets, and every leaf without fault."""
-        for name in ("example", "three-lines"):
+        """The near work of the recorded listing, and every leaf without fault."""
+        for name in ("example", "three-lines", "two-heights"):
             result = self.inspect(os.path.join(ROOT, "samples", name + ".survey"))
             self.assertEqual((result.returncode, result.stderr), (0, ""))
             _, nodes, depth, sources, work = map(int, read("samples", name + ".listing").split("\n")[0].split()[1:])
@@ -76,8 +76,26 @@ class Inspect(unittest.TestCase):
         with open(self.path("a.csv")) as file:
             lines = file.read().strip().split("\n")
         self.assertIn("tree: %d nodes" % (len(lines) - 1), result.stdout)
-        kept = self.inspect("lines.csv", "grid.csv", "--columns=easting,northing")
-        self.assertIn("10000 targets, which split no cell, as cells without readings are not kept", kept.stdout)
+        self.assertIn(", the targets of each leaf times the readings in its U row; ", result.stdout)
+
+    def test_targets_without_leaf(self):
+        """Without --keep-empty targets split no cell, and are looked up: the first that no leaf holds is told by its line."""
+        self.write("a.csv", "x\n0.5\n1.5\n6.5\n7.5\n")
+        self.write("t.csv", "x\n0.5\n\n7.9\n")
+        self.write("gap.csv", "x\n0.5\n\n3.0\n8.0\n")
+        box = ["--centre=4", "--radius=4", "--limit", "1"]
+        told = self.inspect("a.csv", "t.csv", *box)
+        self.assertIn("2 targets, which split no cell, as cells without readings are not kept", told.stdout)
+        self.assertIn("near work: 4, the targets of each leaf times the readings in its U row", told.stdout)
+        self.refused("gap.csv: line 4: no leaf holds target 1, as cells without readings are not kept: give --keep-empty, or "
+                     "take the target out (refused 12 UNSTORED)", "a.csv", "gap.csv", *box)
+        self.run_tool("make-survey", "a.csv", "gap.csv", "--as-is", *box, "-o", "gap.survey")
+        self.refused("gap.survey: no leaf holds target 1, as cells without readings are not kept: make the file anew with "
+                     "--keep-empty, or take the target out (refused 12 UNSTORED)", "gap.survey")
+        self.write("out.csv", "x\n8.0\n3.0\n")
+        self.refused("out.csv: line 2: target or looked-up point 0 lies above the box on axis 0", "a.csv", "out.csv", *box)
+        drawn = self.run_tool("draw", "a.csv", "gap.csv", *box, "-o", "a.svg")
+        self.assertIn("gap.csv: line 4: no leaf holds target 1", drawn.stderr)
 
     def shapes(self, name):
         """The shapes of a picture, without its words."""

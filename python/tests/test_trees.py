@@ -19,12 +19,10 @@ from lohandema import Box, Refused, Rows, Tree
 from lohandema.rows import Lists
 
 
-def listing(tree):
+def listing(tree, targets=None):
     """The text of a tree and its lists, as the listing program has it: nodes by level."""
     lists = tree.lists()
-    own = dict(zip(tree.key.tolist(), tree.own.tolist()))
-    work = sum(tree.own[leaf] * sum(own[key] for key in lists.near(leaf).tolist()) for leaf in tree.leaves())
-    lines = ["tree %d %d %d %d %d" % (tree.box.axes, len(tree), tree.depth, len(tree.order), work)]
+    lines = ["tree %d %d %d %d %d" % (tree.box.axes, len(tree), tree.depth, len(tree.order), tree.near_work(targets))]
     by_level = sorted(range(len(tree)), key=lambda node: (house.level_of(int(tree.key[node])), tree.key[node]))
     for number, node in enumerate(by_level):
         near, far = ["".join(" %d" % key for key in row(node)) for row in (lists.near, lists.far)]
@@ -58,10 +56,29 @@ class Recorded(unittest.TestCase):
         """The other samples, whose listings the proved program wrote."""
         for name in ("three-lines", "two-heights"):
             survey = house.read_survey(os.path.join(ROOT, "samples", name + ".survey"))
-            targets = {"targets": [list(row) for row in survey.targets], "order": survey.order} if survey.keep_empty else {}
+            targets = [list(row) for row in survey.targets]
+            used = {"targets": targets, "order": survey.order} if survey.keep_empty else {}
             tree = Tree.build([list(row) for row in survey.sources], Box(survey.centre, survey.radius), limit=survey.limit,
-                              keep_empty=survey.keep_empty, **targets)
-            self.assertEqual(listing(tree).split("\n")[1:], read("samples", name + ".listing").split("\n")[1:], name)
+                              keep_empty=survey.keep_empty, **used)
+            self.assertEqual(listing(tree, targets), read("samples", name + ".listing"), name)
+
+    def test_near_work(self):
+        """The example by its targets, and the first target that fails."""
+        tree = Tree.build([[0.5], [1.5], [6.5], [7.5]], Box([4.0], 4.0), limit=1)
+        for targets, work in ((None, 8), ([], 8), ([7.5, 6.5, 1.5, 0.5], 8), ([0.5], 2), ([7.9, 0.0, 7.5, 0.9, 7.0], 10)):
+            self.assertEqual(tree.near_work(targets), work)
+        self.assertEqual(tree.near_work(with_counts=True)[1].tolist(), tree.own.tolist())
+        self.assertEqual(tree.near_work([7.9, 0.0, 7.5], with_counts=True)[1].tolist(), [0, 0, 0, 1, 0, 0, 0, 0, 2])
+        refused = {(3.0,): (12, 0, None, None), (8.0,): (7, 0, 0, 3), (3.0, 8.0): (12, 0, None, None),
+                   (8.0, 3.0): (7, 0, 0, 3), (0.5, 1.5, float("nan"), 3.0): (7, 2, 0, 1), (0.5, -1.0): (7, 1, 0, 2)}
+        for targets, told in refused.items():
+            with self.assertRaises(Refused) as caught:
+                tree.near_work(list(targets))
+            found = caught.exception
+            self.assertEqual((found.number, found.value, found.axis, found.reason), told)
+        for targets in ([[1.0, 2.0]], "0.5", [[True]]):
+            with self.assertRaises((TypeError, ValueError)):
+                tree.near_work(targets)
 
 
 class ByTheRules(unittest.TestCase):
@@ -98,16 +115,21 @@ class ByTheRules(unittest.TestCase):
             self.assertEqual([rules.key[n] for n in tree.path(node)], above)
             self.assertEqual(int(tree.parents()[node]), rules.key.index(above[1]) if node else -1)
         self.assertEqual(lists.at_fault().tolist(), [])
+        work, counts = tree.near_work(with_counts=True)
+        self.assertEqual((work, counts.tolist()), rules.near_work(rules.codes))
         self.assertEqual(lists.u.sizes().tolist(), [len(row) for row in lists.u])
 
     def looked_up(self, tree, rules, points):
         codes = [house.point_key(tree.box.centre, tree.box.radius, point) for point in points]
         leaves = [rules.leaf_of(code) for code in codes]
         if None in leaves:
-            with self.assertRaises(Refused) as caught:
-                tree.lookup(points)
-            self.assertEqual((caught.exception.number, caught.exception.value), (12, leaves.index(None)))
+            for call in (tree.lookup, tree.near_work):
+                with self.assertRaises(Refused) as caught:
+                    call(points)
+                self.assertEqual((caught.exception.number, caught.exception.value), (12, leaves.index(None)))
             return
+        work, counts = tree.near_work(points, with_counts=True)
+        self.assertEqual((work, counts.tolist()), rules.near_work(codes))
         found, steps = tree.lookup(points, with_steps=True)
         self.assertEqual(found.tolist(), leaves)
         self.assertEqual(steps, sum(rules.depth - house.level_of(leaf) for leaf in leaves))
@@ -132,7 +154,8 @@ class Columns(unittest.TestCase):
             other = Tree.from_columns(tree.box, *spoilt)
             self.assertFalse(other.is_well_formed())
             for call in (other.lists, other.sourced_cells, other.leaves, other.parents, lambda: other.lookup([[0.0, 0.0]]),
-                         lambda: other.leaf_of([0.0, 0.0]), lambda: other.groups(keys=[1])):
+                         lambda: other.leaf_of([0.0, 0.0]), lambda: other.groups(keys=[1]), other.near_work,
+                         lambda: other.near_work([[0.0, 0.0]])):
                 with self.assertRaises(Refused) as caught:
                     call()
                 self.assertEqual(caught.exception.number, 13)

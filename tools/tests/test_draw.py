@@ -216,8 +216,10 @@ class Draw(ToolTest):
             text.replace("tree 1 9 3", "tree 1 9 4"): "in: line 1: depth 4, but the deepest node has level 3",
             text.replace("8 229379 1", "8 163843 1"): "in: line 10: key 163843 is not in the order",
             text.replace("3 2 0", "3 32770 0"): "in: line 7: the parent of key 3 is not listed",
-            text.replace("3 4 8", "3 4 9"): "in: line 1: near work 9, but the U rows give 8; make the listing anew",
-            text.replace("6 32771 1 U 3 ", "6 32771 1 U "): "in: line 1: near work 8, but the U rows give 7",
+            text.replace("3 4 8", "3 4 9"): "in: line 1: near work 9, but the U rows and the sources of example.survey "
+                                              "give 8; make the listing anew with ./listing example.survey",
+            text.replace("6 32771 1 U 3 ", "6 32771 1 U "): "in: line 1: near work 8, but the U rows and the sources of "
+                                                             "example.survey give 7",
             text.replace("5 3 1", "5 3 2"): "in: line 7: 2 own sources, but 1 of example.survey lie there",
         }
         for content, message in bad.items():
@@ -231,6 +233,9 @@ class Draw(ToolTest):
             "7 3 2 1": "target 3, counted from 0, is not a finite number on axis 2, counted from 0; ",
             "6 3": "source 3, counted from 0, is outside the box or is not a finite number; ",
             "8 3": "the tree has more than 2048 nodes, which is all that the program has room for; make the file anew with ",
+            "12 5": "no leaf holds target 5, counted from 0, as cells without sources are not kept; make the file anew with "
+                    "--keep-empty, or take that target out",
+            "7 5 0 3": "target 5, counted from 0, lies above the box on axis 0, counted from 0; ",
             "8 77": "the program has too little room for the answer; ",
             "99 0": "docs/REFUSALS.md says why",
         }
@@ -255,6 +260,42 @@ class Draw(ToolTest):
             self.refused("in: no tree to draw, since the program refused s.survey (refused %s): source 1, counted from 0, %s"
                          % (refusal, wall), "draw", "s.survey", "in", "-o", "out")
             self.refused("s.survey: source 1, counted from 0, %s, counted from 0; %s" % (wall, cure), "draw", "s.survey", "example.listing", "-o", "out")
+
+    def with_targets(self, *targets):
+        """The example with targets, as s.survey."""
+        self.write("t.csv", "x\n" + "".join("%r\n" % x for x in targets))
+        self.done("make-survey", "example.csv", "t.csv", "--as-is", "--centre=4", "--radius=4", "--limit=1", "-o", "s.survey")
+
+    def test_targets(self):
+        """Near work is of the targets, whatever the flags; a listing that says another figure is refused, as one that was made
+        before targets were counted is."""
+        text = self.read("example.listing").decode()
+        for targets, work in (((0.5,), 2), ((0.5, 7.9, 7.0), 6), ((0.5, 1.5, 6.5, 7.5), 8)):
+            self.with_targets(*targets)
+            self.write("in", text.replace("3 4 8", "3 4 %d" % work))
+            self.done("draw", "s.survey", "in", "-o", "picture")
+            self.assertIn("near work %d" % work, self.read("picture").decode())
+            self.write("in", text.replace("3 4 8", "3 4 9"))
+            self.refused("in: line 1: near work 9, but the U rows and the targets of s.survey give %d; make the listing anew with "
+                         "./listing s.survey" % work, "draw", "s.survey", "in", "-o", "out")
+        text = self.read("two-heights.listing").decode()
+        self.write("in", text.replace("3 42 1002", "3 42 626"))
+        self.refused("in: line 1: near work 626, but the U rows and the targets of two-heights.survey give 1002; make the listing "
+                     "anew", "draw", "two-heights.survey", "in", "-o", "out")
+
+    def test_targets_without_leaf(self):
+        """A target that no leaf holds, or that is outside, with flags 0: the first that fails, and not that the listing be made
+        anew, since the program refuses such a survey."""
+        outside = "s.survey: target %d, counted from 0, %s on axis 0, counted from 0; %smend that target or take it out\n"
+        larger = "make the file anew with a larger box, or "
+        gap = ("s.survey: no leaf holds target %d, counted from 0, so that the program refuses the survey (refused 12 %d); make the "
+               "file anew with --keep-empty, or take that target out\n")
+        for targets, sentence in (((3.0,), gap % (0, 0)), ((3.0, 8.0), gap % (0, 0)), ((0.5, 4.0), gap % (1, 1)),
+                                  ((8.0, 3.0), outside % (0, "lies above the box", larger)),
+                                  ((0.5, -1.0), outside % (1, "lies below the box", larger)),
+                                  ((float("inf"), 3.0), outside % (0, "is not a finite number", ""))):
+            self.with_targets(*targets)
+            self.refused("draw: " + sentence, "draw", "s.survey", "example.listing", "-o", "out")
 
     def test_bad_choice(self):
         bad = {

@@ -107,8 +107,8 @@ class MakeSurvey(ToolTest):
     def test_unused_targets(self):
         self.write("s.csv", "0\n8\n")
         told = self.done("make-survey", "s.csv", "s.csv", "-o", "out").splitlines()[-1]
-        self.assertEqual(told, "make-survey: warning: no flag uses the 2 targets of s.csv, so no cell is split for them; "
-                               "give --keep-empty if it should be")
+        self.assertEqual(told, "make-survey: warning: without --keep-empty no cell is split for the 2 targets of s.csv, and the "
+                               "listing program refuses the file if no leaf holds one of them; give --keep-empty to mend both")
         for options in (["s.csv", "--keep-empty"], ["--keep-empty"], []):
             self.assertNotIn("warning", self.done("make-survey", "s.csv", *options, "-o", "out"))
 
