@@ -121,7 +121,7 @@ fn refused_by_build() -> Vec<Survey> {
     files
 }
 
-/// Targets that are not looked at, as empty cells are left out.
+/// Targets that split no cell, as empty cells are left out: the build does not look at them, near work does.
 fn unused_targets() -> Vec<Survey> {
     let whole = example().order(0);
     vec![
@@ -130,6 +130,76 @@ fn unused_targets() -> Vec<Survey> {
         // A NaN with another pattern.
         whole.targets(&[f64::from_bits(0x7FF0_0000_0000_0001)]),
     ]
+}
+
+/// Targets by which near work is counted: in leaves with sources and without, and such as no leaf holds or as are outside,
+/// the lower index first in turn.
+fn near_targets() -> Vec<Survey> {
+    let e = example;
+    let mut files: Vec<Survey> = [
+        &[0.5][..],
+        &[3.0],
+        &[8.0],
+        &[3.0, 8.0],
+        &[8.0, 3.0],
+        &[0.5, 7.9, 1.0, 6.0, 0.0, -0.0, 8.0_f64.next_down()],
+        &[7.5, 6.5, 1.5, 0.5],
+        &[0.5, 2.5, -1.0],
+        &[0.5, -1.0, 2.5],
+        &[0.5, 1.5, f64::NAN],
+        &[f64::INFINITY, 3.0],
+        &[-5e-324],
+    ]
+    .map(|targets| e().targets(targets))
+    .to_vec();
+    // Empty leaves, and a coarse one beside fine ones.
+    files.push(e().keep_empty().targets(&[2.5, 3.0, 4.0, 5.0, 5.0]));
+    let fine: Vec<f64> = (0..24).map(|n| 4.0 - f64::from(n) / 64.0 - 1e-3).collect();
+    let beside = Survey::new(1, 4.0, 4.0).sources(&fine);
+    files.push(beside.clone().keep_empty().targets(&[7.0; 60]));
+    files.push(beside.targets(&[7.0]));
+    for axes in 1..=3 {
+        // A tree of the root alone holds no target; one of empty cells holds all.
+        let s = Survey::new(axes, 4.0, 4.0);
+        files.push(s.clone().targets(&vec![1.0; axes]));
+        files.push(s.clone().keep_empty().targets(&vec![1.0; 2 * axes]));
+        // A leaf of level 1 beside one of level 16; on the last axis a wall.
+        let far: Vec<f64> = [0.5, 0.5, 7.5].map(|x| vec![x; axes]).concat();
+        let mut behind = far.clone();
+        *behind.last_mut().unwrap() = -1.0;
+        files.push(s.clone().sources(&far).targets(&far[axes..]));
+        files.push(s.clone().sources(&far).targets(&behind));
+        files.push(s.keep_empty().sources(&far).targets(&far[axes..]));
+    }
+    // The lists are over their room: that is told, and not the target.
+    files.push(
+        Survey::new(3, 4.0, 4.0)
+            .sources(&grid())
+            .targets(&[f64::NAN; 3]),
+    );
+    files
+}
+
+/// Surveys without empty cells whose targets are some of the sources' places, again and again, and then one of any place.
+fn near_at_random(random: &mut Random) -> Vec<Survey> {
+    let mut files = vec![];
+    for axes in 1..=3 {
+        for shape in SHAPES {
+            let mut s = random_survey(random, axes, shape, false);
+            let rows = s.sources.len() / axes;
+            s.targets.clear();
+            for _ in 0..random.index(40) {
+                let at = random.index(rows) * axes;
+                s.targets.extend_from_slice(&s.sources[at..at + axes]);
+            }
+            if random.once_in(3) {
+                let any = shapes::points(random, &s, Shape::Uniform, 1);
+                s.targets.extend(any);
+            }
+            files.push(s);
+        }
+    }
+    files
 }
 
 /// Targets that split cells: with no source near, with even sources around, beside a cluster; and at each count's edge.
@@ -159,7 +229,7 @@ fn refined(random: &mut Random) -> Vec<Survey> {
 
 /// Half of the sources and targets at a time are left out until the listing is short.
 fn thinned(mut s: Survey) -> Survey {
-    while answers::listing(&s.bytes()).len() > LONGEST_LISTING {
+    while answers::length(&s) > LONGEST_LISTING {
         for points in [&mut s.sources, &mut s.targets] {
             points.truncate(points.len() / s.axes / 2 * s.axes);
         }
@@ -243,6 +313,8 @@ pub fn of_listing() -> Vec<Vec<u8>> {
     surveys.extend(at_zero());
     surveys.extend(refused_by_build());
     surveys.extend(unused_targets());
+    surveys.extend(near_targets());
+    surveys.extend(near_at_random(&mut Random::of(SEED, "near", 0)));
     surveys.extend(refined(&mut Random::of(SEED, "refined", 0)));
     surveys.extend(random_surveys(&mut Random::of(SEED, "listing", 0)));
     surveys.extend(rooms(&mut Random::of(SEED, "rooms", 0)));

@@ -40,13 +40,20 @@ impl Tree {
         self.keys.iter().map(|&key| self.v_row(key).len()).sum()
     }
 
-    /// The sum over leaves of own sources times sources in the U row.
-    pub fn near_work(&self) -> usize {
-        let in_row = |key| -> usize { self.u_row(key).iter().map(|&near| self.own(near)).sum() };
-        self.keys
-            .iter()
-            .map(|&key| self.own(key) * in_row(key))
-            .sum()
+    /// The leaf of each source, leaf by leaf.
+    pub fn leaves_of_sources(&self) -> Vec<u64> {
+        let leaves = self.keys.iter();
+        let again = |&key: &u64| vec![key; self.own(key)];
+        leaves.flat_map(again).collect()
+    }
+
+    /// The sum over the leaves of all targets, one for each, of the sources in the U row.
+    pub fn near_work(&self, leaves: &[u64]) -> usize {
+        let in_row = |&key: &u64| -> usize {
+            let row = self.u_row(key).iter();
+            row.map(|&near| self.own(near)).sum()
+        };
+        leaves.iter().map(in_row).sum()
     }
 }
 
@@ -189,4 +196,13 @@ pub fn lookup(s: &Survey, tree: &Tree) -> Result<(Vec<u64>, u64), Refused> {
     let keys = keys_of(s, tree, &s.targets).expect("no point fails");
     let steps = keys.iter().map(|key| tree.depth - key % 32768).sum();
     Ok((keys, steps))
+}
+
+/// Near work of the targets, which are looked up whatever the flags; where there are none the sources serve as targets.
+pub fn near_work(s: &Survey, tree: &Tree) -> Result<usize, Refused> {
+    if s.targets.is_empty() {
+        return Ok(tree.near_work(&tree.leaves_of_sources()));
+    }
+    let (leaves, _) = lookup(s, tree)?;
+    Ok(tree.near_work(&leaves))
 }
