@@ -6,6 +6,7 @@ mod face;
 mod inputs;
 mod keys;
 mod limits;
+mod near_work;
 mod oracle;
 mod points;
 mod random;
@@ -75,7 +76,7 @@ const KINDS: &[Kind] = &[
     ("sourced", 2_000, trees::sourced),
     ("lists", 20_000, trees::lists),
     ("lists-odd", 30_000, trees::odd_lists),
-    ("near-work", 3_000, trees::near_work),
+    ("near-work", 3_000, near_work::near_work),
     ("well-formed", 20_000, refusals::trees_handed_in),
     ("refusals", 4_000, refusals::tree_calls),
     ("large", 1, refusals::large),

@@ -1,6 +1,7 @@
 //! Damaged trees and short slices: the refusal and the end content of every lent slice, against document 01.
 use crate::inputs;
 use crate::keys::refused;
+use crate::near_work::{self, Known};
 use crate::oracle::{self, level, rank, valid};
 use crate::random::Random;
 use crate::renumbered;
@@ -266,38 +267,16 @@ pub fn tree_calls(t: &mut Tally, r: &mut Random, _case: u64) {
     }
 
     // near work, lookup and grouping
-    near_work_call(t, r, &built, &tree, formed);
+    let known = Known {
+        s: &s,
+        lists: &built,
+        u: &built.u_lists,
+        depth,
+        tree: &tree,
+    };
+    near_work::refusals(t, r, &known, good);
     lookup_call(t, r, &s, &built, depth, &tree, good);
     grouping_call(t, r, &built, &tree, formed);
-}
-
-/// Near work, which leaves the U list in its slices.
-fn near_work_call(
-    t: &mut Tally,
-    r: &mut Random,
-    built: &ferreus_bbfmm::bbfmm::TreeLists,
-    tree: &Tree,
-    formed: Result<(), Refusal>,
-) {
-    let u = trees::flat(tree, &built.u_lists);
-    let mut starts = lent_slice(r, u.starts.len(), usize::MAX);
-    let mut keys = lent_slice(r, u.keys.len(), u64::MAX);
-    let right = formed
-        .and(asked(u.starts.len() <= starts.len(), (8, 4)))
-        .and(asked(u.keys.len() <= keys.len(), (8, 6)))
-        .map(|_| trees::near_work_of(tree, &built.u_lists));
-    let n = |k: usize| if right.is_ok() { k } else { 0 };
-    let after = (
-        left(starts.len(), &u.starts[..n(u.starts.len())]),
-        left(keys.len(), &u.keys[..n(u.keys.len())]),
-    );
-    let ours = lent::get_near_work(tree.columns(), &mut starts, &mut keys);
-    let input = || format!("{tree:?}");
-    if right.is_err() {
-        t.refusal();
-    }
-    t.same("near work", ours, right, input);
-    t.same("near work's slices", (starts, keys), after, input);
 }
 
 /// The checks 1, 2, 3, 4, 13, 8, and then the points.
@@ -436,13 +415,23 @@ pub fn large(t: &mut Tally, r: &mut Random, _case: u64) {
         short,
     );
     trees::compare_lists(t, &tree, &built.u_lists, &built.v_lists, short);
-    trees::compare_near_work(t, &tree, &built.u_lists, short);
+    near_work::compare_of_sources(t, &tree, &built.u_lists, short);
+    let work = near_work::of_sources(&tree, &built.u_lists);
+    let by_targets = tree.get_near_work(&s.sources);
+    t.same(
+        "near work of the sources as targets",
+        by_targets,
+        Ok(work),
+        short,
+    );
     if !t.short() {
         let mut one_more = s.sources.clone();
         one_more.extend_from_slice(&s.bounds.centre);
         t.refusal();
         let ours = tree.points_to_keys(&one_more).map(|_| ());
         t.same("lookup", ours, refused(4, 0), short);
+        let ours = tree.get_near_work(&one_more);
+        t.same("near work", ours, refused(4, 0), short);
         let keys = vec![tree.key[tree.key.len() - 1]; 1_048_577];
         let ours = tree.get_points_to_leaves_map(&keys).map(|_| ());
         t.same("grouping", ours, refused(4, 0), short);

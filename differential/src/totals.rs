@@ -30,7 +30,7 @@ pub fn calls(tree: &Tree) -> [Result<(), Refusal>; 6] {
         tree.points_to_keys(centre).map(|_| ()),
         tree.get_points_to_leaves_map(&[]).map(|_| ()),
         tree.get_sourced_cells().map(|_| ()),
-        tree.get_near_work().map(|_| ()),
+        tree.get_near_work(&[]).map(|_| ()),
         tree.get_interaction_lists().map(|_| ()),
     ]
 }

@@ -1,4 +1,4 @@
-//! Trees that the Rust built: lookup, grouping, sourced cells, U and V, near work; and trees that nobody built.
+//! Trees that the Rust built: lookup, grouping, sourced cells, U and V; and trees that nobody built.
 use crate::face;
 use crate::inputs;
 use crate::keys::refused;
@@ -263,25 +263,6 @@ pub fn compare_lists(
     t.same("V", ours_v, Ok(flat(tree, v)), &input);
 }
 
-/// Near work, the sum over the Rust's U.
-pub fn near_work_of(tree: &Tree, u: &HashMap<u64, Vec<u64>>) -> u64 {
-    let columns = tree.key.iter().copied().zip(tree.own.iter().copied());
-    let own: HashMap<u64, usize> = columns.collect();
-    let in_row = |row: &Vec<u64>| row.iter().map(|k| own[k]).sum::<usize>();
-    let work: usize = u.iter().map(|(leaf, row)| own[leaf] * in_row(row)).sum();
-    work as u64
-}
-
-pub fn compare_near_work(
-    t: &mut Tally,
-    tree: &Tree,
-    u: &HashMap<u64, Vec<u64>>,
-    input: impl Fn() -> String,
-) {
-    let near = near_work_of(tree, u);
-    t.same("near work", tree.get_near_work(), Ok(near), input);
-}
-
 pub fn lists(t: &mut Tally, r: &mut Random, _case: u64) {
     let s = inputs::survey(r, 500);
     let (lists, _) = oracle::build(&s);
@@ -387,20 +368,4 @@ pub fn odd_lists(t: &mut Tally, r: &mut Random, _case: u64) {
         Ok(right.cells),
         input,
     );
-}
-
-/// Near work on trees that the Rust built, and on others.
-pub fn near_work(t: &mut Tally, r: &mut Random, case: u64) {
-    if case % 2 == 0 {
-        let s = inputs::survey(r, 500);
-        let (lists, _) = oracle::build(&s);
-        let tree = oracle::columns(&s.bounds, &lists);
-        compare_near_work(t, &tree, &lists.u_lists, || show(&s));
-    } else {
-        let given = odd_tree(r, 400);
-        let axes = axes_of(&given);
-        let tree = oracle::columns(&oracle::any_box(axes), &given);
-        let right = rust_rows(&given, axes);
-        compare_near_work(t, &tree, &right.u, || format!("{tree:?}"));
-    }
 }

@@ -72,7 +72,7 @@ fn calls(tree: &Tree) -> [Result<(), Refusal>; 3] {
     [
         tree.get_interaction_lists().map(|_| ()),
         tree.get_sourced_cells().map(|_| ()),
-        tree.get_near_work().map(|_| ()),
+        tree.get_near_work(&[]).map(|_| ()),
     ]
 }
 

@@ -2,8 +2,9 @@
 //! many others, so the trees are made by hand, and tuned to the key by leaves that add one key each.
 use super::Rows;
 use super::handed_in::{rows_by_rust, tree_of};
+use crate::near_work::compare_of_sources;
 use crate::oracle::{any_box, dimensions};
-use crate::trees::{compare_lists, compare_near_work};
+use crate::trees::compare_lists;
 use ferreus_bbfmm::morton;
 use lohandema::Refusal;
 use lohandema::lent;
@@ -99,13 +100,6 @@ fn counted(tree: &Tree) -> (Result<(usize, usize), Refusal>, bool) {
     (ours, all)
 }
 
-fn near_work(tree: &Tree) -> (Result<(), Refusal>, bool) {
-    let (mut starts, mut keys) = (vec![7; tree.key.len() + 1], vec![7; MOST + 1]);
-    let ours = lent::get_near_work(tree.columns(), &mut starts, &mut keys);
-    let all = starts.iter().all(|x| *x == 0) && keys.iter().all(|x| *x == 0);
-    (ours.map(|_| ()), all)
-}
-
 /// How many keys the Rust's lists have.
 fn by_rust(tree: &Tree) -> (usize, usize) {
     let theirs = rows_by_rust(tree);
@@ -121,7 +115,7 @@ fn full(rows: &mut Rows, row: &str, tree: &Tree, keys: (usize, usize)) {
         let theirs = rows_by_rust(tree);
         let input = || format!("{row} at the cap");
         compare_lists(rows.t, tree, &theirs.u, &theirs.v, input);
-        compare_near_work(rows.t, tree, &theirs.u, input);
+        compare_of_sources(rows.t, tree, &theirs.u, input);
     }
 }
 
@@ -144,9 +138,9 @@ pub fn run(rows: &mut Rows) {
     let more = Shape { near: 5, ..U_FULL };
     let tree = more.tree();
     over(rows, "T32", &tree, 6, (MOST + 1, v_of_u));
-    let (ours, all) = near_work(&tree);
-    rows.refused_here("T32", "near work", ours, (8, 6));
-    rows.answered("T32", "near work's slices 0", (all, true), ((), ()));
+    // near work needs no list
+    let ours = tree.get_near_work(&[]).map(|_| ());
+    rows.answered("T32", "near work", (ours, Ok(())), ((), ()));
     full(rows, "T33", &V_FULL.tree(), (u_of_v, MOST));
     let more = Shape { far: 29, ..V_FULL };
     over(rows, "T33", &more.tree(), 7, (u_of_v, MOST + 1));
