@@ -4,6 +4,7 @@ mod clock;
 mod coding;
 mod customer;
 mod growth;
+mod near;
 mod plain;
 mod plain_build;
 mod report;
@@ -64,6 +65,7 @@ fn main() {
         }
         others(&words, &report);
     }
+    near::measure(&words, &report);
     if words.limit.is_none() {
         worst::measure(&words, &report);
     }

@@ -1,13 +1,15 @@
 //! What is printed: a line for each time and each ratio, and in the end the ratios that are over what is to be reached.
 use std::cell::RefCell;
 
-/// The most that a ratio is to be: of the lists beside the fastest plain reading, of growth beside `kept`, else beside the Rust.
+/// The most that a ratio is to be: of the lists beside the fastest plain reading, of growth beside `kept`, of near work beside
+/// the lists and the lookup, else beside the Rust.
 fn to_reach(call: &str) -> f64 {
     match call {
         "lists" => 0.45,
         "growth" => 1.1,
         "build" => 0.08,
         "lookup" => 0.35,
+        "near_work" => 1.0,
         _ => panic!("{call}"),
     }
 }

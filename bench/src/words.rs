@@ -3,7 +3,15 @@ use std::env;
 use std::process::exit;
 use std::slice;
 
-const CALLS: [&str; 6] = ["build", "lookup", "lists", "coding", "growth", "clearing"];
+const CALLS: [&str; 7] = [
+    "build",
+    "lookup",
+    "lists",
+    "near_work",
+    "coding",
+    "growth",
+    "clearing",
+];
 
 pub struct Words {
     /// Fewer runs.

@@ -119,7 +119,7 @@ fn chains() -> Vec<f64> {
 }
 
 /// One source in its own half of the box along each axis, and 59,999 in the opposite corner cell, which the first's touches.
-fn coarse_leaf() -> Vec<f64> {
+pub fn coarse_leaf() -> Vec<f64> {
     let mut r = Random::new();
     let others = (0..3 * 59_999).map(|_| 0.5 + 999.0 * r.unit());
     [-500.0; 3].into_iter().chain(others).collect()
