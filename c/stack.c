@@ -40,8 +40,8 @@ static void build_tree(void)
 
 static void build_tree_on_grid(void)
 {
-    const double origin[3] = {0.0, 0.0, 0.0}, spacing[3] = {0.5, 0.5, 0.5};
-    const size_t shape[3] = {64, 64, 64};
+    const double origin[3] = {0.0, 0.0, 0.0}, spacing[3] = {1.0, 1.0, 1.0};
+    const size_t shape[3] = {4, 4, 4};
     uint64_t depth;
     last = lohandema_build_tree_on_grid(BOX, sources, axes * points, origin, spacing, shape, limit, 1, true, true, work,
                                         2 * POINTS, order, points, key, NODES, own, NODES, begin, NODES, total, NODES,
@@ -238,8 +238,8 @@ static struct {
     size_t said, seen;
 } calls[] = {
     {"(nothing, for comparison)", nothing, 8 * KIB, 0},
-    {"build_tree_on_grid", build_tree_on_grid, 32 * KIB, 0},
-    {"build_tree", build_tree, 32 * KIB, 0},
+    {"build_tree_on_grid", build_tree_on_grid, 48 * KIB, 0},
+    {"build_tree", build_tree, 48 * KIB, 0},
     {"is_well_formed", is_well_formed, 8 * KIB, 0},
     {"depth_of", depth_of, 8 * KIB, 0},
     {"leaf_sources", leaf_sources, 8 * KIB, 0},

@@ -26,7 +26,8 @@
  * systems, and fails below it: pass the larger of the two.
  *   points_to_keys, get_interaction_lists, get_near_work                                    128 KiB
  *   sum_check, lists_right                                                                   96 KiB
- *   build_tree, build_tree_on_grid, get_sourced_cells, is_arrangement                        32 KiB
+ *   build_tree, build_tree_on_grid                                                           48 KiB
+ *   get_sourced_cells, is_arrangement                                                        32 KiB
  *   every other call                                                                          8 KiB
  */
 #ifndef LOHANDEMA_H

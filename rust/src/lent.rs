@@ -518,6 +518,7 @@ pub fn build_tree(
 /// [`DIMS`](Refusal::DIMS); [`BOX`](Refusal::BOX); [`GRID`](Refusal::GRID); [`SHAPE`](Refusal::SHAPE);
 /// [`COUNT`](Refusal::COUNT), sources before the grid's points; [`ORDER`](Refusal::ORDER); [`SOURCE`](Refusal::SOURCE);
 /// [`POINT`](Refusal::POINT) with the row of a grid's point; [`ROOM`](Refusal::ROOM) 1 to 3.
+#[allow(clippy::too_many_arguments)] // the slices of `build_tree`, and the grid
 pub fn build_tree_on_grid(
     asked: Asked<'_>,
     grid: &Grid,

@@ -77,7 +77,11 @@ fn grids_split_as_their_listed_points() {
 
 #[test]
 fn a_million_points() {
-    for (axes, shape) in [(1, [1_048_576, 1, 1]), (2, [1024, 1024, 1]), (3, [64, 128, 128])] {
+    for (axes, shape) in [
+        (1, [1_048_576, 1, 1]),
+        (2, [1024, 1024, 1]),
+        (3, [64, 128, 128]),
+    ] {
         let bounds = Bounds::new(&[4.0, 4.0, 4.0][..axes], 4.0);
         let mut numbers = Numbers(2_463_534_242);
         let sources: Vec<f64> = (0..2000 * axes).map(|_| 8.0 * numbers.unit()).collect();
@@ -121,6 +125,11 @@ fn refusals() {
     let refusal = Tree::build_on_grid(asked, &grid).unwrap_err();
     assert_eq!((refusal.number, refusal.value), (Refusal::POINT, 8));
     let broken = Asked::new(&bounds, &[1.0], 1).refined(&[], 1);
-    assert_eq!(Tree::build_on_grid(broken, &empty).unwrap_err().number, Refusal::GRID);
-    assert!(Tree::build_on_grid(Asked::new(&bounds, &[1.0, 1.0], 1).keeping_empty(), &empty).is_ok());
+    assert_eq!(
+        Tree::build_on_grid(broken, &empty).unwrap_err().number,
+        Refusal::GRID
+    );
+    assert!(
+        Tree::build_on_grid(Asked::new(&bounds, &[1.0, 1.0], 1).keeping_empty(), &empty).is_ok()
+    );
 }
