@@ -3,6 +3,7 @@
 mod clock;
 mod coding;
 mod customer;
+mod grids;
 mod growth;
 mod near;
 mod plain;
@@ -64,6 +65,9 @@ fn main() {
             surveys(&words, &report);
         }
         others(&words, &report);
+        if words.wants("build") && words.limit.is_none() {
+            grids::measure(&report, words.runs());
+        }
     }
     near::measure(&words, &report);
     if words.limit.is_none() {
