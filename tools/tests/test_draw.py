@@ -52,6 +52,27 @@ class Draw(ToolTest):
         self.cell_picture("three-lines", 98305)
         self.assertEqual(self.read("picture"), self.read("three-lines-cell.svg"))
 
+    def test_sums(self):
+        """Near and far of the example's leaf, of every leaf of each sample, and readings that are refused."""
+        self.write("readings", "1\n2\n3\n4\n")
+        told = self.done("draw", "example.survey", "example.listing", "-o", "out", "--leaf", "5", "--check", "readings")
+        self.assertEqual(told, "draw: leaf 5: near 3 and far 7 are together 10, all readings 10; additions: 3\n")
+        for name in PICTURES:
+            count = len(house.read_survey(self.path(name + ".survey")).sources)
+            readings = [(-1) ** i * (2 ** 40 - i) for i in range(count)]
+            self.write("readings", "".join("%d\n" % reading for reading in readings))
+            told = self.done("draw", name + ".survey", name + ".listing", "-o", "out", "--check", "readings")
+            self.assertEqual(told, "draw: for every leaf near and far together are %d, the sum of all readings\n" % sum(readings))
+
+    def test_sums_refused(self):
+        for text, message in (("1\n2\n3\n", "readings has 3 readings, and the survey 4 sources"),
+                              ("1\n2.5\n3\n4\n", "readings, line 2: '2.5' is no whole number"),
+                              ("1\n2\n\n3\n4\n", "readings, line 3: '' is no whole number"),
+                              ("", "readings has 0 readings"),
+                              ("1\n2\n3\n-1099511627777\n", "readings, line 4: -1099511627777 is over 1099511627776 (2^40) in size")):
+            self.write("readings", text)
+            self.refused(message, "draw", "example.survey", "example.listing", "-o", "out", "--check", "readings")
+
     def test_rows_of_every_leaf(self):
         """One and two axes: exactly the cells of the leaf's rows are coloured, and all readings are marked by them."""
         views = {1: lambda survey: Rows(survey, 3), 2: lambda survey: Plan(survey, [0, 1])}
