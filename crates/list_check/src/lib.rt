@@ -153,7 +153,8 @@ fn node_sources(
     node: usize,
     above: usize,
 ) -> Found
-    requires { ⌜ Counted axes (now key) (now own) (now total) × Table axes (now key) (now nodes) (now spots) × Started (now key) (now «u_starts») (now «u_keys») (now «v_starts») (now «v_keys») ⌝ }
+    requires { ⌜ Counted axes (now key) (now own) (now total) × Table axes (now key) (now nodes) (now spots) × Started (now key) (now «u_starts») (now «u_keys»)
+        (now «v_starts») (now «v_keys») ⌝ }
     requires { ⌜ Below (now key) node × (above ≤ tooMany) ⌝ }
     ensures says { λ r. ⌜ NodeSays axes (now (key .entry)) (now (own .entry)) (now (total .entry)) (now («u_starts» .entry)) (now («u_keys» .entry))
         (now («v_starts» .entry)) (now («v_keys» .entry)) node above r ⌝ }
@@ -257,7 +258,8 @@ pub fn are_lists(
     v_keys: &[u64],
 ) -> bool
     requires { ⌜ Counted axes (now key) (now own) (now total) ⌝ }
-    ensures { λ r. ⌜ r ≡ listsAre axes (now (key .entry)) (now (own .entry)) (now («u_starts» .entry)) (now («u_keys» .entry)) (now («v_starts» .entry)) (now («v_keys» .entry)) ⌝ }
+    ensures { λ r. ⌜ r ≡ listsAre axes (now (key .entry)) (now (own .entry)) (now («u_starts» .entry)) (now («u_keys» .entry)) (now («v_starts» .entry))
+        (now («v_keys» .entry)) ⌝ }
 {
     if !starts_right(key, u_starts, u_keys) {
         return false;

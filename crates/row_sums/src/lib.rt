@@ -60,8 +60,10 @@ pub fn row_sum(
     readings: &[i64],
     row: &[u64],
 ) -> i64
-    requires { ⌜ Columns axes (now key) (now count) (now begin) (now indices) × Read (now indices) (now readings) × (sourcesIn (now key) (now count) (now row) ≤ mostSources) ⌝ }
-    ensures sum { λ r. ⌜ r ≡ addedℤ (nodeReadings (now (key .entry)) (now (count .entry)) (now (begin .entry)) (now (indices .entry)) (now (readings .entry))) (now (row .entry)) ⌝ }
+    requires { ⌜ Columns axes (now key) (now count) (now begin) (now indices) × Read (now indices) (now readings) × (sourcesIn (now key) (now count)
+        (now row) ≤ mostSources) ⌝ }
+    ensures sum { λ r. ⌜ r ≡ addedℤ (nodeReadings (now (key .entry)) (now (count .entry)) (now (begin .entry)) (now (indices .entry)) (now (readings .entry)))
+        (now (row .entry)) ⌝ }
     ensures bounded { λ r. ⌜ natAbs r ≤ sourcesIn (now (key .entry)) (now (count .entry)) (now (row .entry)) * largest ⌝ }
 {
     let mut sum: i64 = 0;
@@ -121,7 +123,8 @@ pub fn far_sum(
     node: usize,
 ) -> Far
     requires { ⌜ Climb axes (now key) (now total) (now begin) (now indices) (now readings) (now starts) (now flat) node ⌝ }
-    ensures sum { λ r. ⌜ r .sum ≡ farReadings axes (now (key .entry)) (now (total .entry)) (now (begin .entry)) (now (indices .entry)) (now (readings .entry)) (now (starts .entry)) (now (flat .entry)) (getD (now (key .entry)) node 0) ⌝ }
+    ensures sum { λ r. ⌜ r .sum ≡ farReadings axes (now (key .entry)) (now (total .entry)) (now (begin .entry)) (now (indices .entry)) (now (readings .entry))
+        (now (starts .entry)) (now (flat .entry)) (getD (now (key .entry)) node 0) ⌝ }
     ensures cells { λ r. ⌜ r .cells ≡ farCells axes (now (key .entry)) (now (starts .entry)) (now (flat .entry)) (getD (now (key .entry)) node 0) ⌝ }
     ensures bounded { λ r. ⌜ natAbs (r .sum) ≤ mostSources * largest ⌝ }
 {

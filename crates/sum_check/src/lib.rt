@@ -89,7 +89,8 @@ fn is_built(
     v_keys: &[u64],
 ) -> bool
     requires { ⌜ treeCheck axes (columns (now key) (now own) (now begin) (now total)) ≡ Done ⌝ }
-    ensures { λ r. ⌜ r ≡ isBuilt axes (columns (now (key .entry)) (now (own .entry)) (now (begin .entry)) (now (total .entry))) (now (indices .entry)) (now («u_starts» .entry)) (now («u_keys» .entry)) (now («v_starts» .entry)) (now («v_keys» .entry)) ⌝ }
+    ensures { λ r. ⌜ r ≡ isBuilt axes (columns (now (key .entry)) (now (own .entry)) (now (begin .entry)) (now (total .entry))) (now (indices .entry))
+        (now («u_starts» .entry)) (now («u_keys» .entry)) (now («v_starts» .entry)) (now («v_keys» .entry)) ⌝ }
 {
     if !list_check::are_lists(axes, key, own, total, u_starts, u_keys, v_starts, v_keys) {
         return false;
@@ -112,7 +113,8 @@ fn sum_outcome(
     v_keys: &[u64],
     node: usize,
 ) -> Outcome
-    ensures { λ r. ⌜ r ≡ sumCheck axes (columns (now (key .entry)) (now (own .entry)) (now (begin .entry)) (now (total .entry))) (now (indices .entry)) (now (readings .entry)) (now («u_starts» .entry)) (now («u_keys» .entry)) (now («v_starts» .entry)) (now («v_keys» .entry)) node ⌝ }
+    ensures { λ r. ⌜ r ≡ sumCheck axes (columns (now (key .entry)) (now (own .entry)) (now (begin .entry)) (now (total .entry))) (now (indices .entry))
+        (now (readings .entry)) (now («u_starts» .entry)) (now («u_keys» .entry)) (now («v_starts» .entry)) (now («v_keys» .entry)) node ⌝ }
 {
     let checked = readings_outcome(axes, key, own, begin, total, readings);
     if let Outcome::Refused(refusal) = checked {
@@ -153,8 +155,10 @@ fn leaf_sums(
     v_keys: &[u64],
     node: usize,
 ) -> SumAnswer
-    requires { ⌜ sumCheck axes (columns (now key) (now own) (now begin) (now total)) (now indices) (now readings) (now «u_starts») (now «u_keys») (now «v_starts») (now «v_keys») node ≡ Done ⌝ }
-    ensures { λ r. ⌜ r ≡ sumAnswer axes (columns (now (key .entry)) (now (own .entry)) (now (begin .entry)) (now (total .entry))) (now (indices .entry)) (now (readings .entry)) node (now («u_starts» .entry)) (now («u_keys» .entry)) (now («v_starts» .entry)) (now («v_keys» .entry)) ⌝ }
+    requires { ⌜ sumCheck axes (columns (now key) (now own) (now begin) (now total)) (now indices) (now readings) (now «u_starts») (now «u_keys»)
+        (now «v_starts») (now «v_keys») node ≡ Done ⌝ }
+    ensures { λ r. ⌜ r ≡ sumAnswer axes (columns (now (key .entry)) (now (own .entry)) (now (begin .entry)) (now (total .entry))) (now (indices .entry))
+        (now (readings .entry)) node (now («u_starts» .entry)) (now («u_keys» .entry)) (now («v_starts» .entry)) (now («v_keys» .entry)) ⌝ }
 {
     let from = u_starts[node];
     let to = u_starts[node + 1];
@@ -189,7 +193,8 @@ pub fn sum_check(
     v_keys: &[u64],
     node: usize,
 ) -> SumAnswer
-    ensures answer { λ r. ⌜ r ≡ sumAnswer axes (columns (now (key .entry)) (now (own .entry)) (now (begin .entry)) (now (total .entry))) (now (indices .entry)) (now (readings .entry)) node (now («u_starts» .entry)) (now («u_keys» .entry)) (now («v_starts» .entry)) (now («v_keys» .entry)) ⌝ }
+    ensures answer { λ r. ⌜ r ≡ sumAnswer axes (columns (now (key .entry)) (now (own .entry)) (now (begin .entry)) (now (total .entry))) (now (indices .entry))
+        (now (readings .entry)) node (now («u_starts» .entry)) (now («u_keys» .entry)) (now («v_starts» .entry)) (now («v_keys» .entry)) ⌝ }
     ensures together { λ r. ⌜ Together (now (readings .entry)) r ⌝ }
 {
     let checked = sum_outcome(
