@@ -119,7 +119,7 @@ module _ (d : ℕ) (keys own : List ℕ) (t : SoundTree d keys own) where
   )
 
   -- an owner is a sourced leaf, and the other way round
-  u-owner : (b x : ℕ) → Mem x keys → inU d keys own b x ≡ (owns x && close d b x)
+  pub u-owner : (b x : ℕ) → Mem x keys → inU d keys own b x ≡ (owns x && close d b x)
   unfolding inU
   u-owner b x m = same-test (inU d keys own b x) (owns x && close d b x)
       (λ h. both (sym (sourced-leaf d keys own (t .begin) (well d keys own t) x (and-l (leaf d keys x) _ h) m) ∙ and-l (sourced d keys own x) _ (and-r (leaf d keys x) _ h))
@@ -232,7 +232,7 @@ module _ (d : ℕ) (keys own : List ℕ) (t : SoundTree d keys own) where
   -- ---- a cell q with the parent p
   module _ (p q : ℕ) (v : ValidKey d q) (deep : 0 < levelOf q) (up : parent d q ≡ p) where
     -- the owners of q's level and above are those kept for p, or near q
-    kept-split : (x : ℕ) → Mem x keys → bit (owner d keys own q (suc (levelOf q)) x) ≡ bit (owner d keys own p (suc (levelOf p)) x) + bit (nearTo d keys own q x && owns x)
+    pub kept-split : (x : ℕ) → Mem x keys → bit (owner d keys own q (suc (levelOf q)) x) ≡ bit (owner d keys own p (suc (levelOf p)) x) + bit (nearTo d keys own q x && owns x)
     kept-split x m =
         level-split q (levelOf q) (omega arith) x m
         ∙ ap₂ (λ a b. bit a + bit (nearTo d keys own b x && owns x)) (go (decLt (levelOf x) (levelOf q))) (at-self d q)

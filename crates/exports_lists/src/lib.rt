@@ -1,13 +1,16 @@
 // The list call and near work for C.
 use exports_keys::Ended;
 use interaction::ListsAnswer;
+use near_work::WorkAnswer;
 use refusal::Outcome;
 ghost use mathlib.Core.Path.{_≡_};
 ghost use lib.ListN.{length};
 ghost use Rattle.tree.specs.Columns.{columns};
 ghost use Rattle.interaction.specs.Answers.{listsAnswer, uStartsLeft, uKeysLeft, vStartsLeft, vKeysLeft};
+ghost use Rattle.near_work.specs.Answers.{workAnswer, countsLeft};
+ghost use Rattle.exports_points.specs.Boxes.{boxAt};
 ghost use Rattle.exports_keys.specs.Told.{told};
-ghost use Rattle.exports_lists.specs.Told.{listsEnd, uIn, vIn};
+ghost use Rattle.exports_lists.specs.Told.{listsEnd, uIn, vIn, workEnd, workIn};
 
 // Tells how many keys the two lists have.
 fn tell_lists(answer: ListsAnswer, u: &mut usize, v: &mut usize) -> Ended
@@ -70,4 +73,39 @@ pub extern "C" fn lohandema_get_interaction_lists(
         v_keys,
     );
     tell_lists(answer, u, v)
+}
+
+// Near work of a tree with targets, or with its sources as targets where there are none; the counts are left as the targets of each node.
+#[no_mangle]
+pub extern "C" fn lohandema_get_near_work(
+    centre: &[f64; 3],
+    radius: f64,
+    axes: usize,
+    key: &[u64],
+    own: &[usize],
+    begin: &[usize],
+    total: &[usize],
+    targets: &[f64],
+    counts: &mut [usize],
+    work: &mut u64,
+) -> Ended
+    ensures ended { λ r. ⌜ r ≡ told (workEnd (workAnswer (boxAt (now (centre .entry)) radius axes) (columns (now (key .entry)) (now (own .entry)) (now (begin .entry)) (now (total .entry)))
+        (now (targets .entry)) (length (now (counts .entry))))) ⌝ }
+    ensures counts { λ _. ⌜ now (counts .exit) ≡ countsLeft (boxAt (now (centre .entry)) radius axes) (columns (now (key .entry)) (now (own .entry)) (now (begin .entry)) (now (total .entry)))
+        (now (targets .entry)) (length (now (counts .entry))) ⌝ }
+    ensures work { λ _. ⌜ now (work .exit) ≡ workIn (workAnswer (boxAt (now (centre .entry)) radius axes) (columns (now (key .entry)) (now (own .entry)) (now (begin .entry)) (now (total .entry)))
+        (now (targets .entry)) (length (now (counts .entry)))) ⌝ }
+{
+    let b = exports_points::box_at(centre, radius, axes);
+    let answer = near_work::get_near_work(b, key, own, begin, total, targets, counts);
+    match answer {
+        WorkAnswer::Work(sum) => {
+            *work = sum;
+            exports_keys::end_of(Outcome::Done)
+        }
+        WorkAnswer::Refused(refusal) => {
+            *work = 0;
+            exports_keys::end_of(Outcome::Refused(refusal))
+        }
+    }
 }

@@ -84,8 +84,8 @@ module _ (g : Rule) (s t : List ℕ) (known : axesKnown (g .axes) ≡ true) wher
   pub same-cells : sourcedCells (g .axes) keys own ≡ sourcedCells (g .axes) (nodesByLevel g s t) oldOwn
   same-cells = same-sourced-cells (g .axes) keys own (nodesByLevel g s t) oldOwn same-tree
 
-  pub same-work : nearWork (g .axes) keys own ≡ nearWork (g .axes) (nodesByLevel g s t) oldOwn
-  same-work = same-near-work (g .axes) keys own (nodesByLevel g s t) oldOwn same-tree
+  pub same-work : (weigh : ℕ → ℕ) → nearWork (g .axes) keys own weigh ≡ nearWork (g .axes) (nodesByLevel g s t) oldOwn weigh
+  same-work weigh = same-near-work (g .axes) keys own (nodesByLevel g s t) oldOwn same-tree weigh weigh (λ b. refl)
 
 -- ---- the columns are renumberings of each other: entry i of each stands in the column by level at its old number, and each number is one node's
 

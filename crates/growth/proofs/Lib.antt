@@ -20,3 +20,4 @@ pub mod Meets
 pub mod SameRows
 pub mod SameDepth
 pub mod BothOrders
+pub mod Worked

@@ -42,12 +42,13 @@ module _ (d : ℕ) (keys own keys′ own′ : List ℕ) (same : SameTree keys ow
   unfolding sourcedCells
   same-sourced-cells = row (sourced d keys own) (sourced d keys′ own′) (same-sourced d keys own keys′ own′ same)
 
-  pub same-near-work : nearWork d keys own ≡ nearWork d keys′ own′
+  -- with the same targets in each leaf
+  pub same-near-work : (weigh weigh′ : ℕ → ℕ) → ((b : ℕ) → weigh b ≡ weigh′ b) → nearWork d keys own weigh ≡ nearWork d keys′ own′ weigh′
   unfolding nearWork
-  same-near-work =
+  same-near-work weigh weigh′ e =
       ap₂ (λ (f : ℕ → ℕ) (p : ℕ → Bool). sum (map f (filter p keys))) (fun-ext term) (fun-ext same-leaf)
       ∙ perm-sum (filter (leaf d keys′) keys) (filter (leaf d keys′) keys′) (perm-filter keys keys′ (same .arranged) (leaf d keys′))
-      (λ b. ownOf keys′ own′ b * sum (map (ownOf keys′ own′) (uRow d keys′ own′ b)))
+      (λ b. weigh′ b * sum (map (ownOf keys′ own′) (uRow d keys′ own′ b)))
     where
-      term : (b : ℕ) → ownOf keys own b * sum (map (ownOf keys own) (uRow d keys own b)) ≡ ownOf keys′ own′ b * sum (map (ownOf keys′ own′) (uRow d keys′ own′ b))
-      term b = ap₂ (λ (f : ℕ → ℕ) (r : List ℕ). f b * sum (map f r)) (fun-ext (same .owned)) (same-u-row b)
+      term : (b : ℕ) → weigh b * sum (map (ownOf keys own) (uRow d keys own b)) ≡ weigh′ b * sum (map (ownOf keys′ own′) (uRow d keys′ own′ b))
+      term b = ap₂ (λ (n m : ℕ). n * m) (e b) (ap₂ (λ (f : ℕ → ℕ) (r : List ℕ). sum (map f r)) (fun-ext (same .owned)) (same-u-row b))

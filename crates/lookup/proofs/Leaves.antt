@@ -50,6 +50,10 @@ module _ (d : ℕ) (keys : List ℕ) (k : TreeKeys d keys) (code : ℕ) where
   level-is : levelOf (leafKey d keys code) ≡ leafLevel d keys code
   level-is = key-level (leafLevel d keys code) (above d (16 - leafLevel d keys code) code) (omega (arith, level-le-depth, depth-le d keys (tree-of d keys k)))
 
+  -- what holds the code is a leaf
+  pub held-leaf : held d keys code ≡ true → leaf d keys (leafKey d keys code) ≡ true
+  held-leaf h = climb-leaf d keys code (depthOf keys) (ltb-true 0 (leafLevel d keys code) h)
+
   -- the leaf that holds the code has a number
   numbered : held d keys code ≡ true → (leafNumber d keys code < length keys) × (getD keys (leafNumber d keys code) 0 ≡ leafKey d keys code)
   unfolding leaf
@@ -57,6 +61,24 @@ module _ (d : ℕ) (keys : List ℕ) (k : TreeKeys d keys) (code : ℕ) where
       let (i, li, e) = stored-mem keys (leafKey d keys code) (and-l _ _ (climb-leaf d keys code (depthOf keys) (ltb-true 0 (leafLevel d keys code) h))) in
       let n : leafNumber d keys code ≡ i = ap (nodeNumber keys) (sym e) ∙ place-is keys (distinct d keys (tree-of d keys k .ascending)) i li in
       (omega (arith, n), ap (λ j. getD keys j 0) n ∙ e)
+
+  -- what a search for the leaf found
+  module _ (r : Found) (q : r ≡ leafOf d keys code) where
+    pub found-leaf : (node : ℕ) → r ≡ At node → (held d keys code ≡ true) × (node < length keys) × (getD keys node 0 ≡ leafKey d keys code)
+    found-leaf node f = go (held d keys code) refl (sym q ∙ f)
+      where
+        go : (b : Bool) → held d keys code ≡ b → foundIf b (leafNumber d keys code) ≡ At node → (held d keys code ≡ true) × (node < length keys) × (getD keys node 0 ≡ leafKey d keys code)
+        go true h g =
+            let e : node ≡ leafNumber d keys code = cc in
+            (h, omega (arith, e, numbered h .0), ap (λ j. getD keys j 0) e ∙ numbered h .1)
+        go false h g = let z : _≡_ {A = ℕ} 0 1 = cc in absurd (omega arith)
+
+    pub found-none : r ≡ Nothing → held d keys code ≡ false
+    found-none f = go (held d keys code) refl (sym q ∙ f)
+      where
+        go : (b : Bool) → held d keys code ≡ b → foundIf b (leafNumber d keys code) ≡ Nothing → held d keys code ≡ false
+        go true h g = let z : _≡_ {A = ℕ} 0 1 = cc in absurd (omega arith)
+        go false h g = h
 
   -- with the leaf's level the steps make up the depth, and they are at most 15
   pub steps-to : held d keys code ≡ true → Steps keys (leafKey d keys code) (stepsTo d keys code)

@@ -1,2 +1,4 @@
-pub mod Sums
+pub mod Owned
 pub mod Columns
+pub mod Counts
+pub mod Checks

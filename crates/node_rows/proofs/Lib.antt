@@ -5,3 +5,4 @@ pub mod Roots
 pub mod Nodes
 pub mod Putting
 pub mod Ordered
+pub mod Marking

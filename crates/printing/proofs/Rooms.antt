@@ -76,7 +76,7 @@ module _ (s : Survey) (sources targets : List Float) (work order nodes : ℕ) (r
 
   pub built-refused : (x : Refusal) → r ≡ NotBuilt x → refusalLine x ≡ surveyTextIn work order nodes s sources targets
   built-refused x f =
-      sym (ap (λ (o : Outcome). textOr o (columnsText (s .b .axes) (columns (builtKeys a) (builtOwn a) (builtBegins a) (builtTotals a)) (s .sources))) (was-not o (builtKeys a) x (sym f ∙ e)))
+      sym (ap (λ (o : Outcome). textOr o (columnsText (s .b) (columns (builtKeys a) (builtOwn a) (builtBegins a) (builtTotals a)) targets (s .sources))) (was-not o (builtKeys a) x (sym f ∙ e)))
 
   module _ (n d : ℕ) (f : r ≡ Tree n d) where
     done : o ≡ Done
@@ -99,11 +99,11 @@ module _ (s : Survey) (sources targets : List Float) (work order nodes : ℕ) (r
 
     pub built-text : (key own begin total : List ℕ) (keys owns begins totals : ℕ)
         → key ≡ left o keys (builtKeys a) → own ≡ left o owns (builtOwn a) → begin ≡ left o begins (builtBegins a) → total ≡ left o totals (builtTotals a)
-        → columnsText (s .b .axes) (columns (take n key) (take n own) (take n begin) (take n total)) (s .sources) ≡ surveyTextIn work order nodes s sources targets
+        → columnsText (s .b) (columns (take n key) (take n own) (take n begin) (take n total)) targets (s .sources) ≡ surveyTextIn work order nodes s sources targets
     built-text key own begin total keys owns begins totals g h i j =
-        ap₂ (λ (k w : List ℕ). columnsText (s .b .axes) (columns k w (take n begin) (take n total)) (s .sources)) (column-front o key (builtKeys a) n keys g done count) (column-front o own (builtOwn a) n owns h done (count ∙ sym (own-length a)))
-        ∙ ap₂ (λ (b t : List ℕ). columnsText (s .b .axes) (columns (builtKeys a) (builtOwn a) b t) (s .sources)) (column-front o begin (builtBegins a) n begins i done (count ∙ sym (begin-length a))) (column-front o total (builtTotals a) n totals j done (count ∙ sym (totals-length a)))
-        ∙ sym (ap (λ (o : Outcome). textOr o (columnsText (s .b .axes) (columns (builtKeys a) (builtOwn a) (builtBegins a) (builtTotals a)) (s .sources))) done)
+        ap₂ (λ (k w : List ℕ). columnsText (s .b) (columns k w (take n begin) (take n total)) targets (s .sources)) (column-front o key (builtKeys a) n keys g done count) (column-front o own (builtOwn a) n owns h done (count ∙ sym (own-length a)))
+        ∙ ap₂ (λ (b t : List ℕ). columnsText (s .b) (columns (builtKeys a) (builtOwn a) b t) targets (s .sources)) (column-front o begin (builtBegins a) n begins i done (count ∙ sym (begin-length a))) (column-front o total (builtTotals a) n totals j done (count ∙ sym (totals-length a)))
+        ∙ sym (ap (λ (o : Outcome). textOr o (columnsText (s .b) (columns (builtKeys a) (builtOwn a) (builtBegins a) (builtTotals a)) targets (s .sources))) done)
 
 -- ---- a file's answer
 

@@ -3,6 +3,7 @@ use mathlib.Core.Bool.{true}
 use mathlib.Core.List.{List}
 use Prim.Native.Nat.{ℕ}
 use lib.Ieee.{Float}
+use Rattle.space.specs.declared.Box.{Box}
 use Rattle.tree.specs.Columns.{Columns}
 use Rattle.build.specs.Asked.{Asked, asksFor, builtColumns}
 use Rattle.build.specs.Outcomes.{buildOutcome}
@@ -14,15 +15,15 @@ use Rattle.report.specs.Report.{textOr, treeText}
 abbrev pub askedBy : Survey → List Float → List Float → Asked
 askedBy s sources targets = asksFor (s .b) sources targets (s .limit) (s .order) (s .keep) true
 
--- room for 8,192 entries a list, and starts for 2,048 nodes
-abbrev pub columnsText : ℕ → Columns → ℕ → List ℕ
-columnsText d t sources = treeText d t 2049 8192 2049 8192 sources
+-- room for 8,192 entries a list, and starts and counts for 2,048 nodes
+abbrev pub columnsText : Box → Columns → List Float → ℕ → List ℕ
+columnsText b t targets sources = treeText b t targets 2049 8192 2049 8192 2048 sources
 
 -- the listing of a survey with so much work, room in the order column and room in the node columns, or the first refusal
 abbrev pub surveyTextIn : (work order nodes : ℕ) → Survey → List Float → List Float → List ℕ
 surveyTextIn work order nodes s sources targets =
     textOr (buildOutcome (askedBy s sources targets) work order nodes)
-    (columnsText (s .b .axes) (builtColumns (askedBy s sources targets)) (s .sources))
+    (columnsText (s .b) (builtColumns (askedBy s sources targets)) targets (s .sources))
 
 -- room for 2,048 nodes, and work and order for the largest file
 abbrev pub surveyText : Survey → List Float → List Float → List ℕ

@@ -2,6 +2,7 @@
 use build::Built;
 use libc::STDOUT_FILENO;
 use refusal::Outcome;
+use space::Box;
 use survey::Survey;
 use text::Text;
 ghost use mathlib.Core.Path.{_≡_};
@@ -11,36 +12,40 @@ ghost use Rattle.text.specs.Listing.{textAnswer, textLeft};
 ghost use Rattle.build.specs.Outcomes.{nodeRoom};
 ghost use Rattle.printing.specs.Printed.{columnsText, surveyTextIn, surveyText, fileText};
 
-// Writes the text of a tree, with room for 8,192 entries a list.
+// Writes the text of a tree with its targets, with room for 8,192 entries a list and for the counts of 2,048 nodes.
 fn list_columns(
-    axes: usize,
+    b: Box,
     sources: usize,
     key: &[u64],
     own: &[usize],
     begin: &[usize],
     total: &[usize],
+    targets: &[f64],
     out: &mut [u8],
 ) -> Text
     ensures answer { λ r. ⌜ r ≡ textAnswer (length (now (out .entry)))
-        (columnsText axes (columns (now (key .entry)) (now (own .entry)) (now (begin .entry)) (now (total .entry))) sources) ⌝ }
+        (columnsText b (columns (now (key .entry)) (now (own .entry)) (now (begin .entry)) (now (total .entry))) (now (targets .entry)) sources) ⌝ }
     ensures text { λ _. ⌜ now (out .exit) ≡ textLeft (length (now (out .entry)))
-        (columnsText axes (columns (now (key .entry)) (now (own .entry)) (now (begin .entry)) (now (total .entry))) sources) ⌝ }
+        (columnsText b (columns (now (key .entry)) (now (own .entry)) (now (begin .entry)) (now (total .entry))) (now (targets .entry)) sources) ⌝ }
 {
     let mut u_starts = [0usize; 2049];
     let mut u_keys = [0u64; 8192];
     let mut v_starts = [0usize; 2049];
     let mut v_keys = [0u64; 8192];
+    let mut counts = [0usize; 2048];
     report::list_tree(
-        axes,
+        b,
         sources,
         key,
         own,
         begin,
         total,
+        targets,
         &mut u_starts,
         &mut u_keys,
         &mut v_starts,
         &mut v_keys,
+        &mut counts,
         out,
     )
 }
@@ -82,12 +87,13 @@ fn list_built(
     match built {
         Built::Refused(refusal) => text::write_refusal(refusal, out),
         Built::Tree(nodes, _) => list_columns(
-            b.axes,
+            b,
             survey.sources,
             &key[..nodes],
             &own[..nodes],
             &begin[..nodes],
             &total[..nodes],
+            targets,
             out,
         ),
     }

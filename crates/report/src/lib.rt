@@ -1,40 +1,47 @@
-// The text that is printed of a tree: its listing, or the refusal of its lists.
+// The text that is printed of a tree: its listing, or the refusal of its lists or of a target.
 use interaction::ListsAnswer;
+use near_work::WorkAnswer;
+use space::Box;
 use text::Text;
 ghost use mathlib.Core.Path.{_≡_};
 ghost use lib.ListN.{length};
 ghost use Rattle.tree.specs.Columns.{columns};
 ghost use Rattle.interaction.specs.Answers.{uStartsLeft, uKeysLeft, vStartsLeft, vKeysLeft};
 ghost use Rattle.text.specs.Listing.{textAnswer, textLeft};
-ghost use Rattle.report.specs.Report.{treeText};
+ghost use Rattle.report.specs.Report.{treeText, textCounts};
 
-// Writes the text of a tree grown from so many sources, over its lists, which are left in the other slices.
+// Writes the text of a tree grown from so many sources, over its lists and the targets of each node, which are left in the other slices.
 pub fn list_tree(
-    axes: usize,
+    b: Box,
     sources: usize,
     key: &[u64],
     own: &[usize],
     begin: &[usize],
     total: &[usize],
+    targets: &[f64],
     u_starts: &mut [usize],
     u_keys: &mut [u64],
     v_starts: &mut [usize],
     v_keys: &mut [u64],
+    counts: &mut [usize],
     out: &mut [u8],
 ) -> Text
-    ensures answer { λ r. ⌜ r ≡ textAnswer (length (now (out .entry))) (treeText axes (columns (now (key .entry)) (now (own .entry)) (now (begin .entry)) (now (total .entry)))
-        (length (now («u_starts» .entry))) (length (now («u_keys» .entry))) (length (now («v_starts» .entry))) (length (now («v_keys» .entry))) sources) ⌝ }
-    ensures text { λ _. ⌜ now (out .exit) ≡ textLeft (length (now (out .entry))) (treeText axes (columns (now (key .entry)) (now (own .entry)) (now (begin .entry)) (now (total .entry)))
-        (length (now («u_starts» .entry))) (length (now («u_keys» .entry))) (length (now («v_starts» .entry))) (length (now («v_keys» .entry))) sources) ⌝ }
-    ensures u_starts { λ _. ⌜ now («u_starts» .exit) ≡ uStartsLeft axes (columns (now (key .entry)) (now (own .entry)) (now (begin .entry)) (now (total .entry)))
+    ensures answer { λ r. ⌜ r ≡ textAnswer (length (now (out .entry))) (treeText b (columns (now (key .entry)) (now (own .entry)) (now (begin .entry)) (now (total .entry))) (now (targets .entry))
+        (length (now («u_starts» .entry))) (length (now («u_keys» .entry))) (length (now («v_starts» .entry))) (length (now («v_keys» .entry))) (length (now (counts .entry))) sources) ⌝ }
+    ensures text { λ _. ⌜ now (out .exit) ≡ textLeft (length (now (out .entry))) (treeText b (columns (now (key .entry)) (now (own .entry)) (now (begin .entry)) (now (total .entry))) (now (targets .entry))
+        (length (now («u_starts» .entry))) (length (now («u_keys» .entry))) (length (now («v_starts» .entry))) (length (now («v_keys» .entry))) (length (now (counts .entry))) sources) ⌝ }
+    ensures u_starts { λ _. ⌜ now («u_starts» .exit) ≡ uStartsLeft (b .axes) (columns (now (key .entry)) (now (own .entry)) (now (begin .entry)) (now (total .entry)))
         (length (now («u_starts» .entry))) (length (now («u_keys» .entry))) (length (now («v_starts» .entry))) (length (now («v_keys» .entry))) ⌝ }
-    ensures u_keys { λ _. ⌜ now («u_keys» .exit) ≡ uKeysLeft axes (columns (now (key .entry)) (now (own .entry)) (now (begin .entry)) (now (total .entry)))
+    ensures u_keys { λ _. ⌜ now («u_keys» .exit) ≡ uKeysLeft (b .axes) (columns (now (key .entry)) (now (own .entry)) (now (begin .entry)) (now (total .entry)))
         (length (now («u_starts» .entry))) (length (now («u_keys» .entry))) (length (now («v_starts» .entry))) (length (now («v_keys» .entry))) ⌝ }
-    ensures v_starts { λ _. ⌜ now («v_starts» .exit) ≡ vStartsLeft axes (columns (now (key .entry)) (now (own .entry)) (now (begin .entry)) (now (total .entry)))
+    ensures v_starts { λ _. ⌜ now («v_starts» .exit) ≡ vStartsLeft (b .axes) (columns (now (key .entry)) (now (own .entry)) (now (begin .entry)) (now (total .entry)))
         (length (now («u_starts» .entry))) (length (now («u_keys» .entry))) (length (now («v_starts» .entry))) (length (now («v_keys» .entry))) ⌝ }
-    ensures v_keys { λ _. ⌜ now («v_keys» .exit) ≡ vKeysLeft axes (columns (now (key .entry)) (now (own .entry)) (now (begin .entry)) (now (total .entry)))
+    ensures v_keys { λ _. ⌜ now («v_keys» .exit) ≡ vKeysLeft (b .axes) (columns (now (key .entry)) (now (own .entry)) (now (begin .entry)) (now (total .entry)))
         (length (now («u_starts» .entry))) (length (now («u_keys» .entry))) (length (now («v_starts» .entry))) (length (now («v_keys» .entry))) ⌝ }
+    ensures counts { λ _. ⌜ now (counts .exit) ≡ textCounts b (columns (now (key .entry)) (now (own .entry)) (now (begin .entry)) (now (total .entry))) (now (targets .entry))
+        (length (now («u_starts» .entry))) (length (now («u_keys» .entry))) (length (now («v_starts» .entry))) (length (now («v_keys» .entry))) (length (now (counts .entry))) ⌝ }
 {
+    let axes = b.axes;
     let listed = interaction::get_interaction_lists(
         axes,
         key,
@@ -46,10 +53,14 @@ pub fn list_tree(
         v_starts,
         v_keys,
     );
-    match listed {
-        ListsAnswer::Refused(refusal) => text::write_refusal(refusal, out),
-        ListsAnswer::Listed(_, _) => {
-            let work = near_work::near_work(axes, key, own, u_starts, u_keys);
+    if let ListsAnswer::Refused(refusal) = listed {
+        slices::clear_usize(counts);
+        return text::write_refusal(refusal, out);
+    }
+    let answer = near_work::get_near_work(b, key, own, begin, total, targets, counts);
+    match answer {
+        WorkAnswer::Refused(refusal) => text::write_refusal(refusal, out),
+        WorkAnswer::Work(work) => {
             let depth = tree::depth_of(key);
             text::write_listing(
                 axes,

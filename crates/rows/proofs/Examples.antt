@@ -4,13 +4,13 @@ use mathlib.Core.Path.{_≡_, refl}
 use mathlib.Core.List.{List, [], _∷_, map}
 use Prim.Native.Nat.{ℕ, zero, suc}
 use Rattle.slices.specs.Every.{every}
-use Rattle.slices.specs.Lists.{any, filter, sum}
+use Rattle.slices.specs.Lists.{any, filter, count, sum}
 use Rattle.slices.specs.Order.{ascending}
 use Rattle.morton.specs.Keys.{upwards}
 use Rattle.morton.specs.Anchors.{near}
 use Rattle.tree.specs.Nodes.{leaf, ownOf, sourced}
 use Rattle.tree.proofs.Examples.{keys₁, own₁, keys₂, own₂, keys₃, own₃}
-use Rattle.rows.specs.Lists.{inU, inV, uRow, vRow, sourcedCells, nearWork}
+use Rattle.rows.specs.Lists.{inU, inV, uRow, vRow, sourcedCells, nearWork, targetsAt}
 
 pub u-rows₁ : map (uRow 1 keys₁ own₁) keys₁ ≡ [] ∷ [] ∷ [] ∷ (3 ∷ 32771 ∷ []) ∷ (3 ∷ 32771 ∷ []) ∷ [] ∷ [] ∷ (196611 ∷ 229379 ∷ []) ∷ (196611 ∷ 229379 ∷ []) ∷ []
 unfolding uRow inU leaf sourced ownOf any ascending filter near every upwards
@@ -24,9 +24,18 @@ pub sourced-cells₁ : sourcedCells 1 keys₁ own₁ ≡ 0 ∷ 1 ∷ 2 ∷ 3 ∷
 unfolding sourcedCells sourced ownOf any ascending filter
 sourced-cells₁ = refl
 
-pub near-work₁ : nearWork 1 keys₁ own₁ ≡ 8
+pub near-work₁ : nearWork 1 keys₁ own₁ (ownOf keys₁ own₁) ≡ 8
 unfolding nearWork sum uRow inU leaf sourced ownOf any ascending filter near every upwards
 near-work₁ = refl
+
+-- one target in the leaf 3, and three in two leaves
+pub target-work₁ : nearWork 1 keys₁ own₁ (targetsAt (3 ∷ [])) ≡ 2
+unfolding nearWork count sum uRow inU leaf sourced ownOf any ascending filter near every upwards
+target-work₁ = refl
+
+pub targets-work₁ : nearWork 1 keys₁ own₁ (targetsAt (3 ∷ 229379 ∷ 3 ∷ [])) ≡ 6
+unfolding nearWork count sum uRow inU leaf sourced ownOf any ascending filter near every upwards
+targets-work₁ = refl
 
 pub u-rows₂ : map (uRow 2 keys₂ own₂) keys₂ ≡ [] ∷ [] ∷ [] ∷ (3 ∷ 32769 ∷ 98307 ∷ []) ∷ (3 ∷ 32769 ∷ 98307 ∷ []) ∷ (3 ∷ 32769 ∷ 98307 ∷ []) ∷ (3 ∷ 32769 ∷ 98307 ∷ []) ∷ (3 ∷ 32769 ∷ 98307 ∷ []) ∷ (3 ∷ 32769 ∷ 98307 ∷ []) ∷ (3 ∷ 32769 ∷ 98307 ∷ []) ∷ (3 ∷ 32769 ∷ 98307 ∷ 1966083 ∷ 2064387 ∷ []) ∷ (3 ∷ 32769 ∷ 98307 ∷ 1966083 ∷ 2064387 ∷ []) ∷ [] ∷ (32769 ∷ 1966083 ∷ 2064387 ∷ []) ∷ (32769 ∷ 1966083 ∷ 2064387 ∷ []) ∷ (32769 ∷ 1966083 ∷ 2064387 ∷ []) ∷ [] ∷ (32769 ∷ 1966083 ∷ 2064387 ∷ []) ∷ (32769 ∷ 1966083 ∷ 2064387 ∷ []) ∷ (32769 ∷ 1966083 ∷ 2064387 ∷ []) ∷ (32769 ∷ 1966083 ∷ 2064387 ∷ []) ∷ []
 unfolding uRow inU leaf sourced ownOf any ascending filter near every upwards
@@ -40,7 +49,7 @@ pub sourced-cells₂ : sourcedCells 2 keys₂ own₂ ≡ 0 ∷ 1 ∷ 2 ∷ 3 ∷
 unfolding sourcedCells sourced ownOf any ascending filter
 sourced-cells₂ = refl
 
-pub near-work₂ : nearWork 2 keys₂ own₂ ≡ 17
+pub near-work₂ : nearWork 2 keys₂ own₂ (ownOf keys₂ own₂) ≡ 17
 unfolding nearWork sum uRow inU leaf sourced ownOf any ascending filter near every upwards
 near-work₂ = refl
 
@@ -56,6 +65,6 @@ pub sourced-cells₃ : sourcedCells 3 keys₃ own₃ ≡ 0 ∷ 1 ∷ 2 ∷ 3 ∷
 unfolding sourcedCells sourced ownOf any ascending filter
 sourced-cells₃ = refl
 
-pub near-work₃ : nearWork 3 keys₃ own₃ ≡ 33
+pub near-work₃ : nearWork 3 keys₃ own₃ (ownOf keys₃ own₃) ≡ 33
 unfolding nearWork sum uRow inU leaf sourced ownOf any ascending filter near every upwards
 near-work₃ = refl

@@ -7,5 +7,6 @@ pub mod Around
 pub mod Literal
 pub mod Agree
 pub mod Demand3
+pub mod NearWork
 pub mod Examples
 pub mod Applied

@@ -3,7 +3,7 @@ use mathlib.Core.Bool.{Bool, true, false, _&&_, _||_, not, cond}
 use mathlib.Core.List.{List, [], _∷_, map}
 use Prim.Native.Nat.{ℕ, zero, suc, _+_, _*_, _-_}
 use lib.Dec.{leb, ltb, eqb}
-use Rattle.slices.specs.Lists.{filter, any, sum}
+use Rattle.slices.specs.Lists.{filter, any, count, sum}
 use Rattle.slices.specs.Order.{ascending}
 use Rattle.morton.specs.Keys.{levelOf, parent, ancestors}
 use Rattle.morton.specs.Anchors.{touching}
@@ -43,9 +43,13 @@ module _ (d : ℕ) (keys own : List ℕ) where
   unfoldable pub sourcedCells : List ℕ
   sourcedCells = ascending (filter (sourced d keys own) keys)
 
-  -- near work: the sum over leaves of own sources times sources in the U row
-  unfoldable pub nearWork : ℕ
-  nearWork = sum (map (λ b. ownOf keys own b * sum (map (ownOf keys own) (uRow b))) (filter (leaf d keys) keys))
+  -- near work: the sum over leaves of looked-up targets times sources in the U row; `weigh` is how many targets a leaf has
+  unfoldable pub nearWork : (ℕ → ℕ) → ℕ
+  nearWork weigh = sum (map (λ b. weigh b * sum (map (ownOf keys own) (uRow b))) (filter (leaf d keys) keys))
+
+-- how many targets a leaf b has: marks are the keys of the targets' leaves
+abbrev pub targetsAt : List ℕ → ℕ → ℕ
+targetsAt marks b = count (λ k. eqb k b) marks
 
 -- the rows of a tree that is handed in
 abbrev pub uRows : ℕ → Columns → ℕ → List ℕ

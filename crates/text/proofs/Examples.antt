@@ -16,7 +16,7 @@ use Rattle.text.specs.Characters.{ascii}
 use Rattle.text.specs.Digits.{digits, decimal}
 use Rattle.text.specs.Listing.{nodeLine, linesFrom, listing, refusalLine}
 
-pub example : listing keys₁ own₁ (λ i. uRow 1 keys₁ own₁ (getD keys₁ i 0)) (λ i. vRow 1 keys₁ own₁ (getD keys₁ i 0)) 1 (depthOf keys₁) 4 (nearWork 1 keys₁ own₁)
+pub example : listing keys₁ own₁ (λ i. uRow 1 keys₁ own₁ (getD keys₁ i 0)) (λ i. vRow 1 keys₁ own₁ (getD keys₁ i 0)) 1 (depthOf keys₁) 4 (nearWork 1 keys₁ own₁ (ownOf keys₁ own₁))
     ≡ ascii "tree 1 9 3 4 8\n"
     ++ ascii "0 0 0 U V\n"
     ++ ascii "1 1 0 U V\n"

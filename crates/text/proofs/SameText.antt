@@ -133,13 +133,14 @@ module _ (d : ℕ) (keys own keys′ own′ : List ℕ) (same : SameTree keys ow
 
 -- ---- with the tree's own rows, depth and near work
 
-pub same-listing : (d : ℕ) (keys own keys′ own′ : List ℕ) → TwoOrders d keys own keys′ own′ → 0 < length keys′ → (sources : ℕ) → treeListing d keys own sources ≡ treeListingByLevel d keys′ own′ sources
-same-listing d keys own keys′ own′ two some sources =
-    ap₂ (λ (u v : ℕ → List ℕ). listing keys own (λ i. u (getD keys i 0)) (λ i. v (getD keys i 0)) d (depthOf keys) sources (nearWork d keys own))
+pub same-listing : (d : ℕ) (keys own keys′ own′ : List ℕ) → TwoOrders d keys own keys′ own′ → 0 < length keys′ → (sources : ℕ) (weigh weigh′ : ℕ → ℕ) → ((b : ℕ) → weigh b ≡ weigh′ b)
+    → treeListing d keys own sources weigh ≡ treeListingByLevel d keys′ own′ sources weigh′
+same-listing d keys own keys′ own′ two some sources weigh weigh′ e =
+    ap₂ (λ (u v : ℕ → List ℕ). listing keys own (λ i. u (getD keys i 0)) (λ i. v (getD keys i 0)) d (depthOf keys) sources (nearWork d keys own weigh))
     (fun-ext (same-u-row d keys own keys′ own′ (two .same))) (fun-ext (same-v-row d keys own keys′ own′ (two .same)))
-    ∙ same-text d keys own keys′ own′ two (uRow d keys′ own′) (vRow d keys′ own′) d (depthOf keys) sources (nearWork d keys own)
+    ∙ same-text d keys own keys′ own′ two (uRow d keys′ own′) (vRow d keys′ own′) d (depthOf keys) sources (nearWork d keys own weigh)
     ∙ ap₂ (λ (n w : ℕ). listingByLevel keys′ own′ (λ i. uRow d keys′ own′ (getD keys′ i 0)) (λ i. vRow d keys′ own′ (getD keys′ i 0)) d n sources w)
-    (same-depth d keys keys′ (two .same .arranged) (two .ascend′) some) (same-near-work d keys own keys′ own′ (two .same))
+    (same-depth d keys keys′ (two .same .arranged) (two .ascend′) some) (same-near-work d keys own keys′ own′ (two .same) weigh weigh′ e)
 
 -- the text of a build is what it was
 module _ (g : Rule) (s t : List ℕ) (known : axesKnown (g .axes) ≡ true) where
@@ -152,7 +153,8 @@ module _ (g : Rule) (s t : List ℕ) (known : axesKnown (g .axes) ≡ true) wher
     owns′ = length-own (g .axes) (nodesByLevel g s t) s;
   }
 
-  pub build-text : (sources : ℕ) → treeListing (g .axes) (nodes g s t) (ownColumn (g .axes) (nodes g s t) s) sources ≡ treeListingByLevel (g .axes) (nodesByLevel g s t) (ownColumn (g .axes) (nodesByLevel g s t) s) sources
+  pub build-text : (sources : ℕ) (weigh weigh′ : ℕ → ℕ) → ((b : ℕ) → weigh b ≡ weigh′ b)
+      → treeListing (g .axes) (nodes g s t) (ownColumn (g .axes) (nodes g s t) s) sources weigh ≡ treeListingByLevel (g .axes) (nodesByLevel g s t) (ownColumn (g .axes) (nodesByLevel g s t) s) sources weigh′
   build-text = same-listing (g .axes) (nodes g s t) (ownColumn (g .axes) (nodes g s t) s) (nodesByLevel g s t) (ownColumn (g .axes) (nodesByLevel g s t) s) build-orders (level-some g s t known)
 
   -- as many nodes, U keys and V keys as before: a file has room where it had room

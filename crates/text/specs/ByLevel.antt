@@ -11,6 +11,6 @@ abbrev pub listingByLevel : (key own : List ℕ) (u v : ℕ → List ℕ) → �
 listingByLevel key own u v axes depth sources work = firstLine axes (length key) depth sources work ++ concatMap (λ i. nodeLine key own u v i i) (range 0 (length key))
 
 -- with the tree's own rows, depth and near work
-abbrev pub treeListingByLevel : ℕ → List ℕ → List ℕ → ℕ → List ℕ
-treeListingByLevel d keys own sources =
-    listingByLevel keys own (λ i. uRow d keys own (getD keys i 0)) (λ i. vRow d keys own (getD keys i 0)) d (depthByLevel keys) sources (nearWork d keys own)
+abbrev pub treeListingByLevel : ℕ → List ℕ → List ℕ → ℕ → (ℕ → ℕ) → List ℕ
+treeListingByLevel d keys own sources weigh =
+    listingByLevel keys own (λ i. uRow d keys own (getD keys i 0)) (λ i. vRow d keys own (getD keys i 0)) d (depthByLevel keys) sources (nearWork d keys own weigh)

@@ -66,10 +66,10 @@ module _ (key own : List ℕ) (u v : ℕ → List ℕ) where
   abbrev pub listing : ℕ → ℕ → ℕ → ℕ → List ℕ
   listing axes depth sources work = firstLine axes (length key) depth sources work ++ nodeLines
 
--- the listing of a tree over d axes: the U and V row of each node, the depth, the sources, near work
-abbrev pub treeListing : (d : ℕ) (key own : List ℕ) → ℕ → List ℕ
-treeListing d key own sources =
-    listing key own (λ i. uRow d key own (getD key i 0)) (λ i. vRow d key own (getD key i 0)) d (depthOf key) sources (nearWork d key own)
+-- the listing of a tree over d axes: the U and V row of each node, the depth, the sources, near work with so many targets in each leaf
+abbrev pub treeListing : (d : ℕ) (key own : List ℕ) → ℕ → (ℕ → ℕ) → List ℕ
+treeListing d key own sources weigh =
+    listing key own (λ i. uRow d key own (getD key i 0)) (λ i. vRow d key own (getD key i 0)) d (depthOf key) sources (nearWork d key own weigh)
 
 -- ---- a text in a slice with so much room
 

@@ -1,10 +1,10 @@
--- `near_work::own_of` meets its contract.
+-- `listed::own_of` meets its contract.
 use native.Mathlib.Omega.{arith}
 use denote.Ref.{now}
-use Rattle.near_work.proofs.Sums.{found-in, found-own, found-nothing}
+use Rattle.near_work.proofs.Owned.{found-in, found-own, found-nothing}
 use borrow.Author.Needs.{needs}
-use Rattle.near_work.proofs.own_of.Statement.{statement}
-use Rattle.near_work.proofs.own_of.Tie as tie
+use Rattle.near_work.proofs.listed.own_of.Statement.{statement}
+use Rattle.near_work.proofs.listed.own_of.Tie as tie
 
 find-node-requires : tie.Need-find-node-requires
 find-node-requires c κs = c .before .before .pre .axes

@@ -1,13 +1,13 @@
--- `near_work::row_sources` meets its contract.
+-- `listed::row_sources` meets its contract.
 use Prim.Native.Nat.{_-_}
 use native.Mathlib.Omega.{arith}
 use denote.Ref.{now}
 use lib.ListN.{length}
 use Rattle.tree.specs.Nodes.{ownOf}
-use Rattle.near_work.proofs.Sums.{Summing, summing-none, summing-room, summing-more, summing-all}
+use Rattle.node_rows.proofs.Marking.{Summing, summing-none, summing-room, summing-more, summing-all}
 use borrow.Author.Needs.{needs}
-use Rattle.near_work.proofs.row_sources.Statement.{statement}
-use Rattle.near_work.proofs.row_sources.Tie as tie
+use Rattle.near_work.proofs.listed.row_sources.Statement.{statement}
+use Rattle.near_work.proofs.listed.row_sources.Tie as tie
 
 abbrev Inv-loop : tie.InvT-loop
 Inv-loop axes key own row sources₀ i₀ sources i = Summing (ownOf key own) row i sources

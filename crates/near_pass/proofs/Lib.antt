@@ -1,0 +1,4 @@
+pub mod Sums
+pub mod Near
+pub mod Path
+pub mod Work
