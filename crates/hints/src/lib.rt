@@ -691,6 +691,28 @@ fn fewest_steps(counts: &[usize; 64], probes: usize) -> u64 {
     steps
 }
 
+// The table for a look-up of so many points, read with the fewest steps that do for the first n codes.
+fn ready(
+    axes: usize,
+    key: &[u64],
+    points: usize,
+    codes: &[u64],
+    n: usize,
+    words: &mut [u64; WORDS],
+) -> Blocks
+    requires { ⌜ (axes ≤ 3) × (n ≤ length (now codes)) × (n ≤ 1048576) ⌝ }
+{
+    let blocks = table_for(axes, key, points, words);
+    let mut counts = [0usize; 64];
+    let probes = count_steps(axes, key, words, blocks, codes, n, &mut counts);
+    Blocks {
+        plan: blocks.plan,
+        deep: blocks.deep,
+        unit: blocks.unit,
+        steps: fewest_steps(&counts, probes),
+    }
+}
+
 // Fills the table for a look-up of the first n codes, and says how to read it.
 pub fn prepare(
     axes: usize,
@@ -701,13 +723,33 @@ pub fn prepare(
 ) -> Blocks
     requires { ⌜ (axes ≤ 3) × (n ≤ length (now codes)) × (n ≤ 1048576) ⌝ }
 {
-    let blocks = table_for(axes, key, n, words);
-    let mut counts = [0usize; 64];
-    let probes = count_steps(axes, key, words, blocks, codes, n, &mut counts);
-    Blocks {
-        plan: blocks.plan,
-        deep: blocks.deep,
-        unit: blocks.unit,
-        steps: fewest_steps(&counts, probes),
+    ready(axes, key, n, codes, n, words)
+}
+
+// Puts the first codes of some nodes, one after the other at equal distances; answers how many.
+fn some_firsts(axes: usize, key: &[u64], codes: &mut [u64]) -> usize
+    requires { ⌜ (axes ≤ 3) × (length (now codes) ≡ 64) ⌝ }
+    ensures { λ r. ⌜ (r ≤ 64) × (length (now (codes .exit)) ≡ 64) ⌝ }
+{
+    let far = key.len() / PROBES;
+    let mut node: usize = 0;
+    let mut n: usize = 0;
+    while n < PROBES {
+        if key.len() <= node {
+            return n;
+        }
+        codes[n] = first_of(axes, key[node]);
+        node = std::num::wrapping_add_usize(node, far);
+        n += 1;
     }
+    n
+}
+
+// The same for a look-up of so many points whose codes are not at hand: those of some nodes stand for them.
+pub fn prepare_for(axes: usize, key: &[u64], points: usize, words: &mut [u64; WORDS]) -> Blocks
+    requires { ⌜ axes ≤ 3 ⌝ }
+{
+    let mut codes = [0u64; PROBES];
+    let n = some_firsts(axes, key, &mut codes);
+    ready(axes, key, points, &codes, n, words)
 }

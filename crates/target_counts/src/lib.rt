@@ -36,7 +36,7 @@ fn count_by(
     while row < rows {
         match space::code_at(f, targets, at) {
             Cell::Number(code) => {
-                let hint = hints::hint_of(axes, words, blocks, code);
+                let hint = hints::hint_of(axes, key, words, blocks, code);
                 let leaf = leaf_search::leaf_from(axes, key, hint, code);
                 match leaf {
                     Found::At(node) => {
@@ -66,6 +66,6 @@ pub fn count_targets(b: Box, key: &[u64], targets: &[f64], counts: &mut [usize])
         → Counted (now (key .entry)) (leafKeys (b .axes) (now (key .entry)) (codesInside b (now (targets .entry)))) (rowsOf b (now (targets .entry))) (now (counts .exit))) ⌝ }
 {
     let mut words = [0u64; hints::WORDS];
-    let blocks = hints::prepare(b.axes, key, targets.len() / b.axes, &mut words);
+    let blocks = hints::prepare_for(b.axes, key, targets.len() / b.axes, &mut words);
     count_by(b, key, &words, blocks, targets, counts)
 }
