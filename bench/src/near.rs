@@ -3,7 +3,7 @@
 use crate::clock::{lower, rounds};
 use crate::report::{Named, Report};
 use crate::shapes::{self, Random};
-use crate::slices::Lent;
+use crate::slices::{fill, room_for};
 use crate::words::Words;
 use crate::{POINTS, plain_build, worst};
 use lohandema::lent;
@@ -29,7 +29,7 @@ fn by_rows(tree: &Tree, targets: &[f64]) -> u64 {
 /// Our call beside the two others, each in slices that are there: the same figure, then times.
 fn beside(report: &Report, named: Named, tree: &Tree, targets: &[f64], runs: usize) {
     let (b, columns) = (shapes::bounds(), tree.columns());
-    let mut slices = Lent::new(&tree.get_interaction_lists().expect("room enough"));
+    let mut rows = room_for(&tree.get_interaction_lists().expect("room enough"), 0);
     let (mut counts, mut output) = (vec![1; tree.key.len()], vec![1; targets.len() / 3]);
     let work = lent::get_near_work(b, columns, targets, &mut counts);
     assert_eq!(work, Ok(by_rows(tree, targets)));
@@ -38,7 +38,7 @@ fn beside(report: &Report, named: Named, tree: &Tree, targets: &[f64], runs: usi
         lower(&mut near, || {
             lent::get_near_work(b, columns, targets, &mut counts)
         });
-        lower(&mut lists, || slices.fill(tree));
+        lower(&mut lists, || fill(tree, &mut rows));
         lower(&mut lookup, || {
             lent::points_to_keys(b, columns, targets, &mut output)
         });
