@@ -10,7 +10,7 @@ use refusal::Refusal;
 use space::Box;
 ghost use mathlib.Core.Path.{_≡_};
 ghost use mathlib.Core.Bool.{Bool, true, _&&_};
-ghost use mathlib.Core.List.{_++_, map};
+ghost use mathlib.Core.List.{[], _∷_, _++_, map};
 ghost use Prim.Native.Nat.{ℕ, _-_, _≤_, min};
 ghost use lib.Dec.{leb};
 ghost use lib.ListN.{length, take, replicate};
@@ -125,7 +125,7 @@ struct Laid {
 
 // A grid of no points, for a build that is on none.
 fn no_grid() -> Grid
-    ensures { λ _. ⌜ true ≡ true ⌝ }
+    ensures { λ g. ⌜ g .shape ≡ 0 ∷ 0 ∷ 0 ∷ [] ⌝ }
 {
     Grid {
         origin: [0.0, 0.0, 0.0],

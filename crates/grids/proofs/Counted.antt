@@ -1,4 +1,4 @@
--- As many listed points of a grid lie in a cell as the product of its ranges says.
+-- Where all points of a grid are inside, as many of the listed ones lie in a cell as the product of its ranges says.
 use mathlib.Core.Path.{_≡_, refl, sym, ap, _∙_, subst}
 use mathlib.Core.Bool.{Bool, true, _&&_}
 use mathlib.Core.List.{List}

@@ -7,9 +7,6 @@ use lib.Dec.{leb}
 use lib.Ieee.{Float, nan, binary64, add, mul, ofInt}
 use lib.Ieee.Positive.{positive}
 use lib.ListN.{getD}
-use Rattle.refusal.specs.declared.Refusal.{Refusal}
-use Rattle.refusal.specs.declared.Outcome.{Outcome}
-use Rattle.refusal.specs.Chain.{ask}
 use Rattle.slices.specs.Lists.{range}
 use Rattle.slices.specs.Every.{every}
 use Rattle.space.specs.Floats.{isFinite}
@@ -57,10 +54,6 @@ axisKnown g a = leb 1 (shapeOn g a) && (isFinite (getD (g .origin) a nan) && pos
 -- on each axis below d
 unfoldable pub gridKnown : ℕ → Grid → Bool
 gridKnown d g = every d (axisKnown g)
-
--- 16 GRID, the refusal given
-abbrev pub gridOutcome : Refusal → ℕ → Grid → Outcome
-gridOutcome grid d g = ask (gridKnown d g) grid
 
 -- at most 1,048,576 points
 abbrev pub fewPoints : ℕ → Grid → Bool
