@@ -50,9 +50,9 @@ extern "C" {
 #endif
 
 /* The version of this header and of the archive that was made with it. */
-#define LOHANDEMA_VERSION "0.4.0"
+#define LOHANDEMA_VERSION "0.5.0"
 #define LOHANDEMA_VERSION_MAJOR 0
-#define LOHANDEMA_VERSION_MINOR 4
+#define LOHANDEMA_VERSION_MINOR 5
 #define LOHANDEMA_VERSION_PATCH 0
 
 /* Limits. */
