@@ -64,7 +64,7 @@ pub fn build(t: &mut Tally, r: &mut Random, _case: u64) {
 }
 
 /// Refused with this number where a row is outside: the first such, and its wall.
-fn all_inside(number: u64, b: &Bounds, points: &[f64]) -> Result<(), Refusal> {
+pub fn all_inside(number: u64, b: &Bounds, points: &[f64]) -> Result<(), Refusal> {
     let mut rows = points.chunks(b.axes).enumerate();
     let outside = rows.find(|(_, p)| !oracle::inside(b, p));
     outside.map_or(Ok(()), |(row, p)| oracle::refused_at(number, row, b, p))

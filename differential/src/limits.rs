@@ -8,9 +8,9 @@ use crate::trees::show;
 use lohandema::points::Bounds;
 
 #[derive(Clone)]
-struct Cell {
-    level: u64,
-    anchor: Vec<u64>,
+pub struct Cell {
+    pub level: u64,
+    pub anchor: Vec<u64>,
 }
 
 impl Cell {
@@ -42,7 +42,7 @@ impl Cell {
         other
     }
 
-    fn first_child(&self) -> u64 {
+    pub fn first_child(&self) -> u64 {
         let mut anchor: Vec<u64> = self.anchor.iter().map(|x| 2 * x).collect();
         anchor.push(self.level + 1);
         ferreus_bbfmm::morton::encode_morton_point(anchor, &oracle::dimensions(self.anchor.len()))
@@ -63,9 +63,9 @@ impl Cell {
 }
 
 /// A cell whose factor is known by the cells in which the sources lie; no more of them are in it than `limit`.
-struct Setting {
-    cell: Cell,
-    factor: usize,
+pub struct Setting {
+    pub cell: Cell,
+    pub factor: usize,
     sources: Vec<Cell>,
     limit: usize,
 }
@@ -146,32 +146,46 @@ fn heap(r: &mut Random, axes: usize) -> Setting {
     }
 }
 
-/// The setting as a survey, with near limit times factor targets in the cell. So many in a sibling that all cells above split.
+/// One of the settings, by turns.
+pub fn setting(r: &mut Random, axes: usize, turn: u64) -> Setting {
+    let settings = [none, far, few, even, halves, heap];
+    settings[turn as usize % settings.len()](r, axes)
+}
+
+impl Setting {
+    /// The setting as a survey without targets, and its near limit.
+    pub fn survey(&self, r: &mut Random, axes: usize) -> (Survey, usize) {
+        let bounds = inputs::bounds(r, axes);
+        let order: usize = r.pick(&[1, 1, 2, 3]);
+        let limit = self.limit.max(1) + r.index(3);
+        let sources = self.sources.iter().flat_map(|c| c.points(r, &bounds, 1));
+        let survey = Survey {
+            sources: sources.collect(),
+            bounds,
+            targets: vec![],
+            limit,
+            order,
+            keep_empty: true,
+        };
+        (survey, limit.max(order.pow(axes as u32)))
+    }
+}
+
+/// The setting with near limit times factor targets in the cell. So many in a sibling that all cells above split.
 fn survey(r: &mut Random, axes: usize, set: &Setting) -> Survey {
-    let bounds = inputs::bounds(r, axes);
-    let order: usize = r.pick(&[1, 1, 2, 3]);
-    let limit = set.limit.max(1) + r.index(3);
-    let near = limit.max(order.pow(axes as u32));
-    let mut targets = set.cell.points(r, &bounds, near * set.factor);
+    let (mut s, near) = set.survey(r, axes);
+    s.targets = set.cell.points(r, &s.bounds, near * set.factor);
     if set.cell.level > 1 {
-        targets.extend(set.cell.sibling().points(r, &bounds, 32 * near + 1));
+        let beside = set.cell.sibling().points(r, &s.bounds, 32 * near + 1);
+        s.targets.extend(beside);
     }
-    let sources = set.sources.iter().flat_map(|c| c.points(r, &bounds, 1));
-    Survey {
-        sources: sources.collect(),
-        bounds,
-        targets,
-        limit,
-        order,
-        keep_empty: true,
-    }
+    s
 }
 
 /// Both builds against the Rust's; and that in the Rust's the cell is a leaf in the first and split in the second.
 pub fn refinement(t: &mut Tally, r: &mut Random, case: u64) {
     let axes = 1 + r.index(3);
-    let settings = [none, far, few, even, halves, heap];
-    let set = settings[case as usize % settings.len()](r, axes);
+    let set = setting(r, axes, case);
     let mut s = survey(r, axes, &set);
     for more in [false, true] {
         if more {

@@ -3,6 +3,7 @@ mod apart;
 mod builds;
 mod differences;
 mod face;
+mod grids;
 mod inputs;
 mod keys;
 mod limits;
@@ -68,6 +69,7 @@ const KINDS: &[Kind] = &[
     ("build", 3_000, builds::build),
     ("refine-limit", 2_000, limits::refinement),
     ("build-refusals", 10_000, builds::refusals),
+    ("grid", 6_000, grids::grid),
     ("renumbered", 3_000, renumbered::renumbered),
     ("cell-sources", 3_000, runs::cell_sources),
     ("lookup", 3_000, trees::lookup),

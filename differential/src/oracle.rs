@@ -1,11 +1,11 @@
 //! The customer's Rust, called unchanged, and its trees as columns.
 use faer::MatRef;
-use ferreus_bbfmm::EvaluationTargets;
 use ferreus_bbfmm::bbfmm::{Dimensions, TreeLists};
+use ferreus_bbfmm::{EvaluationTargets, TargetGrid};
 use ferreus_bbfmm::{linear_tree, morton};
 use lohandema::points::Bounds;
 use lohandema::trees::Tree;
-use lohandema::{Reason, Refusal, Wall};
+use lohandema::{Grid, Reason, Refusal, Wall};
 use std::collections::HashMap;
 use std::iter::successors;
 
@@ -106,10 +106,23 @@ pub struct Survey {
 
 /// The Rust's tree with its lists, and the depth that it reports.
 pub fn build(s: &Survey) -> (TreeLists, u64) {
+    let points = || EvaluationTargets::Points(rows(s.bounds.axes, &s.targets));
+    build_for(s, (!s.targets.is_empty()).then(points))
+}
+
+/// A grid as the Rust has it, or why it does not take it.
+pub fn grid_of(axes: usize, g: &Grid) -> Result<TargetGrid, &'static str> {
+    TargetGrid::try_new(&g.origin[..axes], &g.spacing[..axes], &g.shape[..axes])
+}
+
+/// The same as `build` with a grid for the survey's targets.
+pub fn build_on_grid(s: &Survey, grid: &TargetGrid) -> (TreeLists, u64) {
+    build_for(s, Some(EvaluationTargets::Grid(grid)))
+}
+
+fn build_for(s: &Survey, targets: Option<EvaluationTargets<'_>>) -> (TreeLists, u64) {
     let axes = s.bounds.axes;
     let mut depth = 0;
-    let targets =
-        (!s.targets.is_empty()).then(|| EvaluationTargets::Points(rows(axes, &s.targets)));
     let lists = linear_tree::build_tree(
         rows(axes, &s.sources),
         &s.bounds.centre[..axes].to_vec(),

@@ -1,5 +1,6 @@
 //! The intended differences of docs/DIFFERENCES.md: each row of its tables at its input, what the Rust answers and what we do.
 mod caps;
+mod grids;
 mod handed_in;
 mod keys;
 mod list_caps;
@@ -104,6 +105,7 @@ pub fn intended(t: &mut Tally, _r: &mut Random, _case: u64) {
     keys::run(&mut rows);
     points::run(&mut rows);
     trees::run(&mut rows);
+    grids::run(&mut rows);
     handed_in::run(&mut rows);
     caps::run(&mut rows);
     list_caps::run(&mut rows);
