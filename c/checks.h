@@ -50,6 +50,7 @@ void test_names(void);
 void test_keys(void);
 void test_points(void);
 void test_build(void);
+void test_grids(void);
 void test_trees(void);
 void test_near_work(void);
 void test_totals(void);

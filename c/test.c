@@ -93,6 +93,7 @@ int main(void)
     test_keys();
     test_points();
     test_build();
+    test_grids();
     test_trees();
     test_near_work();
     test_totals();

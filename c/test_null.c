@@ -45,6 +45,42 @@ static void builds(void)
           LOHANDEMA_BOX, 0);
 }
 
+/* One point of a grid, which is in the lower half of the box. */
+#define ONE_POINT point, point, ones
+static const size_t ones[3] = {1, 1, 1};
+
+static void builds_on_grid(void)
+{
+    uint64_t work[4] = {0}, keys[4] = {0}, depth = 7;
+    size_t indices[4] = {0}, owns[4] = {0}, begins[4] = {0}, totals[4] = {0}, nodes = 7;
+    ENDED(lohandema_build_tree_on_grid(centre, 4.0, 1, NULL, 0, ONE_POINT, 1, 1, true, true, NULL, 0, NULL, 0, keys, 3, owns,
+                                       3, begins, 3, totals, 3, &nodes, &depth),
+          0, 0);
+    EXPECT(nodes == 3 && depth == 1);
+    ENDED(lohandema_build_tree_on_grid(centre, 4.0, 3, NULL, 0, ONE_POINT, 1, 1, true, true, NULL, 0, NULL, 0, NO_COLUMNS,
+                                       &nodes, &depth),
+          LOHANDEMA_ROOM, LOHANDEMA_ROOM_NODES);
+    EXPECT(nodes == 0 && depth == 0);
+    ENDED(lohandema_build_tree_on_grid(centre, 4.0, 1, halves, 2, ONE_POINT, 1, 1, true, true, NULL, 0, indices, 2, keys, 3,
+                                       owns, 3, begins, 3, totals, 3, &nodes, &depth),
+          LOHANDEMA_ROOM, LOHANDEMA_ROOM_WORK);
+    ENDED(lohandema_build_tree_on_grid(centre, 4.0, 1, halves, 2, ONE_POINT, 1, 1, true, true, work, 4, NULL, 0, keys, 3,
+                                       owns, 3, begins, 3, totals, 3, &nodes, &depth),
+          LOHANDEMA_ROOM, LOHANDEMA_ROOM_ORDER);
+    ENDED(lohandema_build_tree_on_grid(centre, 4.0, 1, halves, 2, ONE_POINT, 1, 1, true, true, work, 4, indices, 2, NULL, 0,
+                                       owns, 3, begins, 3, totals, 3, &nodes, &depth),
+          LOHANDEMA_ROOM, LOHANDEMA_ROOM_NODES);
+    ENDED(lohandema_build_tree_on_grid(centre, 4.0, 1, halves, 2, ONE_POINT, 1, 1, true, true, work, 4, indices, 2, keys, 3,
+                                       NULL, 0, begins, 3, totals, 3, &nodes, &depth),
+          LOHANDEMA_ROOM, LOHANDEMA_ROOM_NODES);
+    ENDED(lohandema_build_tree_on_grid(centre, 4.0, 1, halves, 2, ONE_POINT, 1, 1, true, true, work, 4, indices, 2, keys, 3,
+                                       owns, 3, NULL, 0, totals, 3, &nodes, &depth),
+          LOHANDEMA_ROOM, LOHANDEMA_ROOM_NODES);
+    ENDED(lohandema_build_tree_on_grid(centre, 4.0, 1, halves, 2, ONE_POINT, 1, 1, true, true, work, 4, indices, 2, keys, 3,
+                                       owns, 3, begins, 3, NULL, 0, &nodes, &depth),
+          LOHANDEMA_ROOM, LOHANDEMA_ROOM_NODES);
+}
+
 static void columns(void)
 {
     size_t start = 7;
@@ -155,6 +191,7 @@ static void near_work(void)
 void test_null(void)
 {
     builds();
+    builds_on_grid();
     columns();
     lookups();
     groups_and_cells();
