@@ -20,10 +20,11 @@ run, keeps no state, and needs at most 128 KiB of stack. An array that is lent t
 
 from . import keys
 from .boxes import Box
+from .grids import Grid
 from .library import VERSION as __version__
 from .library import NoLibrary
 from .refusal import Refused
 from .rows import Lists, Rows
 from .trees import Tree
 
-__all__ = ["Box", "Lists", "NoLibrary", "Refused", "Rows", "Tree", "keys"]
+__all__ = ["Box", "Grid", "Lists", "NoLibrary", "Refused", "Rows", "Tree", "keys"]

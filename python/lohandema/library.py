@@ -38,6 +38,10 @@ lohandema_ended lohandema_build_tree(BOX, const double *sources, size_t sources_
     size_t targets_len, size_t limit, size_t order, bool keep_empty, bool refine, uint64_t *work, size_t work_len,
     size_t *indices, size_t indices_len, uint64_t *key, size_t key_len, size_t *own, size_t own_len, size_t *begin,
     size_t begin_len, size_t *total, size_t total_len, size_t *nodes, uint64_t *depth);
+lohandema_ended lohandema_build_tree_on_grid(BOX, const double *sources, size_t sources_len, const double origin[3],
+    const double spacing[3], const size_t shape[3], size_t limit, size_t order, bool keep_empty, bool refine, uint64_t *work,
+    size_t work_len, size_t *indices, size_t indices_len, uint64_t *key, size_t key_len, size_t *own, size_t own_len,
+    size_t *begin, size_t begin_len, size_t *total, size_t total_len, size_t *nodes, uint64_t *depth);
 bool lohandema_is_well_formed(size_t axes, TREE);
 uint64_t lohandema_depth_of(const uint64_t *key, size_t key_len);
 size_t lohandema_leaf_sources(const size_t *own, size_t own_len, const size_t *begin, size_t begin_len,

@@ -5,6 +5,7 @@ import ctypes
 from . import room
 from .arrays import Lent, Points, column, cut, flag, numpy, packed, shown, three, whole, wholes
 from .boxes import Box
+from .grids import Grid
 from .library import call, library
 from .progress import telling
 from .refusal import Refused
@@ -40,34 +41,40 @@ class Tree:
         raise TypeError("a tree is made by Tree.build(points, ..), or by Tree.from_columns(..) of columns that were kept")
 
     @classmethod
-    def build(cls, points, box=None, *, limit=64, keep_empty=False, order=None, targets=None, progress=False):
+    def build(cls, points, box=None, *, limit=64, keep_empty=False, order=None, targets=None, grid=None,
+              progress=False):
         """Builds the tree of points, which are its sources.
 
         points      a float64 array of one row a point and one column an axis, or a list of such rows: at most 1,048,576. It is
                     passed on as it is, and must not change before the call is done.
-        box         the box; where there is none, that around the points and the targets
+        box         the box; where there is none, that around the points and the targets, or the grid
         limit       a cell with more sources than this splits
         keep_empty  whether all children of a cell that splits are stored, or only those with sources
         targets     points where the sum is asked for; they split cells too. They take order and keep_empty=True.
-        order       the order of the interpolation, 1 to 64; it matters only with targets
+        grid        a Grid, whose points are the targets; they are nowhere listed
+        order       the order of the interpolation, 1 to 64; it matters only with targets or a grid
         progress    whether to tell on standard error of work that takes longer than a second
 
-        Raises Refused with 1, 2, 4, 5, 6, 7, or 8 where the tree has more than 1,048,576 nodes (docs/REFUSALS.md), and
+        Raises Refused with 1, 2, 16, 4, 5, 6, 7, or 8 where the tree has more than 1,048,576 nodes (docs/REFUSALS.md), and
         TypeError or ValueError for an array that is not taken as it is; the text has the cure.
 
         >>> Tree.build([[0.5, 1.5], [6.5, 5.5]], limit=1)
         Tree(Box([3.5, 3.5], 3.501), 3 nodes, 2 sources)
+        >>> from lohandema import Grid
+        >>> Tree.build([[0.5], [7.5]], Box([4.0], 4.0), grid=Grid([0.0], [0.001], [8000]), order=4, keep_empty=True, limit=9)
+        Tree(Box([4.0], 4.0), 2047 nodes, 2 sources)
         """
         if box is not None:
             check_box(box)
         sources = Points(points, box.axes if box else None)
-        aims = Points([] if targets is None else targets, sources.axes or None, "targets")
+        aims = checked_aims(targets, grid, sources.axes)
         limit, order = whole(limit, "limit"), checked_order(order, aims)
         keep_empty = flag(keep_empty, "keep_empty")
-        if aims.rows and not keep_empty:
-            raise ValueError("targets split cells only where empty cells are kept: pass keep_empty=True, or no targets")
+        if are_used(aims) and not keep_empty:
+            raise ValueError("%s split%s cells only where empty cells are kept: pass keep_empty=True, or no %s"
+                             % (("targets", "", "targets") if grid is None else ("a grid", "s", "grid")))
         if box is None:
-            box = Box._around([sources, aims])
+            box = Box._around([sources, aims if grid is None else Points(grid.corners(), sources.axes or None, "grid")])
         with telling(progress, "the tree of %d points" % sources.rows):
             return cls._built(box, sources, aims, limit, order, keep_empty)
 
@@ -75,13 +82,17 @@ class Tree:
     def _built(cls, box, sources, aims, limit, order, keep_empty):
         rows, used = min(sources.rows, room.MOST_POINTS), min(aims.rows, room.MOST_POINTS)
         nodes = room.most_nodes(box.axes, rows, used, limit, order, keep_empty)
-        work, indices = Lent(memoryview(column(2 * rows + used))), column(rows)
+        if isinstance(aims, Grid):
+            # its points take no work
+            name, words, in_work = "build_tree_on_grid", aims._words(), 0
+        else:
+            name, words, in_work = "build_tree", _words([aims.lent]), used
+        work, indices = Lent(memoryview(column(2 * rows + in_work))), column(rows)
         columns = [column(nodes) for _ in range(4)]
         lent = [Lent(memoryview(one)) for one in [indices] + columns]
         count, depth = ctypes.c_size_t(), ctypes.c_uint64()
-        call("build_tree", *box._words(), sources.lent.address, sources.lent.entries, aims.lent.address, aims.lent.entries,
-             limit, order, keep_empty, aims.rows > 0, work.address, work.entries, *_words(lent), ctypes.byref(count),
-             ctypes.byref(depth))
+        call(name, *box._words(), *_words([sources.lent]), *words, limit, order, keep_empty, are_used(aims),
+             *_words([work] + lent), ctypes.byref(count), ctypes.byref(depth))
         del lent
         return cls._of(box, [cut(one, count.value) for one in columns] + [cut(indices, rows)])
 
@@ -373,10 +384,30 @@ def check_box(box):
         raise TypeError("box is of type %s: pass a Box, as Box(centre, radius)" % type(box).__name__)
 
 
+def checked_aims(targets, grid, axes):
+    """The targets: points, or a grid."""
+    if grid is None:
+        return Points([] if targets is None else targets, axes or None, "targets")
+    if targets is not None:
+        raise TypeError("targets and grid are both given, and a build takes one of them: leave one out, or pass as targets "
+                        "the points of both (grid.points())")
+    if not isinstance(grid, Grid):
+        raise TypeError("grid is of type %s: pass a Grid, as Grid(origin, spacing, shape)" % type(grid).__name__)
+    if axes and grid.axes != axes:
+        raise ValueError("grid has %d ax%ss, and the points or the box %d: pass a grid with as many"
+                         % (grid.axes, "i" if grid.axes == 1 else "e", axes))
+    return grid
+
+
+def are_used(aims):
+    """Whether there are targets that a build looks at; a grid always is one, also with a 0 in its shape."""
+    return isinstance(aims, Grid) or aims.rows > 0
+
+
 def checked_order(order, aims):
     """The order of the interpolation, which has no meaning without targets, and has to be given with them."""
     if order is None:
-        if aims.rows:
-            raise TypeError("targets take order=, the order of the interpolation: pass one from 1 to 64")
+        if are_used(aims):
+            raise TypeError("targets and a grid take order=, the order of the interpolation: pass one from 1 to 64")
         return 1
     return whole(order, "order")

@@ -163,7 +163,7 @@ class Bad(unittest.TestCase):
         self.refused(TypeError, "keep_empty is 1: pass True or False", Tree.build, [[1.0, 1.0]], BOX, keep_empty=1)
         self.refused(TypeError, "box is of type list: pass a Box", Tree.build, [[1.0, 1.0]], [4.0, 4.0])
         aims = {"targets": [[1.0, 1.0]]}
-        self.refused(TypeError, "targets take order=", Tree.build, [[1.0, 1.0]], BOX, keep_empty=True, **aims)
+        self.refused(TypeError, "targets and a grid take order=", Tree.build, [[1.0, 1.0]], BOX, keep_empty=True, **aims)
         self.refused(ValueError, "pass keep_empty=True, or no targets", Tree.build, [[1.0, 1.0]], BOX, order=1, **aims)
         self.refused(ValueError, "targets has 1 column", Tree.build, [[1.0, 1.0]], BOX, order=1, keep_empty=True, targets=[[1]])
         for order, number in ((0, 5), (65, 5)):
