@@ -19,6 +19,7 @@ MARK, OUTLINED_MARK, LEAST_MARK, MARK_PART = 3.6, 1.4, 0.9, 0.42
 UNSTORED, PLAIN, LINE = "url(#hatch)", "#ffffff", "#8c8c8c"
 CHOSEN, NEAR, FAULT = "#f0e442", "#e69f00", "#cc0066"
 FAR_DARK, FAR_LIGHT = (0x2b, 0x6c, 0xb0), (0xb9, 0xd6, 0xf0)
+GRID_LINE = "#b03000"
 HATCH = ('<defs><pattern id="hatch" width="7" height="7" patternUnits="userSpaceOnUse" patternTransform="rotate(45)">'
          '<rect width="7" height="7" fill="#f4f4f4"/><rect width="1.6" height="7" fill="#cfcfcf"/></pattern></defs>')
 
@@ -178,6 +179,17 @@ def across_tick(place, bottom, text):
 def up_tick(place, text):
     return [box((LEFT - 6, TOP + PLOT - place - 0.5, 6, 1), fill="#333333"),
             words(LEFT - 10, TOP + PLOT - place + 4, text, 12, text_anchor="end")]
+
+
+def frame(left, top, right, bottom, **attributes):
+    """A dashed outline, which is seen also where it has no height."""
+    corners = "M%s %sH%sV%sH%sZ" % tuple(map(number, (left, top, right, bottom, left)))
+    return tag("path", d=corners, fill="none", stroke=GRID_LINE, stroke_width=2, stroke_dasharray="7 4", **attributes)
+
+
+def sample_frame(spot):
+    x, y = spot
+    return frame(x - 12.0, y - 8.0, x + 12.0, y + 8.0)
 
 
 def swatch(colour, line=1.2):

@@ -4,9 +4,10 @@ import os
 from collections import Counter
 
 import survey_file as house
+from grid_points import Grid
 from page import (CHOSEN, HATCH, LEFT, LEGEND, LINE, MARK, NEAR, PAGE_WIDTH, PLAIN, PLOT, ROW, TOP, UNSTORED, across_tick,
-                  along, box, far_colour, ink_on, line_width, mark, mark_radii, sample_mark, swatch, tag, ticks, up_tick,
-                  words)
+                  along, box, far_colour, frame, ink_on, line_width, mark, mark_radii, sample_frame, sample_mark, swatch, tag,
+                  ticks, up_tick, words)
 
 
 class Picture:
@@ -43,7 +44,8 @@ class Picture:
     def text(self):
         legend, legend_height = self.legend()
         height = TOP + max(self.view.height + 62, legend_height + 20)
-        body = self.head() + self.axes() + self.cells() + self.listed_cells() + self.chosen() + self.points() + legend
+        body = self.head() + self.axes() + self.cells() + self.listed_cells() + self.chosen() + self.points()
+        body += self.grid() + legend
         return ('<svg xmlns="http://www.w3.org/2000/svg" width="%d" height="%d" viewBox="0 0 %d %d" '
                 'font-family="DejaVu Sans, Verdana, sans-serif">\n' % (PAGE_WIDTH, height, PAGE_WIDTH, height)
                 + HATCH + box((0, 0, PAGE_WIDTH, height), fill="#ffffff") + "\n" + "\n".join(body) + "\n</svg>\n")
@@ -158,6 +160,13 @@ class Picture:
         leaf = self.listing.leaf_at(key) if key is not None else None
         return leaf is not None and self.view.rect(leaf.key) is not None
 
+    def grid(self):
+        """The outline of a grid of targets, from its first point to its last."""
+        if not isinstance(self.survey.targets, Grid):
+            return []
+        (left, bottom), (right, top) = [self.view.spot(corner) for corner in self.survey.targets.corners()]
+        return [frame(left, top, right, bottom, class_="grid", hint="the grid: %s" % self.survey.targets.text())]
+
     # The legend: entries of a sample and lines of text
 
     def legend(self):
@@ -230,6 +239,9 @@ class Picture:
                    for kind, name in names.items() if self.marks[kind]]
         if any(radius < 0.9 * MARK for radius in self.radii):
             entries.append((None, ["(marks are smaller where readings are dense)"]))
+        if isinstance(self.survey.targets, Grid):
+            shape = " by ".join(map(str, self.survey.targets.shape))
+            entries.append((sample_frame, ["grid of %s, %s" % (some(len(self.survey.targets), "target"), shape)]))
         if self.names.targets:
             entries.append((sample_mark("target"), ["target in a leaf drawn here: %d" % len(self.targets)]))
         return entries

@@ -2,19 +2,21 @@
 
 import array
 import importlib.util
+import math
 import os
 import sys
 from collections import Counter
 
 import survey_file as house
 from command_line import ROOT, number, numbers, whole, words
+from grid_points import Grid, add_grid, check_grid
 from listing_file import Listing, Node, source_keys
 from survey_file import Refused, comma, some
-from table_file import Table, agreed_axes, read_table
+from table_file import GRID, agreed_axes, grid_table, read_table
 
 # options of a CSV alone, with what they are where nothing is said
 OF_CSV = {"columns": None, "target_columns": None, "centre": None, "radius": None, "limit": 64, "order": 1,
-          "keep_empty": False}
+          "grid": None, "keep_empty": False}
 
 
 # Options
@@ -28,6 +30,7 @@ def add_csv_options(parser):
     add("--radius", type=number, metavar="R", help="CSV: half the side of the box")
     add("--limit", type=whole, metavar="N", help="CSV: a cell with more sources is split (64)")
     add("--order", type=whole, metavar="N", help="CSV: order of the expansions, 1 to 64 (1)")
+    add_grid(parser, "CSV: ")
     add("--keep-empty", action="store_true", help="CSV: store cells without sources too")
 
 
@@ -43,6 +46,7 @@ def check_csv_options(parser, options):
         parser.error("--centre and --radius go together")
     if options.target_columns and not options.targets:
         parser.error("--target-columns goes with TARGETS.csv; give that file or leave the option out")
+    check_grid(parser, options)
     for name, usual in OF_CSV.items():
         if getattr(options, name) is None:
             setattr(options, name, usual)
@@ -66,7 +70,8 @@ def read(options):
     """The survey that the options name."""
     with telling("reading %s" % options.readings):
         survey = read_csv(options) if is_csv(options.readings) else read_file(options.readings)
-    survey.name, survey.targets_name = options.readings, options.targets or options.readings
+    survey.name = options.readings
+    survey.targets_name = GRID if isinstance(survey.targets, Grid) else options.targets or options.readings
     return survey
 
 
@@ -82,17 +87,19 @@ def read_file(path):
 
 
 def read_csv(options):
-    axes = len(options.centre) if options.centre else None
+    axes = len(options.centre) if options.centre else options.grid.axes if options.grid else None
     sources = read_table(options.readings, options.columns, axes, "--columns")
-    targets = Table(None, [], [], [], [], [])
+    targets = grid_table(options.grid)
     if options.targets:
         targets = read_table(options.targets, options.target_columns or options.columns, axes, "--target-columns")
     axes = agreed_axes(sources, targets, options.centre)
     survey = Survey(axes, options.keep_empty, options.limit, options.order, options.centre, options.radius, sources.rows,
                     targets.rows)
-    survey.lines, survey.target_lines = sources.lines, targets.lines
+    survey.lines, survey.target_lines = sources.lines, None if options.grid else targets.lines
     tables = [sources, targets] if options.targets else [sources]
     survey.told = told(survey, tables, "as given" if options.centre else "from the extents")
+    if options.grid:
+        survey.told.insert(-2, "--grid: %s; the last axis is the fastest" % options.grid.text())
     return survey
 
 
@@ -117,6 +124,9 @@ def lists_of(survey):
     lohandema = package()
     sources, targets = [rows_of(rows, survey.axes) for rows in (survey.sources, survey.targets)]
     used = {"targets": targets, "order": survey.order} if survey.targets and survey.keep_empty else {}
+    if isinstance(survey.targets, Grid):
+        grid = survey.targets
+        used = {"grid": lohandema.Grid(grid.origin, grid.spacing, grid.shape), "order": survey.order}
     try:
         box = lohandema.Box(survey.centre, survey.radius) if survey.centre else lohandema.Box.around(sources, targets)
         tree = lohandema.Tree.build(sources, box, limit=survey.limit, keep_empty=survey.keep_empty, progress=True, **used)
@@ -203,8 +213,10 @@ def where(survey, refused):
 
 def not_finite(survey):
     """The first row that no box can be put around."""
+    if isinstance(survey.targets, Grid) and not all(map(math.isfinite, survey.targets.corners()[1])):
+        return "--grid: its last coordinates are not finite (%s); give a smaller grid" % comma(survey.targets.corners()[1])
     for name, rows, lines in ((survey.name, survey.sources, survey.lines),
-                              (survey.targets_name, survey.targets, survey.target_lines)):
+                              (survey.targets_name, survey.targets, survey.target_lines or [])):
         for row, line in zip(rows, lines):
             wall = house.wall_of(None, None, row)
             if wall:

@@ -13,6 +13,9 @@ NOT_FINITE = re.compile("nan|inf|infinity", re.IGNORECASE)
 # a header with these names alone has nothing but axes, and no choice is asked for
 PLACE_NAMES = {"x", "y", "z", "east", "north", "up", "easting", "northing", "elevation", "height", "altitude", "depth"}
 
+# the name of a table that is a grid's
+GRID = "--grid"
+
 
 @dataclass
 class Table:
@@ -46,6 +49,14 @@ def read_table(path, asked, axes, option):
     return table
 
 
+def grid_table(grid):
+    """The points of a grid as the rows of a table, whose lines are the numbers of the points; without a grid, no rows."""
+    if grid is None:
+        return Table(None, [], [], [], [], [])
+    columns = range(1, grid.axes + 1)
+    return Table(GRID, list(columns), ["axis %d" % (i - 1) for i in columns], [], grid, range(len(grid)))
+
+
 def agreed_axes(sources, targets, centre):
     """The number of axes, on which sources, targets and the centre of the box, if it is given, must agree."""
     named = [(sources.path, len(sources.columns)), (targets.path, len(targets.columns)), ("--centre", len(centre or ()))]
@@ -54,7 +65,7 @@ def agreed_axes(sources, targets, centre):
         raise Refused("%s: no rows; give the box with --centre and --radius" % sources.path)
     for name, width in widths[1:]:
         if width != widths[0][1]:
-            raise Refused("%s: %s, but %s has %d; make them agree with --columns, --target-columns or --centre"
+            raise Refused("%s: %s, but %s has %d; make them agree with --columns, --target-columns, --grid or --centre"
                           % (name, house.axes_text(width), *widths[0]))
     return widths[0][1]
 

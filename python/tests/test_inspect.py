@@ -112,6 +112,48 @@ class Inspect(unittest.TestCase):
             self.assertEqual((listed.returncode, made.returncode), (0, 0), made.stderr)
             self.assertEqual(self.shapes("a.svg"), self.shapes("b.svg"))
 
+    def test_draw_grid(self):
+        """With a grid the picture has the cells of the listed points, and the outline of the grid; the sample is one."""
+        sample = os.path.join(ROOT, "samples", "three-lines")
+        box = ["--columns=x,y", "--centre=32,32", "--radius=32", "--limit", "4", "--order", "2"]
+        grid = ["--grid", "36,36", "0.5,0.5", "40,24"]
+        rows = [(36 + i * 0.5, 36 + j * 0.5) for i in range(40) for j in range(24)]
+        self.write("t.csv", "x,y\n" + "".join("%r,%r\n" % row for row in rows))
+        for chosen in ([], ["--at=20,30"], ["--targets"]):
+            listed = self.run_tool("draw", sample + ".csv", "t.csv", *box, "--keep-empty", "-o", "a.svg", *chosen)
+            made = self.run_tool("draw", sample + ".csv", *box, *grid, "-o", "b.svg", *chosen)
+            self.assertEqual((listed.returncode, made.returncode), (0, 0), listed.stderr + made.stderr)
+            self.assertIn("grid of 960 targets, 40 by 24", self.read_out("b.svg"))
+            without = [shape for shape in self.shapes("b.svg") if ("stroke-dasharray", "7 4") not in shape[1]]
+            # the legend has one entry more, behind the readings and before the targets
+            self.assertEqual(len(self.shapes("b.svg")), len(without) + 2)
+            if not chosen:
+                self.assertEqual(without, self.shapes("a.svg"))
+                self.assertEqual(self.read_out("b.svg"), read("samples", "three-lines-grid.svg"))
+        told = self.inspect(sample + ".csv", *box, *grid)
+        self.assertIn("61 readings, 960 targets\n", told.stdout)
+        self.assertIn("--grid: origin 36.0,36.0, spacing 0.5,0.5, shape 40,24; the last axis is the fastest\n", told.stdout)
+        self.assertIn("near work: 20032, the targets of each leaf", told.stdout)
+
+    def test_bad_grid(self):
+        sample = os.path.join(ROOT, "samples", "three-lines")
+        box = ["--columns=x,y", "--centre=32,32", "--radius=32"]
+        self.refused("--grid: target or looked-up point 4096 lies above the box on axis 0", sample + ".csv", *box, "--grid",
+                     "0,0", "1,1", "65,64")
+        self.refused("--grid: its last coordinates are not finite (inf,0.0); give a smaller grid", sample + ".csv",
+                     "--columns=x,y", "--grid", "0,0", "1.7e308,1", "3,1")
+        for said, words in (("leave out --grid, or give readings whose name ends in .csv", [sample + ".survey"]),
+                            ("--grid and t.csv both give targets", [sample + ".csv", "t.csv"])):
+            result = self.inspect(*words, "--grid", "0,0", "1,1", "2,2")
+            self.assertEqual((result.returncode, result.stdout), (2, ""))
+            self.assertIn(said, result.stderr)
+        many = self.run_tool("draw", sample + ".csv", *box, "--grid", "0,0", "0.1,0.1", "400,400", "--targets", "-o", "a.svg")
+        self.assertIn("--grid: 160000 targets, but at most 100000 are drawn; leave out --targets", many.stderr)
+
+    def read_out(self, name):
+        with open(self.path(name), encoding="utf-8") as file:
+            return file.read()
+
     def test_draw_large(self):
         made = random.Random(10)
         self.write("a.csv", "x,y,z\n" + "".join("%.3f,%.3f,%.3f\n" % tuple(made.gauss(0, 9) for _ in range(3))

@@ -53,6 +53,48 @@ class MakeSurvey(ToolTest):
             self.done("make-survey", "--as-is", "s.csv", "t.csv", *options, "-o", "again")
             self.assertEqual(self.read("again"), self.read("in"))
 
+    def test_grid(self):
+        """A grid makes the file of its listed points, the last axis fastest, with cells without sources kept."""
+        self.write("a.csv", "1,-2.5\n3,4\n")
+        points = [(-1.5 + i * 0.1, 0.5 + j * 0.25) for i in range(3) for j in range(4)]
+        self.write("t.csv", "".join("%r,%r\n" % row for row in points))
+        for box in ([], ["--centre=0,0", "--radius=8"]):
+            told = self.done("make-survey", "a.csv", "--grid", "-1.5,0.5", "0.1,0.25", "3,4", *box, "-o", "grid")
+            self.done("make-survey", "a.csv", "t.csv", "--keep-empty", *box, "-o", "listed")
+            self.assertEqual(self.read("grid"), self.read("listed"))
+        self.assertIn("grid: 2 sources, 12 targets\n", told)
+        self.assertIn("--grid: origin -1.5,0.5, spacing 0.1,0.25, shape 3,4; the last axis is the fastest\n", told)
+        self.assertIn("cells without sources kept\n", told)
+        self.assertNotIn("warning", told)
+
+    def test_grid_refused(self):
+        self.write("a.csv", "1,-2.5\n3,4\n")
+        box = ["--centre=0,0", "--radius=8"]
+        for message, *words in (
+                ("a.csv: with the 2046 points of --grid 2048 rows make 32832 bytes; a survey file has at most 32768, which is "
+                 "2044 rows of 2 axes: take a coarser grid, or give the CSV and the same --grid to draw or inspect",
+                 "--grid", "0,0", "1e-3,1e-3", "2046,1"),
+                ("--grid: point 4, 0.0,8.0, lies above the box on axis 1, both counted from 0; give a smaller grid, or a "
+                 "larger box with --centre and --radius", "--grid", "0,4", "1,1", "2,9", *box),
+                ("--grid: 1 axis, but a.csv has 2; make them agree", "--grid", "0", "1", "4"),
+                ("--grid: the shape 0 on axis 1, counted from 0, has no point; give 1 or more", "--grid", "0,0", "1,1", "4,0"),
+                ("--grid: the spacing 0.0 on axis 0, counted from 0, is not finite and above 0", "--grid", "0,0", "0,1", "1,1"),
+                ("--grid: the spacing -1.0 on axis 1", "--grid", "0,0", "1,-1", "1,1"),
+                ("--grid: the spacing inf on axis 1", "--grid", "0,0", "1,inf", "1,1"),
+                ("--grid: the origin -inf on axis 0, counted from 0, is not finite", "--grid", "-inf,0", "1,1", "1,1"),
+                ("--grid: 1048577 points, but a build takes at most 1048576; give a coarser grid", "--grid", "0,0", "1,1",
+                 "1048577,1"),
+                ("--grid: 2, 1 and 2 numbers; give origin, spacing and shape one number an axis each", "--grid", "0,0", "1",
+                 "1,1"),
+                ("--grid: 'x' is not a number", "--grid", "x,0", "1,1", "1,1"),
+                ("--grid: '1.5' is not a whole number", "--grid", "0,0", "1,1", "1.5,1"),
+                ("expected 3 arguments", "--grid", "0,0", "1,1"),
+                ("--grid stands twice", "--grid", "0,0", "1,1", "1,1", "--grid", "0,0", "1,1", "1,1"),
+                ("--grid and t.csv both give targets; leave one of them out", "t.csv", "--grid", "0,0", "1,1", "1,1")):
+            self.refused(message, "make-survey", "a.csv", *words, "-o", "out")
+        self.refused("--csv writes a survey file as it is, without --grid; leave that out", "make-survey", "--csv", "a",
+                     "--grid", "0", "1", "1", "-o", "out")
+
     def test_csv_forms(self):
         self.write("plain.csv", "1,-2.5\n3,4e0\n")
         self.write("odd.csv", "\ufeff# a note\r\n\r\n East , north\r\n +1.0 ,-25e-1\r\n  # more\r\n3., 4")
