@@ -38,10 +38,11 @@ static void build_tree(void)
                                 order, points, key, NODES, own, NODES, begin, NODES, total, NODES, &nodes, &depth);
 }
 
+/* A grid of 1,000 to 900,000 points, so close together that cells split on its account down to level 16. */
 static void build_tree_on_grid(void)
 {
-    const double origin[3] = {0.0, 0.0, 0.0}, spacing[3] = {1.0, 1.0, 1.0};
-    const size_t shape[3] = {4, 4, 4};
+    const double origin[3] = {20.0, 20.0, 20.0}, spacing[3] = {1e-5, 1e-5, 1e-5};
+    const size_t shape[3] = {1000, 30, 30};
     uint64_t depth;
     last = lohandema_build_tree_on_grid(BOX, sources, axes * points, origin, spacing, shape, limit, 1, true, true, work,
                                         2 * POINTS, order, points, key, NODES, own, NODES, begin, NODES, total, NODES,
