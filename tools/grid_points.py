@@ -51,8 +51,8 @@ class Grid:
                 return "the spacing %r on axis %d, counted from 0, is not finite and above 0; give one that is" % (step, axis)
             if count < 1:
                 return "the shape 0 on axis %d, counted from 0, has no point; give 1 or more" % axis
-        if len(self) > MOST_POINTS:
-            return "%d points, but a build takes at most %d; give a coarser grid" % (len(self), MOST_POINTS)
+        if math.prod(self.shape) > MOST_POINTS:
+            return "%d points, but a build takes at most %d; give a coarser grid" % (math.prod(self.shape), MOST_POINTS)
         return None
 
 

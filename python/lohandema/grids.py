@@ -80,8 +80,9 @@ class Grid:
         if self.rows > MOST_POINTS:
             raise ValueError("the grid has %d points, and a call takes at most %d: take a coarser grid, or list it in parts"
                              % (self.rows, MOST_POINTS))
+        shape = self.shape if self.rows else [0] * self.axes
         lines = [[first + i * step for i in range(count)]
-                 for first, step, count in zip(self.origin, self.spacing, self.shape)]
+                 for first, step, count in zip(self.origin, self.spacing, shape)]
         if numpy:
             across = numpy.meshgrid(*map(numpy.array, lines), indexing="ij")
             return numpy.stack([one.ravel() for one in across], axis=1).astype(float, copy=False)

@@ -312,9 +312,10 @@ class Tree:
 
     def near_work(self, targets=None, *, with_counts=False, progress=False):
         """Near work: the sum over leaves of the targets in the leaf times the sources in its U row, which is how many pairs of
-        a target and a source are summed singly. Where no targets are given the sources serve as targets. With with_counts
-        also how many targets each node has; only leaves have any. No list is needed. Raises Refused for the first target that
-        is outside the box, 7 POINT, or in no leaf, 12 UNSTORED.
+        a target and a source are summed singly. Where no targets are given, or an empty array, the sources serve as targets.
+        The points of a Grid are given as grid.points(). With with_counts also how many targets each node has; only leaves
+        have any. No list is needed. Raises Refused for the first target that is outside the box, 7 POINT, or in no leaf, 12
+        UNSTORED.
 
         >>> tree = Tree.build([[0.5], [1.5], [6.5], [7.5]], Box([4.0], 4.0), limit=1)
         >>> tree.near_work(), tree.near_work([[0.5], [0.7], [7.9]])
@@ -322,6 +323,8 @@ class Tree:
         >>> tree.near_work([[0.5]], with_counts=True)[1].tolist()
         [0, 0, 0, 1, 0, 0, 0, 0, 0]
         """
+        if isinstance(targets, Grid):
+            raise TypeError("targets is a Grid, which is counted by a build alone: give its points, as grid.points() lists them")
         aims = Points([] if targets is None else targets, self.box.axes, "targets")
         counts, work = column(len(self)), ctypes.c_uint64()
         lent = Lent(memoryview(counts))

@@ -99,6 +99,9 @@ class Grids(unittest.TestCase):
         self.refused(ValueError, "shape[0] is -1", Grid, [1.0], [1.0], [-1])
         self.refused(TypeError, "origin is of type float", Grid, 1.0, [1.0], [2])
         self.refused(AttributeError, "a grid does not change", setattr, grid, "shape", (3,))
+        tree = build([[1.0]], Box([1.0], 4.0), limit=1)
+        self.refused(TypeError, "give its points, as grid.points() lists them", tree.near_work, grid)
+        self.assertEqual(len(Grid([0.0, 0.0], [1.0, 1.0], [2**40, 0]).points()), 0)
 
     def test_kept(self):
         grid = Grid([1.0, 0.5], [2.0, 0.25], [2, 3])

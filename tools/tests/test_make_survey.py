@@ -84,6 +84,8 @@ class MakeSurvey(ToolTest):
                 ("--grid: the origin -inf on axis 0, counted from 0, is not finite", "--grid", "-inf,0", "1,1", "1,1"),
                 ("--grid: 1048577 points, but a build takes at most 1048576; give a coarser grid", "--grid", "0,0", "1,1",
                  "1048577,1"),
+                ("--grid: 18446744065119617025 points, but a build takes at most 1048576", "--grid", "0,0", "1,1",
+                 "4294967295,4294967295"),
                 ("--grid: 2, 1 and 2 numbers; give origin, spacing and shape one number an axis each", "--grid", "0,0", "1",
                  "1,1"),
                 ("--grid: 'x' is not a number", "--grid", "x,0", "1,1", "1,1"),
