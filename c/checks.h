@@ -52,6 +52,7 @@ void test_points(void);
 void test_build(void);
 void test_grids(void);
 void test_trees(void);
+void test_nodes(void);
 void test_near_work(void);
 void test_totals(void);
 void test_order(void);

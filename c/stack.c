@@ -59,6 +59,22 @@ static void depth_of(void)
     lohandema_depth_of(key, nodes);
 }
 
+static void find_node(void)
+{
+    size_t node;
+    last.number = lohandema_find_node(axes, key, nodes, key[nodes / 2], &node) && node == nodes / 2 ? 0 : 99;
+}
+
+static void is_leaf(void)
+{
+    last.number = lohandema_is_leaf(key, nodes, nodes - 1) ? 0 : 99;
+}
+
+static void next_of_level(void)
+{
+    last.number = lohandema_next_of_level(key, nodes, 16 + 1, 0) == nodes ? 0 : 99;
+}
+
 static void leaf_sources(void)
 {
     size_t start;
@@ -243,6 +259,9 @@ static struct {
     {"build_tree", build_tree, 48 * KIB, 0},
     {"is_well_formed", is_well_formed, 8 * KIB, 0},
     {"depth_of", depth_of, 8 * KIB, 0},
+    {"find_node", find_node, 8 * KIB, 0},
+    {"is_leaf", is_leaf, 8 * KIB, 0},
+    {"next_of_level", next_of_level, 8 * KIB, 0},
     {"leaf_sources", leaf_sources, 8 * KIB, 0},
     {"cell_sources", cell_sources, 8 * KIB, 0},
     {"points_to_keys", points_to_keys, LOHANDEMA_STACK_POINTS_TO_KEYS, 0},

@@ -95,6 +95,7 @@ int main(void)
     test_build();
     test_grids();
     test_trees();
+    test_nodes();
     test_near_work();
     test_totals();
     test_order();

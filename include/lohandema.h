@@ -324,6 +324,19 @@ bool lohandema_is_well_formed(size_t axes, const uint64_t *key, size_t key_len, 
 /* The greatest level of any node, at least 1; 1 for an empty column. For any column, and never refused. */
 uint64_t lohandema_depth_of(const uint64_t *key, size_t key_len);
 
+/* Whether a node has the key wanted; node: its number, 0 where none is found. It is found by halving: in a tree whenever there is
+ * one; in a column that is none, a number that is answered still has that key. False for axes other than 1 to 3. Never refused. */
+bool lohandema_find_node(size_t axes, const uint64_t *key, size_t key_len, uint64_t wanted, size_t *node);
+
+/* Whether a node is a leaf: not the first, and no deeper one stands right behind it. False for a number past the column. For any
+ * column, and never refused. */
+bool lohandema_is_leaf(const uint64_t *key, size_t key_len, size_t node);
+
+/* The first node of a level, from the number from on; key_len where there is none. So all nodes of a level, ascending, are
+ *   for (n = lohandema_next_of_level(key, N, level, 0); n < N; n = lohandema_next_of_level(key, N, level, n + 1))
+ * For any column, and never refused. */
+size_t lohandema_next_of_level(const uint64_t *key, size_t key_len, uint64_t level, size_t from);
+
 /* A node's own part of the order column, which is that of a leaf: own[node] entries from begin[node] on. Answers how many
  * entries it has, and start, where they start. The part is empty where the node is past own or begin, or begin plus own passes
  * the order column's end; an empty part has start 0. For any columns, and never refused. */

@@ -14,6 +14,7 @@ mod random;
 mod refusals;
 mod renumbered;
 mod runs;
+mod swapped;
 mod tally;
 mod totals;
 mod trees;
@@ -72,6 +73,7 @@ const KINDS: &[Kind] = &[
     ("grid", 6_000, grids::grid),
     ("renumbered", 3_000, renumbered::renumbered),
     ("cell-sources", 3_000, runs::cell_sources),
+    ("swapped", 3_000, swapped::swapped),
     ("lookup", 3_000, trees::lookup),
     ("lookup-many", 1, trees::lookup_many),
     ("grouping", 2_000, trees::grouping),

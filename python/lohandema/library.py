@@ -44,6 +44,9 @@ lohandema_ended lohandema_build_tree_on_grid(BOX, const double *sources, size_t 
     size_t *begin, size_t begin_len, size_t *total, size_t total_len, size_t *nodes, uint64_t *depth);
 bool lohandema_is_well_formed(size_t axes, TREE);
 uint64_t lohandema_depth_of(const uint64_t *key, size_t key_len);
+bool lohandema_find_node(size_t axes, const uint64_t *key, size_t key_len, uint64_t wanted, size_t *node);
+bool lohandema_is_leaf(const uint64_t *key, size_t key_len, size_t node);
+size_t lohandema_next_of_level(const uint64_t *key, size_t key_len, uint64_t level, size_t from);
 size_t lohandema_leaf_sources(const size_t *own, size_t own_len, const size_t *begin, size_t begin_len,
     const size_t *order, size_t order_len, size_t node, size_t *start);
 size_t lohandema_cell_sources(const size_t *total, size_t total_len, const size_t *begin, size_t begin_len,

@@ -6,6 +6,7 @@ from . import room
 from .arrays import Lent, Points, column, cut, flag, numpy, packed, shown, three, whole, wholes
 from .boxes import Box
 from .grids import Grid
+from .keys import children as children_of
 from .library import call, library
 from .progress import telling
 from .refusal import Refused
@@ -171,6 +172,44 @@ class Tree:
             return 1 + numpy.flatnonzero(numpy.append(levels[1:], 0)[1:] <= levels[1:])
         return packed(n for n in range(1, len(self)) if n + 1 == len(self) or levels[n + 1] <= levels[n])
 
+    def is_leaf(self, node=None, *, key=None):
+        """Whether a node is a leaf: not the root, and no child of it is stored.
+
+        >>> tree = Tree.build([[0.5], [7.5]], Box([4.0], 4.0), limit=1)
+        >>> tree.is_leaf(0), tree.is_leaf(key=32769)
+        (False, True)
+        """
+        return library.lohandema_is_leaf(*self._words("key"), self._node(node, key))
+
+    def children(self, node=None, *, key=None):
+        """The numbers of a node's stored children, ascending.
+
+        >>> tree = Tree.build([[0.5], [1.5], [7.5]], Box([4.0], 4.0), limit=1)
+        >>> tree.children(0), tree.children(key=2), tree.children(5)
+        ([1, 5], [3, 4], [])
+        """
+        number = self._node(node, key)
+        if self.is_leaf(number):
+            return []
+        found, below = ctypes.c_size_t(), children_of(self.box.axes, int(self.key[number]) % 2 ** 64)
+        return [found.value for child in below
+                if library.lohandema_find_node(self.box.axes, *self._words("key"), child, ctypes.byref(found))]
+
+    def level_nodes(self, level):
+        """The numbers of the nodes of a level, ascending.
+
+        >>> tree = Tree.build([[0.5], [1.5], [7.5]], Box([4.0], 4.0), limit=1)
+        >>> [tree.level_nodes(level) for level in range(tree.depth + 1)]
+        [[0], [1, 5], [2], [3, 4]]
+        """
+        level, found, node = whole(level, "level"), [], 0
+        while True:
+            node = library.lohandema_next_of_level(*self._words("key"), level, node)
+            if node == len(self):
+                return found
+            found.append(node)
+            node += 1
+
     def levels(self):
         """The level of each node."""
         return self.key & 32767 if numpy else packed(key & 32767 for key in self.key)
@@ -213,10 +252,10 @@ class Tree:
         >>> Tree.build([[0.5], [7.5]], Box([4.0], 4.0), limit=1).node_of(32769)
         2
         """
-        wanted = whole(key, "key")
-        if numpy:
-            return int(self.nodes_of(numpy.array([wanted], dtype=numpy.uint64))[0])
-        return self.nodes_of([wanted])[0]
+        wanted, node = whole(key, "key"), ctypes.c_size_t()
+        if not library.lohandema_find_node(self.box.axes, *self._words("key"), wanted, ctypes.byref(node)):
+            raise KeyError("no node has the key %d" % wanted)
+        return node.value
 
     def nodes_of(self, keys):
         """The numbers of the nodes with these keys, as those of a row; KeyError with the first that no node has."""

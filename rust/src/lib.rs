@@ -9,13 +9,15 @@
 //! first.
 //!
 //! The calls are proved functions, linked as a static archive. This crate, which is tested and not proved, adds types,
-//! slices and vectors; it works out only how much room to lend and which nodes are nobody's parent. Modules:
+//! slices and vectors; it works out only how much room to lend. Modules:
 //!
 //! - [`keys`]: level, parent, children, neighbours, touching, encode and decode.
 //! - [`points`]: the box, a point's cell, the float test of two cells.
-//! - [`trees`]: a tree, its leaves, the sources of a cell, lookup, grouping, sourced cells, lists, the sums of a leaf.
+//! - [`trees`]: a tree, its leaves, children and levels, the sources of a cell, lookup, grouping, sourced cells, lists, the
+//!   sums of a leaf.
 //! - [`lent`]: the calls that write, on slices of the caller's own: nothing is allocated.
 //! - [`limits`]: how much the calls take.
+//! - [`ferreus`]: tree and lists in the sets and maps of `ferreus_bbfmm`, for those who come from there.
 //!
 //! ```
 //! use lohandema::{Asked, Bounds, Tree};
@@ -65,9 +67,11 @@ compile_error!(
 #[doc = include_str!("../README.md")]
 struct Readme;
 
+pub mod ferreus;
 pub mod keys;
 pub mod lent;
 pub mod limits;
+mod nodes;
 pub mod points;
 mod raw;
 mod refusal;

@@ -113,6 +113,20 @@ unsafe extern "C" {
         total_len: usize,
     ) -> bool;
     pub fn lohandema_depth_of(key: *const u64, key_len: usize) -> u64;
+    pub fn lohandema_find_node(
+        axes: usize,
+        key: *const u64,
+        key_len: usize,
+        wanted: u64,
+        node: *mut usize,
+    ) -> bool;
+    pub fn lohandema_is_leaf(key: *const u64, key_len: usize, node: usize) -> bool;
+    pub fn lohandema_next_of_level(
+        key: *const u64,
+        key_len: usize,
+        level: u64,
+        from: usize,
+    ) -> usize;
     pub fn lohandema_leaf_sources(
         own: *const usize,
         own_len: usize,

@@ -260,15 +260,13 @@ impl Tree {
         Ok(self.leaf_numbers()?.into_iter().map(leaf))
     }
 
-    /// The nodes that are nobody's parent, without the root. A node's first child stands right behind it.
+    /// The leaves by number.
     fn leaf_numbers(&self) -> Result<Vec<usize>, Refusal> {
         if !self.is_well_formed() {
             keys::get_level(self.axes(), 0)?;
             return Err(Refusal::new(Refusal::TREE, 0));
         }
-        let level = |node: usize| self.key.get(node).map_or(0, |key| key % 32768);
-        let is_leaf = |node: &usize| level(node + 1) <= level(*node);
-        Ok((1..self.key.len()).filter(is_leaf).collect())
+        Ok((0..self.key.len()).filter(|n| self.is_leaf(*n)).collect())
     }
 
     /// The key of the leaf that holds one point, and the steps climbed to it. Each call checks the whole tree first; for
