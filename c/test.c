@@ -96,6 +96,7 @@ int main(void)
     test_grids();
     test_trees();
     test_nodes();
+    test_room();
     test_near_work();
     test_totals();
     test_order();

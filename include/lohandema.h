@@ -283,6 +283,38 @@ lohandema_ended lohandema_reference_depth(size_t axes, size_t sources, uint64_t 
  * Pass the columns cut to N entries: zeros behind the nodes are no tree. A wrong total is refused 13, as any other column that
  * is wrong; so are nodes in another order, as those by level that version 0.2 wrote: build such a tree anew. */
 
+/* Room for nodes that is enough for a build: the most nodes that a tree of so many points can have, so that one call will do;
+ * more than LOHANDEMA_MOST_NODES never count. targets: those that are used, 0 without. Worked out and not proved; c/test tries it.
+ * A cell that splits, the root apart, has more sources than the limit or more targets than the near limit, so that a level has
+ * only so many of them. Each has at most 2^axes children, and without empty cells each child has a source. */
+static inline size_t lohandema_most_nodes(size_t axes, size_t sources, size_t targets, size_t limit, size_t order,
+                                          bool keep_empty)
+{
+    size_t near_limit = order, split = 1, children;
+    if (axes < 1 || axes > LOHANDEMA_MOST_AXES)
+        return 0;
+    if (sources > LOHANDEMA_MOST_POINTS)
+        sources = LOHANDEMA_MOST_POINTS;
+    if (targets > LOHANDEMA_MOST_POINTS)
+        targets = LOHANDEMA_MOST_POINTS;
+    if (limit > LOHANDEMA_MOST_POINTS)
+        limit = LOHANDEMA_MOST_POINTS;
+    if (near_limit > LOHANDEMA_MOST_ORDER)
+        near_limit = LOHANDEMA_MOST_ORDER;
+    for (size_t axis = 1; axis < axes; axis++)
+        near_limit *= order > LOHANDEMA_MOST_ORDER ? LOHANDEMA_MOST_ORDER : order;
+    if (near_limit < limit)
+        near_limit = limit;
+    for (size_t level = 1; level < LOHANDEMA_LEVELS; level++) {
+        size_t splitting = sources / (limit + 1) + targets / (near_limit + 1), cells = (size_t)1 << axes * level;
+        split += splitting < cells ? splitting : cells;
+    }
+    children = split << axes;
+    if (!keep_empty && children > LOHANDEMA_LEVELS * sources)
+        children = LOHANDEMA_LEVELS * sources;
+    return children < LOHANDEMA_MOST_NODES ? 1 + children : LOHANDEMA_MOST_NODES;
+}
+
 /* Builds the tree of the sources into key, own, begin and total, and its order column into indices; answers nodes, N, and
  * depth, the greatest level of a node, at least 1.
  *   sources, targets  coordinates, point after point; the lengths count coordinates
@@ -293,7 +325,7 @@ lohandema_ended lohandema_reference_depth(size_t axes, size_t sources, uint64_t 
  *   work              two entries a source and one a used target
  *   indices           one entry a source
  *   key, own, begin,  one entry a node each. The shortest of the four counts, at most 1,048,576 of its entries. N is not known
- *   total             before: on 8 with value 3 lend longer ones and call again.
+ *   total             before: lend lohandema_most_nodes (above), or on 8 with value 3 lend longer ones and call again.
  * Refused 1, 2, 3 (sources, then targets), 4 (likewise), 5, 6, 7, 8 (1 work, 2 indices, 3 key, own, begin or total). */
 lohandema_ended lohandema_build_tree(const double centre[3], double radius, size_t axes, const double *sources,
                                      size_t sources_len, const double *targets, size_t targets_len, size_t limit,

@@ -45,6 +45,23 @@ pub(crate) fn most_nodes(asked: &Asked) -> usize {
     most_nodes_with(asked, targets(asked))
 }
 
+impl Asked<'_> {
+    /// Room for nodes that is enough for [`lent::build_tree`](crate::lent::build_tree): the most nodes that a tree of so many
+    /// points can have, whatever lies where. Worked out and not proved; [`Tree::build`] makes so much.
+    ///
+    /// ```
+    /// use lohandema::{Asked, Bounds, Tree};
+    /// let bounds = Bounds::new(&[4.0], 4.0);
+    /// let asked = Asked::new(&bounds, &[0.5, 1.5, 6.5, 7.5], 1);
+    /// assert_eq!((asked.most_nodes(), Tree::build(asked)?.key.len()), (63, 9));
+    /// # Ok::<(), lohandema::Refusal>(())
+    /// ```
+    #[must_use]
+    pub fn most_nodes(&self) -> usize {
+        most_nodes(self)
+    }
+}
+
 /// The same with so many targets.
 pub(crate) fn most_nodes_with(asked: &Asked, targets: usize) -> usize {
     let axes = asked.bounds.axes.clamp(1, 3);
