@@ -38,7 +38,7 @@ const NODES_A_POINT_IN_BLOCKS: usize = 5;
 const LITTLE_ROOM: usize = 768;
 
 // So many codes at most are looked up to see how close the table leads.
-const PROBES: usize = 64;
+pub const PROBES: usize = 64;
 
 // How a table is read. Blocks lie so deep in each other, and an eighth of the run of a block's word has 2^low codes: those numbers
 // stand in the plan, 6 bits each, the first blocks' lowest. Nodes are counted by 2^unit. From the table's number to the node it is
@@ -691,8 +691,9 @@ fn fewest_steps(counts: &[usize; 64], probes: usize) -> u64 {
     steps
 }
 
-// The table for a look-up of so many points, read with the fewest steps that do for the first n codes.
-fn ready(
+// Fills the table for a look-up of so many points, of which the first n codes are some, and says how to read it: with the fewest
+// steps that do for these codes.
+pub fn prepare_for(
     axes: usize,
     key: &[u64],
     points: usize,
@@ -713,7 +714,7 @@ fn ready(
     }
 }
 
-// Fills the table for a look-up of the first n codes, and says how to read it.
+// The same for a look-up of the first n codes.
 pub fn prepare(
     axes: usize,
     key: &[u64],
@@ -723,33 +724,5 @@ pub fn prepare(
 ) -> Blocks
     requires { ⌜ (axes ≤ 3) × (n ≤ length (now codes)) × (n ≤ 1048576) ⌝ }
 {
-    ready(axes, key, n, codes, n, words)
-}
-
-// Puts the first codes of some nodes, one after the other at equal distances; answers how many.
-fn some_firsts(axes: usize, key: &[u64], codes: &mut [u64]) -> usize
-    requires { ⌜ (axes ≤ 3) × (length (now codes) ≡ 64) ⌝ }
-    ensures { λ r. ⌜ (r ≤ 64) × (length (now (codes .exit)) ≡ 64) ⌝ }
-{
-    let far = key.len() / PROBES;
-    let mut node: usize = 0;
-    let mut n: usize = 0;
-    while n < PROBES {
-        if key.len() <= node {
-            return n;
-        }
-        codes[n] = first_of(axes, key[node]);
-        node = std::num::wrapping_add_usize(node, far);
-        n += 1;
-    }
-    n
-}
-
-// The same for a look-up of so many points whose codes are not at hand: those of some nodes stand for them.
-pub fn prepare_for(axes: usize, key: &[u64], points: usize, words: &mut [u64; WORDS]) -> Blocks
-    requires { ⌜ axes ≤ 3 ⌝ }
-{
-    let mut codes = [0u64; PROBES];
-    let n = some_firsts(axes, key, &mut codes);
-    ready(axes, key, points, &codes, n, words)
+    prepare_for(axes, key, n, codes, n, words)
 }

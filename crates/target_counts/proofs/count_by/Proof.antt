@@ -1,99 +1,90 @@
 -- `target_counts::count_by` meets its contract.
-use Rattle.space.specs.Walls.{firstWall}
-use native.Mathlib.Omega.{arith}
 use mathlib.Core.Path.{_≡_, refl, sym, ap, _∙_, subst}
 use Prim.Native.Nat.{_+_, _-_, _*_, _/_, _≤_}
+use native.Mathlib.Omega.{arith}
 use denote.Ref.{now}
-use lib.ListN.{length, getD, drop, set, length-set}
-use Rattle.morton.proofs.Checks.{axes-facts}
-use Rattle.space.specs.Cells.{frameOf, pointCode}
-use Rattle.space.proofs.Points.{placed-in, placed-out}
-use Rattle.target_counts.proofs.Targets.{Counting, counting-start, row-there, node-in, node-room, node-small, counting-more, counting-unstored, counting-outside, counting-done, counting-all, rows-small, not-done}
+use lib.ListN.{length, drop}
+use Rattle.space.specs.Walls.{firstWall}
+use Rattle.space.specs.Cells.{frameOf}
+use Rattle.space.proofs.Batches.{rows-fit}
+use Rattle.target_counts.specs.Pieces.{Piece}
+use Rattle.target_counts.proofs.Targets.{Counting, counting-start, few-counts, counting-more, counting-unstored, counting-outside, counting-done, counting-all, rows-small, row-at, not-done}
 use borrow.Author.Needs.{needs}
 use Rattle.target_counts.proofs.count_by.Statement.{statement}
 use Rattle.target_counts.proofs.count_by.Tie as tie
+use Rattle.target_counts.proofs.count_by.Reads as reads
+use Rattle.target_counts.proofs.count_by.Lts as lts
+use Rattle.space.proofs.frame_of.Reads as frame-of-reads
+use Rattle.space.proofs.wall_of.Reads as wall-of-reads
+use Rattle.target_counts.proofs.code_rows.Reads as code-rows-reads
+use Rattle.target_counts.proofs.count_codes.Reads as count-codes-reads
 
 abbrev Inv-loop : tie.InvT-loop
-Inv-loop key words blocks targets counts₀ f axes rows row₀ at₀ counts row at = Counting f rows key targets counts row at × (length counts ≡ length counts₀)
+Inv-loop key words blocks targets codes₀ counts₀ f axes rows row₀ codes counts row = Counting f rows key targets counts row × (length counts ≡ length counts₀) × (length codes ≡ 512)
 
 abbrev μ-loop : tie.MeasureT-loop
-μ-loop key words blocks targets counts₀ f axes rows row₀ at₀ counts row at = rows - row
+μ-loop key words blocks targets codes₀ counts₀ f axes rows row₀ codes counts row = rows - row
 
 frame-of-requires : tie.Need-frame-of-requires Inv-loop μ-loop
 frame-of-requires c κs = search needs
 
 div-rows : tie.Need-div-rows Inv-loop μ-loop
-div-rows c = omega (arith, c .before .before .before .before .pre .0 .0)
+div-rows c = let p = c .before .before .before .before .before .pre in omega (arith, p .1 .0 .0)
 
 loop-holds : tie.Need-loop-holds Inv-loop μ-loop
-loop-holds c = let p = c .before .before .before .before .pre in let a = c .before .before .before .before .args in (subst (λ f. Counting f (length (now (a .targets)) / a .b .axes) (now (a .key)) (now (a .targets)) (now (a .counts)) 0 0) (sym (c .frame-of .ensures)) (counting-start (a .b) (now (a .key)) (now (a .targets)) (now (a .counts)) (p .1 .0) (p .1 .1)), refl)
+loop-holds c = let a = c .before .before .before .before .before .args in let p = c .before .before .before .before .before .pre in let F = c .frame-of .ensures in let e = ap (λ f. f .axes) F in (subst (λ f. Counting f (length (now (a .targets)) / a .b .axes) (now (a .key)) (now (a .targets)) (now (a .counts)) 0) (sym F) (counting-start (a .b) (now (a .key)) (now (a .targets)) (now (a .counts)) (p .1 .1 .0) (p .1 .1 .1)), refl, p .0)
 
-code-at-requires : tie.Need-code-at-requires Inv-loop μ-loop
-code-at-requires c κs = let p = c .before .before .before .before .before .before .pre in let a = c .before .before .before .before .before .before .args in let F = c .before .before .frame-of .ensures in let inv = subst (λ f. Counting f (length (now (a .targets)) / a .b .axes) (now (a .key)) (now (a .targets)) (c .before .loop .counts) (c .before .loop .row) (c .before .loop .at)) F (c .before .loop .inv .0) in let l = c .loop-test .taken in let e = ap (λ f. f .axes) F in (omega (arith, e, p .0 .0), omega (arith, e, p .0 .1), omega (arith, e, row-there (a .b) (now (a .key)) (now (a .targets)) (c .before .loop .counts) (c .before .loop .row) (c .before .loop .at) inv l))
+code-rows-requires : tie.Need-code-rows-requires Inv-loop μ-loop
+code-rows-requires c κs = let a = c .before .before .before .before .before .before .before .before .args in let p = c .before .before .before .before .before .before .before .before .pre in let F = c .before .before .before .frame-of .ensures in let e = ap (λ f. f .axes) F in (omega (arith, e, p .1 .0 .0), omega (arith, e, p .1 .0 .1), c .before .loop-test .taken, p .1 .0 .3, subst (λ k. (length (now (a .targets)) / a .b .axes) * k ≤ length (now (a .targets))) (sym e) (rows-fit (a .b .axes) (length (now (a .targets)))), c .before .before .loop .inv .2)
 
-enum-known-code : tie.Need-enum-known-code Inv-loop μ-loop
-enum-known-code c = search needs
-
-hint-of-requires : tie.Need-hint-of-requires Inv-loop μ-loop
-hint-of-requires c κs = c .before .before .before .before .before .before .before .before .before .before .pre .0 .1
-
-leaf-from-requires : tie.Need-leaf-from-requires Inv-loop μ-loop
-leaf-from-requires c κs = c .before .before .before .before .before .before .before .before .before .before .before .pre .0 .2
-
-enum-known-leaf : tie.Need-enum-known-leaf Inv-loop μ-loop
-enum-known-leaf c = search needs
-
-mul-counts : tie.Need-mul-counts Inv-loop μ-loop
-mul-counts c = let p = c .before .before .before .before .before .before .before .before .before .before .before .before .before .before .before .pre in let a = c .before .before .before .before .before .before .before .before .before .before .before .before .before .before .before .args in let F = c .before .before .before .before .before .before .before .before .before .before .before .frame-of .ensures in let inv = subst (λ f. Counting f (length (now (a .targets)) / a .b .axes) (now (a .key)) (now (a .targets)) (c .before .before .before .before .before .before .before .before .before .before .loop .counts) (c .before .before .before .before .before .before .before .before .before .before .loop .row) (c .before .before .before .before .before .before .before .before .before .before .loop .at)) F (c .before .before .before .before .before .before .before .before .before .before .loop .inv .0) in let l = c .before .before .before .before .before .before .before .before .before .loop-test .taken in let g = placed-in (frameOf (a .b)) (drop (c .before .before .before .before .before .before .before .before .before .before .loop .at) (now (a .targets))) (c .before .before .before .before .before .before .code .given .0 .0) (sym (c .before .before .before .before .before .before .before .before .code-at .ensures ∙ ap (λ f. pointCode f (drop (c .before .before .before .before .before .before .before .before .before .before .loop .at) (now (a .targets)))) F) ∙ c .before .before .before .before .before .before .code .given .1) in omega (arith, node-in (a .b) (now (a .key)) (now (a .targets)) (c .before .before .before .before .before .before .before .before .before .before .loop .counts) (c .before .before .before .before .before .before .before .before .before .before .loop .row) (c .before .before .before .before .before .before .before .before .before .before .loop .at) inv (p .0 .2) l (c .before .before .before .before .before .before .code .given .0 .0) (g .0) (g .1) (c .before .before .before .leaf-from .result) (c .before .before .before .leaf-from .ensures) (c .before .leaf .given .0 .0) (c .before .leaf .given .1), c .before .before .before .before .before .before .before .before .before .before .before .before .before .before .before .good .1 .0)
-
-slice-read-counts : tie.Need-slice-read-counts Inv-loop μ-loop
-slice-read-counts c = let p = c .before .before .before .before .before .before .before .before .before .before .before .before .before .before .before .before .pre in let a = c .before .before .before .before .before .before .before .before .before .before .before .before .before .before .before .before .args in let F = c .before .before .before .before .before .before .before .before .before .before .before .before .frame-of .ensures in let inv = subst (λ f. Counting f (length (now (a .targets)) / a .b .axes) (now (a .key)) (now (a .targets)) (c .before .before .before .before .before .before .before .before .before .before .before .loop .counts) (c .before .before .before .before .before .before .before .before .before .before .before .loop .row) (c .before .before .before .before .before .before .before .before .before .before .before .loop .at)) F (c .before .before .before .before .before .before .before .before .before .before .before .loop .inv .0) in let l = c .before .before .before .before .before .before .before .before .before .before .loop-test .taken in let g = placed-in (frameOf (a .b)) (drop (c .before .before .before .before .before .before .before .before .before .before .before .loop .at) (now (a .targets))) (c .before .before .before .before .before .before .before .code .given .0 .0) (sym (c .before .before .before .before .before .before .before .before .before .code-at .ensures ∙ ap (λ f. pointCode f (drop (c .before .before .before .before .before .before .before .before .before .before .before .loop .at) (now (a .targets)))) F) ∙ c .before .before .before .before .before .before .before .code .given .1) in node-room (a .b) (now (a .key)) (now (a .targets)) (c .before .before .before .before .before .before .before .before .before .before .before .loop .counts) (c .before .before .before .before .before .before .before .before .before .before .before .loop .row) (c .before .before .before .before .before .before .before .before .before .before .before .loop .at) inv (p .0 .2) l (c .before .before .before .before .before .before .before .code .given .0 .0) (g .0) (g .1) (c .before .before .before .before .leaf-from .result) (c .before .before .before .before .leaf-from .ensures) (c .before .before .leaf .given .0 .0) (c .before .before .leaf .given .1)
-
-add-counts : tie.Need-add-counts Inv-loop μ-loop
-add-counts c = let p = c .before .before .before .before .before .before .before .before .before .before .before .before .before .before .before .before .pre in let a = c .before .before .before .before .before .before .before .before .before .before .before .before .before .before .before .before .args in let F = c .before .before .before .before .before .before .before .before .before .before .before .before .frame-of .ensures in let inv = subst (λ f. Counting f (length (now (a .targets)) / a .b .axes) (now (a .key)) (now (a .targets)) (c .before .before .before .before .before .before .before .before .before .before .before .loop .counts) (c .before .before .before .before .before .before .before .before .before .before .before .loop .row) (c .before .before .before .before .before .before .before .before .before .before .before .loop .at)) F (c .before .before .before .before .before .before .before .before .before .before .before .loop .inv .0) in let l = c .before .before .before .before .before .before .before .before .before .before .loop-test .taken in let g = placed-in (frameOf (a .b)) (drop (c .before .before .before .before .before .before .before .before .before .before .before .loop .at) (now (a .targets))) (c .before .before .before .before .before .before .before .code .given .0 .0) (sym (c .before .before .before .before .before .before .before .before .before .code-at .ensures ∙ ap (λ f. pointCode f (drop (c .before .before .before .before .before .before .before .before .before .before .before .loop .at) (now (a .targets)))) F) ∙ c .before .before .before .before .before .before .before .code .given .1) in omega (arith, node-small (a .b) (now (a .key)) (now (a .targets)) (c .before .before .before .before .before .before .before .before .before .before .before .loop .counts) (c .before .before .before .before .before .before .before .before .before .before .before .loop .row) (c .before .before .before .before .before .before .before .before .before .before .before .loop .at) inv (p .0 .2) l (c .before .before .before .before .before .before .before .code .given .0 .0) (g .0) (g .1) (c .before .before .before .before .leaf-from .result) (c .before .before .before .before .leaf-from .ensures) (c .before .before .leaf .given .0 .0) (c .before .before .leaf .given .1), l, p .0 .3)
-
-slice-write-counts : tie.Need-slice-write-counts Inv-loop μ-loop
-slice-write-counts c = let p = c .before .before .before .before .before .before .before .before .before .before .before .before .before .before .before .before .pre in let a = c .before .before .before .before .before .before .before .before .before .before .before .before .before .before .before .before .args in let F = c .before .before .before .before .before .before .before .before .before .before .before .before .frame-of .ensures in let inv = subst (λ f. Counting f (length (now (a .targets)) / a .b .axes) (now (a .key)) (now (a .targets)) (c .before .before .before .before .before .before .before .before .before .before .before .loop .counts) (c .before .before .before .before .before .before .before .before .before .before .before .loop .row) (c .before .before .before .before .before .before .before .before .before .before .before .loop .at)) F (c .before .before .before .before .before .before .before .before .before .before .before .loop .inv .0) in let l = c .before .before .before .before .before .before .before .before .before .before .loop-test .taken in let g = placed-in (frameOf (a .b)) (drop (c .before .before .before .before .before .before .before .before .before .before .before .loop .at) (now (a .targets))) (c .before .before .before .before .before .before .before .code .given .0 .0) (sym (c .before .before .before .before .before .before .before .before .before .code-at .ensures ∙ ap (λ f. pointCode f (drop (c .before .before .before .before .before .before .before .before .before .before .before .loop .at) (now (a .targets)))) F) ∙ c .before .before .before .before .before .before .before .code .given .1) in node-room (a .b) (now (a .key)) (now (a .targets)) (c .before .before .before .before .before .before .before .before .before .before .before .loop .counts) (c .before .before .before .before .before .before .before .before .before .before .before .loop .row) (c .before .before .before .before .before .before .before .before .before .before .before .loop .at) inv (p .0 .2) l (c .before .before .before .before .before .before .before .code .given .0 .0) (g .0) (g .1) (c .before .before .before .before .leaf-from .result) (c .before .before .before .before .leaf-from .ensures) (c .before .before .leaf .given .0 .0) (c .before .before .leaf .given .1)
-
-enum-told : tie.Need-enum-told Inv-loop μ-loop
-enum-told c = search needs
-
-same-length : tie.Need-same-length Inv-loop μ-loop
-same-length c = c .before .before .before .before .before .before .before .before .before .loop .inv .1
-
-returns : tie.Need-returns Inv-loop μ-loop
-returns c = let p = c .before .before .before .before .before .before .before .before .before .before .before .before .before .before .pre in let a = c .before .before .before .before .before .before .before .before .before .before .before .before .before .before .args in let F = c .before .before .before .before .before .before .before .before .before .before .frame-of .ensures in let inv = subst (λ f. Counting f (length (now (a .targets)) / a .b .axes) (now (a .key)) (now (a .targets)) (c .before .before .before .before .before .before .before .before .before .loop .counts) (c .before .before .before .before .before .before .before .before .before .loop .row) (c .before .before .before .before .before .before .before .before .before .loop .at)) F (c .before .before .before .before .before .before .before .before .before .loop .inv .0) in let l = c .before .before .before .before .before .before .before .before .loop-test .taken in let g = placed-in (frameOf (a .b)) (drop (c .before .before .before .before .before .before .before .before .before .loop .at) (now (a .targets))) (c .before .before .before .before .before .code .given .0 .0) (sym (c .before .before .before .before .before .before .before .code-at .ensures ∙ ap (λ f. pointCode f (drop (c .before .before .before .before .before .before .before .before .before .loop .at) (now (a .targets)))) F) ∙ c .before .before .before .before .before .code .given .1) in let e = counting-unstored (a .b) (now (a .key)) (now (a .targets)) (c .before .before .before .before .before .before .before .before .before .loop .counts) (c .before .before .before .before .before .before .before .before .before .loop .row) (c .before .before .before .before .before .before .before .before .before .loop .at) inv (p .0 .2) l (c .before .before .before .before .before .code .given .0 .0) (g .0) (g .1) (c .before .before .leaf-from .result) (c .before .before .leaf-from .ensures) (c .enum-told .given .1) in (e, λ d. not-done _ _ e d)
-
-enum-told-2 : tie.Need-enum-told-2 Inv-loop μ-loop
-enum-told-2 c = search needs
+mul-wall-of : tie.Need-mul-wall-of Inv-loop μ-loop
+mul-wall-of c = let a = c .before .before .before .before .before .before .before .before .before .before .before .before .args in let p = c .before .before .before .before .before .before .before .before .before .before .before .before .pre in let F = c .before .before .before .before .before .before .before .frame-of .ensures in let e = ap (λ f. f .axes) F in omega (arith, rows-small (c .before .before .before .before .before .before .loop .row) (a .b .axes) (omega (arith, c .before .before .before .before .before .loop-test .taken, p .1 .0 .3)) (p .1 .0 .1))
 
 wall-of-requires : tie.Need-wall-of-requires Inv-loop μ-loop
-wall-of-requires c κs = let p = c .before .before .before .before .before .before .before .before .before .pre in let a = c .before .before .before .before .before .before .before .before .before .args in let F = c .before .before .before .before .before .frame-of .ensures in let inv = subst (λ f. Counting f (length (now (a .targets)) / a .b .axes) (now (a .key)) (now (a .targets)) (c .before .before .before .before .loop .counts) (c .before .before .before .before .loop .row) (c .before .before .before .before .loop .at)) F (c .before .before .before .before .loop .inv .0) in let l = c .before .before .before .loop-test .taken in let e = ap (λ f. f .axes) F in omega (arith, e, row-there (a .b) (now (a .key)) (now (a .targets)) (c .before .before .before .before .loop .counts) (c .before .before .before .before .loop .row) (c .before .before .before .before .loop .at) inv l)
+wall-of-requires c κs = let a = c .before .before .before .before .before .before .before .before .before .before .before .before .args in let p = c .before .before .before .before .before .before .before .before .before .before .before .before .pre in let F = c .before .before .before .before .before .before .before .frame-of .ensures in let e = ap (λ f. f .axes) F in subst (λ k. c .before .before .before .before .before .before .loop .row * a .b .axes + k ≤ length (now (a .targets))) (sym e) (row-at (a .b .axes) (c .before .before .before .before .before .before .loop .row) (length (now (a .targets)) / a .b .axes) (length (now (a .targets))) (c .before .before .before .before .before .loop-test .taken) (rows-fit (a .b .axes) (length (now (a .targets)))))
+
+same-length : tie.Need-same-length Inv-loop μ-loop
+same-length c = let a = c .before .before .before .before .before .before .before .before .before .before .before .before .before .args in let p = c .before .before .before .before .before .before .before .before .before .before .before .before .before .pre in let F = c .before .before .before .before .before .before .before .before .frame-of .ensures in let e = ap (λ f. f .axes) F in c .before .before .before .before .code-rows .ensures .1 ∙ sym (p .0)
 
 same-length-2 : tie.Need-same-length-2 Inv-loop μ-loop
-same-length-2 c = c .before .before .before .before .before .loop .inv .1
+same-length-2 c = c .before .before .before .before .before .before .before .loop .inv .1
 
-returns-2 : tie.Need-returns-2 Inv-loop μ-loop
-returns-2 c = let p = c .before .before .before .before .before .before .before .before .before .before .pre in let a = c .before .before .before .before .before .before .before .before .before .before .args in let F = c .before .before .before .before .before .before .frame-of .ensures in let inv = subst (λ f. Counting f (length (now (a .targets)) / a .b .axes) (now (a .key)) (now (a .targets)) (c .before .before .before .before .before .loop .counts) (c .before .before .before .before .before .loop .row) (c .before .before .before .before .before .loop .at)) F (c .before .before .before .before .before .loop .inv .0) in let l = c .before .before .before .before .loop-test .taken in let e = counting-outside (a .b) (now (a .key)) (now (a .targets)) (c .before .before .before .before .before .loop .counts) (c .before .before .before .before .before .loop .row) (c .before .before .before .before .before .loop .at) inv l (placed-out (frameOf (a .b)) (drop (c .before .before .before .before .before .loop .at) (now (a .targets))) (sym (c .before .before .before .code-at .ensures ∙ ap (λ f. pointCode f (drop (c .before .before .before .before .before .loop .at) (now (a .targets)))) F) ∙ c .before .enum-told2 .given .1)) (c .wall-of .result) (c .wall-of .ensures ∙ ap (λ f. firstWall (c .before .before .before .before .before .loop .row) f (drop (c .before .before .before .before .before .loop .at) (now (a .targets)))) F) in (e, λ d. not-done _ _ e d)
+returns : tie.Need-returns Inv-loop μ-loop
+returns c = let a = c .before .before .before .before .before .before .before .before .before .before .before .before .before .args in let p = c .before .before .before .before .before .before .before .before .before .before .before .before .before .pre in let F = c .before .before .before .before .before .before .before .before .frame-of .ensures in let e = ap (λ f. f .axes) F in let inv = subst (λ f. Counting f (length (now (a .targets)) / a .b .axes) (now (a .key)) (now (a .targets)) (c .before .before .before .before .before .before .before .loop .counts) (c .before .before .before .before .before .before .before .loop .row)) F (c .before .before .before .before .before .before .before .loop .inv .0) in let q = subst (λ f. Piece f (now (a .targets)) (c .before .before .before .before .before .before .before .loop .row) (length (now (a .targets)) / a .b .axes) (c .before .before .before .before .code-rows .last .1 .1 .1 .1 .0) (c .before .before .before .before .code-rows .result)) F (c .before .before .before .before .code-rows .ensures .2) in let o = counting-outside (a .b) (now (a .key)) (now (a .targets)) (c .before .before .before .before .before .before .before .loop .counts) (c .before .before .before .before .before .before .before .loop .row) inv (c .before .before .before .before .before .before .loop-test .taken) (q .none (omega (arith, c .before .if1 .taken))) (c .wall-of .result) (c .wall-of .ensures ∙ ap (λ f. firstWall (c .before .before .before .before .before .before .before .loop .row) f (drop (c .before .before .before .before .before .before .before .loop .row * a .b .axes) (now (a .targets)))) F) in (o, λ d. not-done _ _ o d)
 
-add-row : tie.Need-add-row Inv-loop μ-loop
-add-row c = omega (arith, c .before .before .before .before .before .before .before .before .before .before .loop-test .taken, c .before .before .before .before .before .before .before .before .before .before .before .before .before .before .before .before .pre .0 .3)
+count-codes-requires : tie.Need-count-codes-requires Inv-loop μ-loop
+count-codes-requires c κs = let a = c .before .before .before .before .before .before .before .before .before .before .before .before .before .before .args in let p = c .before .before .before .before .before .before .before .before .before .before .before .before .before .before .pre in let F = c .before .before .before .before .before .before .before .before .before .frame-of .ensures in let e = ap (λ f. f .axes) F in let inv = subst (λ f. Counting f (length (now (a .targets)) / a .b .axes) (now (a .key)) (now (a .targets)) (c .before .before .before .before .before .before .before .before .loop .counts) (c .before .before .before .before .before .before .before .before .loop .row)) F (c .before .before .before .before .before .before .before .before .loop .inv .0) in ((p .1 .0 .2, omega (arith, c .before .before .before .before .before .code-rows .ensures .0, c .before .before .before .before .before .code-rows .ensures .1), c .before .before .before .before .before .code-rows .ensures .0, omega (arith, p .1 .1 .0, c .before .before .before .before .before .before .before .before .loop .inv .1)), few-counts (a .b) (now (a .key)) (now (a .targets)) (c .before .before .before .before .before .before .before .before .loop .counts) (c .before .before .before .before .before .before .before .before .loop .row) inv (c .before .before .before .before .before .code-rows .result) (omega (arith, c .before .before .before .before .before .code-rows .ensures .2 .within, p .1 .0 .3)))
 
-add-at : tie.Need-add-at Inv-loop μ-loop
-add-at c = let p = c .before .before .before .before .before .before .before .before .before .before .before .before .before .before .before .before .pre in let a = c .before .before .before .before .before .before .before .before .before .before .before .before .before .before .before .before .args in let F = c .before .before .before .before .before .before .before .before .before .before .before .before .frame-of .ensures in let inv = subst (λ f. Counting f (length (now (a .targets)) / a .b .axes) (now (a .key)) (now (a .targets)) (c .before .before .before .before .before .before .before .before .before .before .before .loop .counts) (c .before .before .before .before .before .before .before .before .before .before .before .loop .row) (c .before .before .before .before .before .before .before .before .before .before .before .loop .at)) F (c .before .before .before .before .before .before .before .before .before .before .before .loop .inv .0) in let l = c .before .before .before .before .before .before .before .before .before .before .loop-test .taken in omega (arith, inv .at-is, rows-small (c .before .before .before .before .before .before .before .before .before .before .before .loop .row) (a .b .axes) (omega (arith, l, p .0 .3)) (p .0 .1), p .0 .1)
-
-loop-less : tie.Need-loop-less Inv-loop μ-loop
-loop-less c = omega (arith, c .before .before .before .before .before .before .before .before .before .before .loop-test .taken)
-
-loop-again : tie.Need-loop-again Inv-loop μ-loop
-loop-again c = let p = c .before .before .before .before .before .before .before .before .before .before .before .before .before .before .before .before .pre in let a = c .before .before .before .before .before .before .before .before .before .before .before .before .before .before .before .before .args in let F = c .before .before .before .before .before .before .before .before .before .before .before .before .frame-of .ensures in let inv = subst (λ f. Counting f (length (now (a .targets)) / a .b .axes) (now (a .key)) (now (a .targets)) (c .before .before .before .before .before .before .before .before .before .before .before .loop .counts) (c .before .before .before .before .before .before .before .before .before .before .before .loop .row) (c .before .before .before .before .before .before .before .before .before .before .before .loop .at)) F (c .before .before .before .before .before .before .before .before .before .before .before .loop .inv .0) in let l = c .before .before .before .before .before .before .before .before .before .before .loop-test .taken in let g = placed-in (frameOf (a .b)) (drop (c .before .before .before .before .before .before .before .before .before .before .before .loop .at) (now (a .targets))) (c .before .before .before .before .before .before .before .code .given .0 .0) (sym (c .before .before .before .before .before .before .before .before .before .code-at .ensures ∙ ap (λ f. pointCode f (drop (c .before .before .before .before .before .before .before .before .before .before .before .loop .at) (now (a .targets)))) F) ∙ c .before .before .before .before .before .before .before .code .given .1) in (subst (λ f. Counting f (length (now (a .targets)) / a .b .axes) (now (a .key)) (now (a .targets)) (set (c .before .before .before .before .before .before .before .before .before .before .before .loop .counts) (c .before .before .leaf .given .0 .0) (getD (c .before .before .before .before .before .before .before .before .before .before .before .loop .counts) (c .before .before .leaf .given .0 .0) 0 + 1)) (c .before .before .before .before .before .before .before .before .before .before .before .loop .row + 1) (c .before .before .before .before .before .before .before .before .before .before .before .loop .at + a .b .axes)) (sym F) (counting-more (a .b) (now (a .key)) (now (a .targets)) (c .before .before .before .before .before .before .before .before .before .before .before .loop .counts) (c .before .before .before .before .before .before .before .before .before .before .before .loop .row) (c .before .before .before .before .before .before .before .before .before .before .before .loop .at) inv (p .0 .2) l (c .before .before .before .before .before .before .before .code .given .0 .0) (g .0) (g .1) (c .before .before .before .before .leaf-from .result) (c .before .before .before .before .leaf-from .ensures) (c .before .before .leaf .given .0 .0) (c .before .before .leaf .given .1)), length-set (c .before .before .before .before .before .before .before .before .before .before .before .loop .counts) (c .before .before .leaf .given .0 .0) (getD (c .before .before .before .before .before .before .before .before .before .before .before .loop .counts) (c .before .before .leaf .given .0 .0) 0 + 1) ∙ c .before .before .before .before .before .before .before .before .before .before .before .loop .inv .1)
+add-t25 : tie.Need-add-t25 Inv-loop μ-loop
+add-t25 c = let a = c .before .before .before .before .before .before .before .before .before .before .before .before .before .before .before .before .before .before .args in let p = c .before .before .before .before .before .before .before .before .before .before .before .before .before .before .before .before .before .before .pre in let F = c .before .before .before .before .before .before .before .before .before .before .before .before .before .frame-of .ensures in let e = ap (λ f. f .axes) F in omega (arith, c .if2 .taken, c .before .before .before .before .before .before .before .before .before .code-rows .ensures .2 .within, p .1 .0 .3)
 
 same-length-3 : tie.Need-same-length-3 Inv-loop μ-loop
-same-length-3 c = c .before .loop .inv .1
+same-length-3 c = let a = c .before .before .before .before .before .before .before .before .before .before .before .before .before .before .before .before .before .before .args in let p = c .before .before .before .before .before .before .before .before .before .before .before .before .before .before .before .before .before .before .pre in let F = c .before .before .before .before .before .before .before .before .before .before .before .before .before .frame-of .ensures in let e = ap (λ f. f .axes) F in c .before .before .before .before .before .before .before .before .before .code-rows .ensures .1 ∙ sym (p .0)
+
+same-length-4 : tie.Need-same-length-4 Inv-loop μ-loop
+same-length-4 c = c .before .before .before .count-codes .ensures .1 .kept ∙ c .before .before .before .before .before .before .before .before .before .before .before .before .loop .inv .1
+
+returns-2 : tie.Need-returns-2 Inv-loop μ-loop
+returns-2 c = let a = c .before .before .before .before .before .before .before .before .before .before .before .before .before .before .before .before .before .before .args in let p = c .before .before .before .before .before .before .before .before .before .before .before .before .before .before .before .before .before .before .pre in let F = c .before .before .before .before .before .before .before .before .before .before .before .before .before .frame-of .ensures in let e = ap (λ f. f .axes) F in let inv = subst (λ f. Counting f (length (now (a .targets)) / a .b .axes) (now (a .key)) (now (a .targets)) (c .before .before .before .before .before .before .before .before .before .before .before .before .loop .counts) (c .before .before .before .before .before .before .before .before .before .before .before .before .loop .row)) F (c .before .before .before .before .before .before .before .before .before .before .before .before .loop .inv .0) in let q = subst (λ f. Piece f (now (a .targets)) (c .before .before .before .before .before .before .before .before .before .before .before .before .loop .row) (length (now (a .targets)) / a .b .axes) (c .before .before .before .before .before .before .before .before .before .code-rows .last .1 .1 .1 .1 .0) (c .before .before .before .before .before .before .before .before .before .code-rows .result)) F (c .before .before .before .before .before .before .before .before .before .code-rows .ensures .2) in let fits : c .before .before .before .before .before .before .before .before .before .code-rows .result ≤ length (c .before .before .before .before .before .before .before .before .before .code-rows .last .1 .1 .1 .1 .0) = omega (arith, c .before .before .before .before .before .before .before .before .before .code-rows .ensures .0, c .before .before .before .before .before .before .before .before .before .code-rows .ensures .1) in let o = counting-unstored (a .b) (now (a .key)) (now (a .targets)) (c .before .before .before .before .before .before .before .before .before .before .before .before .loop .counts) (c .before .before .before .before .before .before .before .before .before .before .before .before .loop .row) inv (c .before .before .before .before .before .before .before .before .before .code-rows .last .1 .1 .1 .1 .0) (c .before .before .before .before .before .before .before .before .before .code-rows .result) fits q (c .before .before .before .count-codes .result) (c .before .before .before .count-codes .ensures .0) (c .if2 .taken) in (o, λ d. not-done _ _ o d)
+
+add-row : tie.Need-add-row Inv-loop μ-loop
+add-row c = let a = c .before .before .before .before .before .before .before .before .before .before .before .before .before .before .before .before .before .before .args in let p = c .before .before .before .before .before .before .before .before .before .before .before .before .before .before .before .before .before .before .pre in let F = c .before .before .before .before .before .before .before .before .before .before .before .before .before .frame-of .ensures in let e = ap (λ f. f .axes) F in omega (arith, c .before .before .before .before .before .before .before .before .before .code-rows .ensures .2 .within, p .1 .0 .3)
+
+loop-less : tie.Need-loop-less Inv-loop μ-loop
+loop-less c = let a = c .before .before .before .before .before .before .before .before .before .before .before .before .before .before .before .before .before .before .args in let p = c .before .before .before .before .before .before .before .before .before .before .before .before .before .before .before .before .before .before .pre in let F = c .before .before .before .before .before .before .before .before .before .before .before .before .before .frame-of .ensures in let e = ap (λ f. f .axes) F in omega (arith, c .before .before .before .before .before .before .before .before .before .before .before .loop-test .taken, c .before .before .before .before .before .before .if1 .left, c .before .before .before .before .before .before .before .before .before .code-rows .ensures .2 .within)
+
+loop-again : tie.Need-loop-again Inv-loop μ-loop
+loop-again c = let a = c .before .before .before .before .before .before .before .before .before .before .before .before .before .before .before .before .before .before .args in let p = c .before .before .before .before .before .before .before .before .before .before .before .before .before .before .before .before .before .before .pre in let F = c .before .before .before .before .before .before .before .before .before .before .before .before .before .frame-of .ensures in let e = ap (λ f. f .axes) F in let inv = subst (λ f. Counting f (length (now (a .targets)) / a .b .axes) (now (a .key)) (now (a .targets)) (c .before .before .before .before .before .before .before .before .before .before .before .before .loop .counts) (c .before .before .before .before .before .before .before .before .before .before .before .before .loop .row)) F (c .before .before .before .before .before .before .before .before .before .before .before .before .loop .inv .0) in let q = subst (λ f. Piece f (now (a .targets)) (c .before .before .before .before .before .before .before .before .before .before .before .before .loop .row) (length (now (a .targets)) / a .b .axes) (c .before .before .before .before .before .before .before .before .before .code-rows .last .1 .1 .1 .1 .0) (c .before .before .before .before .before .before .before .before .before .code-rows .result)) F (c .before .before .before .before .before .before .before .before .before .code-rows .ensures .2) in let fits : c .before .before .before .before .before .before .before .before .before .code-rows .result ≤ length (c .before .before .before .before .before .before .before .before .before .code-rows .last .1 .1 .1 .1 .0) = omega (arith, c .before .before .before .before .before .before .before .before .before .code-rows .ensures .0, c .before .before .before .before .before .before .before .before .before .code-rows .ensures .1) in (subst (λ f. Counting f (length (now (a .targets)) / a .b .axes) (now (a .key)) (now (a .targets)) (c .before .before .before .count-codes .last .1 .1 .1 .1 .1 .1 .0) (c .before .before .before .before .before .before .before .before .before .before .before .before .loop .row + c .before .before .before .before .before .before .before .before .before .code-rows .result)) (sym F) (counting-more (a .b) (now (a .key)) (now (a .targets)) (c .before .before .before .before .before .before .before .before .before .before .before .before .loop .counts) (c .before .before .before .before .before .before .before .before .before .before .before .before .loop .row) inv (c .before .before .before .before .before .before .before .before .before .code-rows .last .1 .1 .1 .1 .0) (c .before .before .before .before .before .before .before .before .before .code-rows .result) fits q (c .before .before .before .count-codes .result) (c .before .before .before .count-codes .ensures .0) (omega (arith, c .if2 .left)) (c .before .before .before .count-codes .last .1 .1 .1 .1 .1 .1 .0) (c .before .before .before .count-codes .ensures .1)), c .before .before .before .count-codes .ensures .1 .kept ∙ c .before .before .before .before .before .before .before .before .before .before .before .before .loop .inv .1, c .before .before .before .before .before .before .before .before .before .code-rows .ensures .1)
+
+same-length-5 : tie.Need-same-length-5 Inv-loop μ-loop
+same-length-5 c = let a = c .before .before .before .before .before .before .before .args in let p = c .before .before .before .before .before .before .before .pre in let F = c .before .before .frame-of .ensures in let e = ap (λ f. f .axes) F in c .before .loop .inv .2 ∙ sym (p .0)
+
+same-length-6 : tie.Need-same-length-6 Inv-loop μ-loop
+same-length-6 c = c .before .loop .inv .1
 
 returns-3 : tie.Need-returns-3 Inv-loop μ-loop
-returns-3 c = let p = c .before .before .before .before .before .before .pre in let a = c .before .before .before .before .before .before .args in let F = c .before .before .frame-of .ensures in let inv = subst (λ f. Counting f (length (now (a .targets)) / a .b .axes) (now (a .key)) (now (a .targets)) (c .before .loop .counts) (c .before .loop .row) (c .before .loop .at)) F (c .before .loop .inv .0) in (counting-done (a .b) (now (a .key)) (now (a .targets)) (c .before .loop .counts) (c .before .loop .row) (c .before .loop .at) inv (c .loop-test .left), λ d. counting-all (a .b) (now (a .key)) (now (a .targets)) (c .before .loop .counts) (c .before .loop .row) (c .before .loop .at) inv (c .loop-test .left))
+returns-3 c = let a = c .before .before .before .before .before .before .before .args in let p = c .before .before .before .before .before .before .before .pre in let F = c .before .before .frame-of .ensures in let e = ap (λ f. f .axes) F in let inv = subst (λ f. Counting f (length (now (a .targets)) / a .b .axes) (now (a .key)) (now (a .targets)) (c .before .loop .counts) (c .before .loop .row)) F (c .before .loop .inv .0) in (counting-done (a .b) (now (a .key)) (now (a .targets)) (c .before .loop .counts) (c .before .loop .row) inv (c .loop-test .left), λ d. counting-all (a .b) (now (a .key)) (now (a .targets)) (c .before .loop .counts) (c .before .loop .row) inv (c .loop-test .left))
 
 pub count-by-spec : {M : Type 1} → statement M
 count-by-spec =
-    tie.close (tie.spec Inv-loop μ-loop frame-of-requires div-rows loop-holds code-at-requires enum-known-code hint-of-requires leaf-from-requires enum-known-leaf mul-counts slice-read-counts add-counts slice-write-counts enum-told same-length returns enum-told-2 wall-of-requires same-length-2 returns-2 add-row add-at loop-less loop-again same-length-3 returns-3)
+    tie.close (tie.spec Inv-loop μ-loop frame-of-requires div-rows loop-holds code-rows-requires mul-wall-of wall-of-requires same-length same-length-2 returns count-codes-requires add-t25 same-length-3 same-length-4 returns-2 add-row loop-less loop-again same-length-5 same-length-6 returns-3)
