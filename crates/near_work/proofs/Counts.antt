@@ -116,7 +116,7 @@ module _ (b : Box) (keys own : List ℕ) (t : SoundTree (b .axes) keys own) (xs 
         let first : heldBefore d keys (codesInside b xs) ≡ 0 = omega (arith, passing-le (held d keys) (codesInside b xs), codes-length (rowsInside b xs) (frameOf b) xs) in
         rw (eq-eqb (heldBefore d keys (codesInside b xs)) (rowsInside b xs) (first ∙ sym inside), eq-eqb (rowsInside b xs) (rowsOf b xs) (inside ∙ sym rows))
 
-    own-weights : (k : ℕ) → weights b keys own xs k ≡ ownOf keys own k
+    pub own-weights : (k : ℕ) → weights b keys own xs k ≡ ownOf keys own k
     unfolding weights
     own-weights k = ap (λ s. cond s (ownOf keys own k) (targetsAt marks k)) (eq-eqb (length xs) 0 z)
 
@@ -129,12 +129,12 @@ module _ (b : Box) (keys own : List ℕ) (t : SoundTree (b .axes) keys own) (xs 
 
   -- with targets
   module _ (some : length xs ≡ 0 → ⊥) where
-    target-weights : (k : ℕ) → weights b keys own xs k ≡ targetsAt marks k
+    pub target-weights : (k : ℕ) → weights b keys own xs k ≡ targetsAt marks k
     unfolding weights
     target-weights k = ap (λ s. cond s (ownOf keys own k) (targetsAt marks k)) (ne-eqb (length xs) 0 some)
 
     module _ (done : pointsOutcome b keys xs ≡ Done) where
-      all-in : (heldBefore d keys (codesInside b xs) ≡ rowsInside b xs) × (rowsInside b xs ≡ rowsOf b xs)
+      pub all-in : (heldBefore d keys (codesInside b xs) ≡ rowsInside b xs) × (rowsInside b xs ≡ rowsOf b xs)
       unfolding pointsOutcome
       all-in =
           let p = both-done (ask (eqb (heldBefore d keys (codesInside b xs)) (rowsInside b xs)) _) (ask (eqb (rowsInside b xs) (rowsOf b xs)) _) done in
@@ -144,7 +144,7 @@ module _ (b : Box) (keys own : List ℕ) (t : SoundTree (b .axes) keys own) (xs 
       marks-long = length-map (codesInside b xs) (leafKey d keys) ∙ codes-length (rowsInside b xs) (frameOf b) xs ∙ all-in .1
 
       -- each mark is a leaf
-      mark-leaf : (k : ℕ) → Mem k marks → leaf d keys k ≡ true
+      pub mark-leaf : (k : ℕ) → Mem k marks → leaf d keys k ≡ true
       mark-leaf k (i, l, e) =
           let li : i < length (codesInside b xs) = omega (arith, length-map (codesInside b xs) (leafKey d keys)) in
           let h = passing-before (held d keys) (codesInside b xs) i (omega (arith, all-in .0, codes-length (rowsInside b xs) (frameOf b) xs)) in
