@@ -1,0 +1,3 @@
+pub mod Runs
+pub mod Codes
+pub mod Judged
