@@ -5,7 +5,7 @@ use mathlib.Core.List.{List}
 use mathlib.Core.Logic.{_↔_}
 use Prim.Native.Nat.{ℕ, _+_, _*_, _-_, _<_}
 use lib.Ieee.{Float}
-use lib.ListN.{length, getD, drop}
+use lib.ListN.{getD, drop}
 use lib.Dec.{eqb}
 use Rattle.morton.specs.Keys.{deepest, levelOf, codeOf, above, holds}
 use Rattle.space.specs.declared.Cell.the-variants.{Number, Outside}

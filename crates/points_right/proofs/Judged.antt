@@ -1,6 +1,6 @@
 -- What a tree handed in says of its columns.
-use mathlib.Core.Path.{_≡_, sym, ap, _∙_, subst}
-use mathlib.Core.Bool.{true, false}
+use mathlib.Core.Path.{_≡_, sym, subst}
+use mathlib.Core.Bool.{true}
 use mathlib.Core.List.{List}
 use Prim.Native.Nat.{ℕ, _+_, _*_, _/_, _≤_, _<_}
 use native.Mathlib.Omega.{arith}
@@ -12,7 +12,7 @@ use Rattle.axes.proofs.Known.{axes-facts}
 use Rattle.morton.specs.Keys.{axesKnown, levelOf}
 use Rattle.morton.proofs.Checks.{valid-facts}
 use Rattle.tree.specs.WellFormed.{wellFormed}
-use Rattle.tree.proofs.Rules.{Formed, all-facts}
+use Rattle.tree.proofs.Rules.{all-facts}
 use Rattle.tree.proofs.Column.{column-root}
 use Rattle.space.specs.declared.Frame.{Frame}
 use Rattle.points_right.specs.Points.{pointIn, RunRight, PointsRight}

@@ -6,7 +6,7 @@ use mathlib.Core.Logic.{⊎-elim}
 use Prim.Native.Nat.{ℕ, suc, _+_, _*_, _-_, _≤_, _<_}
 use native.Mathlib.Omega.{arith}
 use native.Mathlib.Nat.{mul-le-mul-right, suc-mul}
-use lib.ListN.{length, getD, take}
+use lib.ListN.{length, getD}
 use Rattle.slices.specs.Lists.{sum}
 use Rattle.slices.proofs.Tests.{clash, lt-or-le}
 use Rattle.slices.proofs.Sums.{sum-take, sum-whole}

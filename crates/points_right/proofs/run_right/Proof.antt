@@ -1,6 +1,5 @@
 -- `points_right::run_right` meets its contract.
 use mathlib.Core.Path.{sym, _∙_}
-use native.Mathlib.Omega.{arith}
 use denote.Ref.{now}
 use lib.ListN.{length, getD}
 use Prim.Native.Nat.{_-_}

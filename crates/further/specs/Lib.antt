@@ -1,0 +1,3 @@
+pub mod Further
+pub mod Built
+pub mod Points
