@@ -31,7 +31,8 @@ use Rattle.growth.proofs.Held.{leaf-mem, held-under}
 use Rattle.growth.proofs.Arranged.{Codes}
 use Rattle.growth.proofs.Sorted.{node-good}
 use Rattle.growth.proofs.Members.{root-node, node-up, node-down}
-use Rattle.further.specs.Built.{Tree, InLeaves, hasChildren, mayHave, GrownRight}
+use Rattle.full.specs.Full.{hasChildren}
+use Rattle.further.specs.Built.{Tree, InLeaves, mayHave, GrownRight}
 use Rattle.further.proofs.Cells.{root-only, holds-up}
 use Rattle.further.proofs.Alone.{splits-is, splits-cases, splits-more, kept-cases, kept-all, kept-some, node-if}
 use Rattle.further.proofs.Facts.{leaf-same}

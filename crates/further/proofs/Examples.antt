@@ -18,7 +18,8 @@ use Rattle.growth.specs.Nodes.{splits, kids, preorder, nodes}
 use Rattle.growth.specs.Columns.{ownColumn}
 use Rattle.tree.proofs.Examples.{keys₁}
 use Rattle.further.specs.Further.{further, besideParent, holderFrom, holderOf}
-use Rattle.further.specs.Built.{hasChildren, rootHas, mayHave}
+use Rattle.full.specs.Full.{hasChildren}
+use Rattle.further.specs.Built.{rootHas, mayHave}
 
 abbrev pub rule : Rule
 rule = record { axes = 1; limit = 1; order = 1; keep = false }

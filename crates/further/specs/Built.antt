@@ -5,10 +5,11 @@ use mathlib.Core.List.{List}
 use Prim.Native.Nat.{ℕ, _<_}
 use lib.Dec.{ltb}
 use lib.ListN.{length}
-use Rattle.slices.specs.Lists.{any, Mem}
-use Rattle.morton.specs.Keys.{deepest, levelOf, ValidKey, parent, children, holds}
+use Rattle.slices.specs.Lists.{Mem}
+use Rattle.morton.specs.Keys.{deepest, levelOf, ValidKey, parent, holds}
 use Rattle.refine.specs.Counts.{sourcesIn}
-use Rattle.tree.specs.Nodes.{childOf, leaf}
+use Rattle.tree.specs.Nodes.{leaf}
+use Rattle.full.specs.Full.{hasChildren, Full}
 use Rattle.growth.specs.declared.Rule.{Rule}
 
 -- valid keys, the root among them, and with each other cell its parent
@@ -20,10 +21,6 @@ pub record Tree (d : ℕ) (keys : List ℕ) : Type 0 where
 -- each source is held by a leaf
 abbrev pub InLeaves : ℕ → List ℕ → List ℕ → Type 0
 InLeaves d sources keys = (c : ℕ) → Mem c sources → (k : ℕ) × (leaf d keys k ≡ true) × (holds d k c ≡ true)
-
--- a child of cell k is stored
-abbrev pub hasChildren : ℕ → List ℕ → ℕ → Bool
-hasChildren d keys k = any (childOf d k) keys
 
 module _ (g : Rule) (sources : List ℕ) where
   -- the root has children unless empty cells are not kept and there are no sources
@@ -39,4 +36,4 @@ module _ (g : Rule) (sources : List ℕ) where
     pub inner : (k : ℕ) → Mem k keys → 0 < levelOf k → hasChildren (g .axes) keys k ≡ mayHave k
     -- without the keep-empty flag every cell but the root holds a source; with it each cell with children has all 2^d
     pub sourced : g .keep ≡ false → (k : ℕ) → Mem k keys → 0 < levelOf k → 0 < sourcesIn (g .axes) sources k
-    pub all : g .keep ≡ true → (k j : ℕ) → Mem k keys → hasChildren (g .axes) keys k ≡ true → Mem j (children (g .axes) k) → Mem j keys
+    pub all : g .keep ≡ true → Full (g .axes) keys

@@ -1,0 +1,4 @@
+pub mod Shorter
+pub mod Children
+pub mod Counted
+pub mod Counting
