@@ -93,7 +93,7 @@ module _ (d : ℕ) (s keys own begin order : List ℕ) (t : Tree d keys) (dist :
       go (inl e) rest = omega (arith, h .rises j q (mid (omega arith)) c, ap (λ (i : ℕ). getD order i 0) e)
       go (inr i) rest = omega (arith, rest i, h .rises j q (mid (omega arith)) c)
 
-  order-run : (p : ℕ) → p < length order → (j : ℕ) × Run own begin j p
+  pub order-run : (p : ℕ) → p < length order → (j : ℕ) × Run own begin j p
   order-run p l = run-of own begin runs-own p (omega (arith, whole))
 
   -- no index stands in two places
@@ -116,7 +116,7 @@ module _ (d : ℕ) (s keys own begin order : List ℕ) (t : Tree d keys) (dist :
 
   module _ (many : length order ≡ length s) where
     -- each source stands somewhere
-    order-has : (x : ℕ) → x < length s → Mem x order
+    pub order-has : (x : ℕ) → x < length s → Mem x order
     order-has = all-there (length s) order many order-distinct order-small
 
     pub in-leaves : InLeaves d s keys

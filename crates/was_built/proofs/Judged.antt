@@ -1,0 +1,162 @@
+-- The judge's two tests are the test of a build.
+use mathlib.Core.Path.{_≡_, refl, sym, ap, ap₂, _∙_, subst}
+use mathlib.Core.Bool.{Bool, true, false, _&&_}
+use mathlib.Core.List.{List, [], _∷_}
+use Prim.Native.Nat.{ℕ}
+use lib.Dec.{eqb}
+use lib.Ieee.{Float}
+use lib.ListN.{length, length-map}
+use lib.Seq.{ext-getD}
+use borrow.Author.Tests.{eqb-true, eq-eqb}
+use native.Mathlib.Omega.{arith}
+use native.Mathlib.Nat.{zero-div}
+use Rattle.slices.proofs.Tests.{and-l, and-r, both, refute}
+use Rattle.slices.proofs.Lists.{getD-map}
+use Rattle.morton.specs.Keys.{axesKnown}
+use Rattle.space.specs.declared.Box.{Box}
+use Rattle.space.specs.Cells.{frameOf}
+use Rattle.space.specs.Rows.{rowsOf, rowsInside, codes16}
+use Rattle.laying.specs.Points.{codesOf}
+use Rattle.tree.specs.Columns.{Columns, columns}
+use Rattle.tree.specs.Totals.{totalIn, totalColumn}
+use Rattle.tree.specs.WellFormed.{wellFormed}
+use Rattle.tree.specs.Finding.{TreeKeys}
+use Rattle.tree.proofs.Clauses.{facts-parents}
+use Rattle.tree.proofs.Rules.{all-facts, facts-ascend}
+use Rattle.sums.specs.Tells.{Tells}
+use Rattle.sums.specs.Right.{same}
+use Rattle.sums.proofs.Flat.{same-true}
+use Rattle.points_right.specs.Points.{pointIn, PointsRight}
+use Rattle.growth.specs.declared.Rule.{Rule}
+use Rattle.growth.specs.Nodes.{nodes}
+use Rattle.growth.specs.Columns.{ownColumn, beginColumn, orderColumn}
+use Rattle.further.proofs.Ordered.{formed-iff}
+use Rattle.grown_right.specs.Grown.{Grown}
+use Rattle.grown_right.proofs.Judged.{grown-right, right-grown}
+use Rattle.build.specs.Asked.{Asked, ruleOf, builtKeys, builtOwn, builtBegins, builtTotals, builtOrder}
+use Rattle.build.proofs.Growing.{codes-lt}
+use Rattle.was_built.specs.Build.{asksAlone, columnsAre, isBuild}
+use Rattle.was_built.proofs.Inside.{by-codes, from-codes, all-inside}
+
+same-self : (xs : List ℕ) → same xs xs ≡ true
+unfolding same
+same-self [] = refl
+same-self (x ∷ xs) = both (eq-eqb x x refl) (same-self xs)
+
+equal-same : (xs ys : List ℕ) → xs ≡ ys → same xs ys ≡ true
+equal-same xs ys e = subst (λ (zs : List ℕ). same xs zs ≡ true) e (same-self xs)
+
+-- the columns as facts
+record Are (a : Asked) (t : Columns) (order : List ℕ) : Type 0 where
+  pub keys : t .keys ≡ builtKeys a
+  pub own : t .own ≡ builtOwn a
+  pub begin : t .begin ≡ builtBegins a
+  pub total : t .total ≡ builtTotals a
+  pub orders : order ≡ builtOrder a
+
+are : (a : Asked) (t : Columns) (order : List ℕ) → columnsAre a t order ≡ true → Are a t order
+unfolding columnsAre
+are a t order h =
+    let x = and-l (same (t .keys) (builtKeys a) && same (t .own) (builtOwn a)) _ h in
+    let y = and-r (same (t .keys) (builtKeys a) && same (t .own) (builtOwn a)) _ h in
+    let z = and-l (same (t .begin) (builtBegins a) && same (t .total) (builtTotals a)) _ y in
+    record {
+      keys = same-true (t .keys) (builtKeys a) (and-l _ _ x);
+      own = same-true (t .own) (builtOwn a) (and-r (same (t .keys) (builtKeys a)) _ x);
+      begin = same-true (t .begin) (builtBegins a) (and-l _ _ z);
+      total = same-true (t .total) (builtTotals a) (and-r (same (t .begin) (builtBegins a)) _ z);
+      orders = same-true order (builtOrder a) (and-r (same (t .begin) (builtBegins a) && same (t .total) (builtTotals a)) _ y);
+    }
+
+all-are : (a : Asked) (t : Columns) (order : List ℕ) → Are a t order → columnsAre a t order ≡ true
+unfolding columnsAre
+all-are a t order r =
+    both (both (equal-same (t .keys) (builtKeys a) (r .keys)) (equal-same (t .own) (builtOwn a) (r .own)))
+    (both (both (equal-same (t .begin) (builtBegins a) (r .begin)) (equal-same (t .total) (builtTotals a) (r .total))) (equal-same order (builtOrder a) (r .orders)))
+
+module _ (b : Box) (limit : ℕ) (keep : Bool) (sources : List Float) (keys own begin total order : List ℕ)
+    (known : axesKnown (b .axes) ≡ true) (formed : wellFormed (b .axes) keys own begin total ≡ true) where
+  abbrev a : Asked
+  a = asksAlone b limit keep sources
+
+  abbrev g : Rule
+  g = ruleOf (asksAlone b limit keep sources)
+
+  abbrev s : List ℕ
+  s = codesOf b sources
+
+  no-codes : codesOf b [] ≡ []
+  unfolding codes16
+  no-codes = ap (λ (m : ℕ). codes16 m (frameOf b) []) (zero-div (b .axes))
+
+  keys-are : builtKeys a ≡ nodes g s []
+  unfolding builtKeys
+  keys-are = ap (nodes g s) no-codes
+
+  own-are : builtOwn a ≡ ownColumn (b .axes) (nodes g s []) s
+  unfolding builtOwn
+  own-are = ap (λ (ks : List ℕ). ownColumn (b .axes) ks s) keys-are
+
+  order-are : builtOrder a ≡ orderColumn (b .axes) (nodes g s []) s
+  unfolding builtOrder
+  order-are = ap (λ (ks : List ℕ). orderColumn (b .axes) ks s) keys-are
+
+  begin-are : builtBegins a ≡ beginColumn (builtOwn a)
+  unfolding builtBegins
+  begin-are = refl
+
+  totals-are : builtTotals a ≡ totalColumn (b .axes) (builtKeys a) (builtOwn a)
+  unfolding builtTotals
+  totals-are = refl
+
+  -- the totals of a well-formed tree are the column of its cells
+  total-column : total ≡ totalColumn (b .axes) keys own
+  total-column =
+      let w = all-facts (b .axes) keys own begin total formed in
+      ext-getD 0 total (totalColumn (b .axes) keys own) (w .totals ∙ sym (length-map keys (totalIn (b .axes) keys own)))
+      (λ i l. w .totalled i (omega (arith, l, w .totals)) ∙ sym (getD-map (totalIn (b .axes) keys own) keys i (omega (arith, l, w .totals))))
+
+  to : PointsRight (rowsOf b sources) (pointIn (frameOf b) sources) keys own begin order → Grown g keys total → isBuild b limit keep sources (columns keys own begin total) order ≡ true
+  unfolding isBuild
+  to p r =
+      let codes = codes-lt b sources in
+      let right = by-codes b sources keys own begin order p in
+      let c = formed-iff g s keys own begin order known codes total formed .0 (right, grown-right g s keys own begin total order known codes formed right r) in
+      let ks : keys ≡ builtKeys a = c .keys-are ∙ sym keys-are in
+      let os : own ≡ builtOwn a = c .owns-are ∙ sym own-are in
+      both (eq-eqb (rowsInside b sources) (rowsOf b sources) (all-inside b sources g refl keys own begin total order known codes formed p))
+      (all-are a (columns keys own begin total) order (record {
+        keys = ks;
+        own = os;
+        begin = c .begins-are ∙ ap beginColumn os ∙ sym begin-are;
+        total = total-column ∙ ap₂ (totalColumn (b .axes)) ks os ∙ sym totals-are;
+        orders = c .orders-are ∙ sym order-are;
+      }))
+
+  from : isBuild b limit keep sources (columns keys own begin total) order ≡ true → PointsRight (rowsOf b sources) (pointIn (frameOf b) sources) keys own begin order × Grown g keys total
+  unfolding isBuild
+  from h =
+      let codes = codes-lt b sources in
+      let ins = eqb-true (rowsInside b sources) (rowsOf b sources) (and-l _ _ h) in
+      let r = are a (columns keys own begin total) order (and-r (eqb (rowsInside b sources) (rowsOf b sources)) _ h) in
+      let (p, q) = formed-iff g s keys own begin order known codes total formed .1 (record {
+        keys-are = r .keys ∙ keys-are;
+        owns-are = r .own ∙ own-are;
+        begins-are = r .begin ∙ begin-are ∙ sym (ap beginColumn (r .own));
+        orders-are = r .orders ∙ order-are;
+      }) in
+      (from-codes b sources keys own begin order ins p, right-grown g s keys own begin total order known codes formed p q)
+
+  pub not-points : (PointsRight (rowsOf b sources) (pointIn (frameOf b) sources) keys own begin order → ⊥) → false ≡ isBuild b limit keep sources (columns keys own begin total) order
+  not-points h = sym (refute (λ t. h (from t .0)))
+
+  pub by-growth : (r : Bool) → Tells (Grown g keys total) r → PointsRight (rowsOf b sources) (pointIn (frameOf b) sources) keys own begin order
+      → r ≡ isBuild b limit keep sources (columns keys own begin total) order
+  by-growth true t p = sym (to p t)
+  by-growth false t p = sym (refute (λ h. t (from h .1)))
+
+-- what the tests ask of the tree
+pub tree-keys : (d : ℕ) (keys own begin total : List ℕ) → axesKnown d ≡ true → wellFormed d keys own begin total ≡ true → TreeKeys d keys × (length total ≡ length keys)
+tree-keys d keys own begin total known formed =
+    let w = all-facts d keys own begin total formed in
+    (record { axes = known; some = w .some; ascend = facts-ascend d keys (w .rows .tree .ascending); parents = facts-parents d keys (w .rows .tree .parents) }, w .totals)
