@@ -104,29 +104,43 @@ module _ (d : ℕ) (s : List ℕ) where
 abbrev pub Codes : ℕ → List ℕ → Type 0
 Codes d s = (i : ℕ) → i < length s → getD s i 0 < 2 ^ (d * 16)
 
-module _ (g : Rule) (s t : List ℕ) (known : axesKnown (g .axes) ≡ true) (codes : Codes (g .axes) s) where
-  same-times : (x : ℕ) → times x (orderColumn (g .axes) (nodes g s t) s) ≡ times x (range 0 (length s))
+-- each source is held by exactly one leaf
+abbrev pub HeldOnce : ℕ → List ℕ → List ℕ → Type 0
+HeldOnce d keys s = (i : ℕ) → i < length s → count (λ k. leaf d keys k && holds d k (getD s i 0)) keys ≡ 1
+
+-- then the order column has each source index once, and no other number
+module _ (d : ℕ) (keys s : List ℕ) (once : HeldOnce d keys s) where
+  same-times : (x : ℕ) → times x (orderColumn d keys s) ≡ times x (range 0 (length s))
   unfolding orderColumn
   same-times x =
-      let leaves = filter (leaf (g .axes) (nodes g s t)) (nodes g s t) in
+      let leaves = filter (leaf d keys) keys in
       ⊎-elim
       (λ (l : x < length s).
-      times-in (g .axes) s x l leaves
-      ∙ count-filter (λ k. holds (g .axes) k (getD s x 0)) (leaf (g .axes) (nodes g s t)) (nodes g s t)
-      ∙ held-once g s t known (getD s x 0) (x, l, refl) (codes x l)
-      ∙ sym (range-in (g .axes) s x l))
-      (λ (l : length s ≤ x). times-past (g .axes) s x l leaves ∙ sym (range-past (g .axes) s x l))
+      times-in d s x l leaves
+      ∙ count-filter (λ k. holds d k (getD s x 0)) (leaf d keys) keys
+      ∙ once x l
+      ∙ sym (range-in d s x l))
+      (λ (l : length s ≤ x). times-past d s x l leaves ∙ sym (range-past d s x l))
       (lt-or-le x (length s))
 
-  -- the order column has each source index once, and no other number
+  pub once-times : (i : ℕ) → i < length s → times i (orderColumn d keys s) ≡ 1
+  once-times i h = same-times i ∙ range-in d s i h
+
+  pub once-arranged : ascending (orderColumn d keys s) ≡ range 0 (length s)
+  once-arranged = ascending-same (orderColumn d keys s) (range 0 (length s)) same-times ∙ ascending-fixed (range 0 (length s)) (range-sorted 0 (length s))
+
+  pub once-length : length (orderColumn d keys s) ≡ length s
+  once-length = sym (length-ascending (orderColumn d keys s)) ∙ ap length once-arranged ∙ length-range 0 (length s)
+
+module _ (g : Rule) (s t : List ℕ) (known : axesKnown (g .axes) ≡ true) (codes : Codes (g .axes) s) where
+  pub nodes-once : HeldOnce (g .axes) (nodes g s t) s
+  nodes-once i l = held-once g s t known (getD s i 0) (i, l, refl) (codes i l)
+
   pub order-times : (i : ℕ) → i < length s → times i (orderColumn (g .axes) (nodes g s t) s) ≡ 1
-  order-times i h = same-times i ∙ range-in (g .axes) s i h
+  order-times = once-times (g .axes) (nodes g s t) s nodes-once
 
   pub order-arranged : ascending (orderColumn (g .axes) (nodes g s t) s) ≡ range 0 (length s)
-  order-arranged =
-      ascending-same (orderColumn (g .axes) (nodes g s t) s) (range 0 (length s)) same-times
-      ∙ ascending-fixed (range 0 (length s)) (range-sorted 0 (length s))
+  order-arranged = once-arranged (g .axes) (nodes g s t) s nodes-once
 
   pub order-length : length (orderColumn (g .axes) (nodes g s t) s) ≡ length s
-  order-length =
-      sym (length-ascending (orderColumn (g .axes) (nodes g s t) s)) ∙ ap length order-arranged ∙ length-range 0 (length s)
+  order-length = once-length (g .axes) (nodes g s t) s nodes-once

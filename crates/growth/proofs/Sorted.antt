@@ -36,7 +36,7 @@ use Rattle.growth.proofs.Renumbered.{nodes-arranged}
 
 -- ---- children: each ends before the next begins
 
-abbrev Ahead : ℕ → ℕ → ℕ → Type 0
+abbrev pub Ahead : ℕ → ℕ → ℕ → Type 0
 Ahead d x y = first d x + size d x ≤ first d y
 
 ahead : (d x y : ℕ) → levelOf x ≡ levelOf y → levelOf x ≤ 16 → codeOf x < codeOf y → Ahead d x y
@@ -51,7 +51,7 @@ module _ (d k : ℕ) (h : levelOf k < 16) where
   child-code : (c : ℕ) → codeOf (child d k c) ≡ codeOf k * 2 ^ d + c
   child-code c = key-code (levelOf k + 1) (codeOf k * 2 ^ d + c) (omega arith)
 
-  children-chain : (a n : ℕ) → Chain (Ahead d) (map (child d k) (range a n))
+  pub children-chain : (a n : ℕ) → Chain (Ahead d) (map (child d k) (range a n))
   unfolding Chain range
   children-chain a zero = tt
   children-chain a (suc n) = (λ y m. go y (mem-map (child d k) (range (suc a) n) y m), children-chain (suc a) n)
