@@ -1,0 +1,4 @@
+pub mod Inside
+pub mod Splits
+pub mod Forced
+pub mod Walking
