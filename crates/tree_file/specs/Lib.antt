@@ -1,0 +1,5 @@
+pub mod Bytes
+pub mod Contents
+pub mod Written
+pub mod Trailer
+pub mod Checks

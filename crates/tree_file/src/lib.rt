@@ -1,0 +1,1 @@
+// Tree files are defined and proved here; nothing is computed.
