@@ -1,0 +1,4 @@
+pub mod Nodes
+pub mod Columns
+pub mod Changes
+pub mod Answers
