@@ -1,3 +1,4 @@
 pub mod Examples
 pub mod Put
 pub mod Kept
+pub mod Formed
