@@ -2,3 +2,4 @@ pub mod Examples
 pub mod Put
 pub mod Kept
 pub mod Formed
+pub mod Same
