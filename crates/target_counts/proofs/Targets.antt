@@ -5,7 +5,7 @@ use mathlib.Core.List.{List, map}
 use mathlib.Core.Logic.{⊎-elim, _≢_}
 use Prim.Native.Nat.{ℕ, zero, suc, _+_, _*_, _-_, _/_, _≤_, _<_}
 use native.Mathlib.Omega.{arith}
-use native.Mathlib.Nat.{add-zero, add-suc, suc-mul, le-trans, le-of-eq, mul-le-mul-right, mul-le-mul}
+use native.Mathlib.Nat.{add-zero, add-suc, add-mul, suc-mul, zero-mul, one-mul, mul-one, le-trans, le-of-eq, mul-le-mul-right, mul-le-mul}
 use native.Mathlib.Numerals.{add-one}
 use native.Mathlib.Decide.{decLt}
 use lib.Dec.{eqb}
@@ -123,57 +123,81 @@ module _ (d : ℕ) (keys codes : List ℕ) (n : ℕ) (old : List ℕ) (fits : n 
             before j (yes l) _ = c .held-before j l
             before j (no l) k = let z : j ≡ row = omega arith in ap (λ x. held d keys (getD codes x 0)) z ∙ leaf-facts .0
 
+-- so far a row begins at most
+pub rows-small : (row axes : ℕ) → row ≤ 1048576 → axes ≤ 3 → row * axes ≤ 3145728
+rows-small row axes a b = mul-le-mul a b
+
 -- a row is there to read
 pub row-at : (axes row rows long : ℕ) → row < rows → rows * axes ≤ long → row * axes + axes ≤ long
 row-at axes row rows long h room = le-trans (le-of-eq (sym (suc-mul row axes))) (le-trans (mul-le-mul-right axes h) room)
 
+-- so many rows in a row are there
+pub rows-room : (axes from most long : ℕ) → from + most ≤ long / axes → (from + most * 1) * axes ≤ long
+rows-room axes from most long h = le-trans (mul-le-mul-right axes (omega (arith, mul-one most))) (rows-fit axes long)
+
 -- ---- a piece coded row by row
-pub record Coding (f : Frame) (xs : List Float) (from : ℕ) (codes : List ℕ) (n at : ℕ) : Type 0 where
-  pub at-is : at ≡ (from + n) * f .axes
+pub record Coding (f : Frame) (xs : List Float) (from far : ℕ) (codes : List ℕ) (n at : ℕ) : Type 0 where
+  pub at-is : at ≡ (from + n * far) * f .axes
   pub long : length codes ≡ 512
-  pub all-in : (i : ℕ) → i < n → inside f (drop ((from + i) * f .axes) xs) ≡ true
-  pub codes-are : (i : ℕ) → i < n → getD codes i 0 ≡ code16 f (drop ((from + i) * f .axes) xs)
+  pub all-in : (i : ℕ) → i < n → inside f (drop ((from + i * far) * f .axes) xs) ≡ true
+  pub codes-are : (i : ℕ) → i < n → getD codes i 0 ≡ code16 f (drop ((from + i * far) * f .axes) xs)
 
-module _ (f : Frame) (xs : List Float) (from : ℕ) where
-  pub coding-start : (codes : List ℕ) → length codes ≡ 512 → Coding f xs from codes 0 (from * f .axes)
-  coding-start codes long = record { at-is = ap (λ k. k * f .axes) (sym (add-zero from)); long = long; all-in = λ i l. absurd (omega arith); codes-are = λ i l. absurd (omega arith) }
+module _ (f : Frame) (xs : List Float) (from far : ℕ) where
+  pub coding-start : (codes : List ℕ) → length codes ≡ 512 → Coding f xs from far codes 0 (from * f .axes)
+  coding-start codes long = record { at-is = ap (λ k. k * f .axes) (omega (arith, zero-mul far)); long = long; all-in = λ i l. absurd (omega arith); codes-are = λ i l. absurd (omega arith) }
 
-  module _ (codes : List ℕ) (n at : ℕ) (c : Coding f xs from codes n at) where
-    pub row-there : (rows : ℕ) → from + n < rows → rows * f .axes ≤ length xs → at + f .axes ≤ length xs
-    row-there rows h room = le-trans (le-of-eq (ap (λ k. k + f .axes) (c .at-is))) (row-at (f .axes) (from + n) rows (length xs) h room)
+  module _ (codes : List ℕ) (n at : ℕ) (c : Coding f xs from far codes n at) where
+    next : at + far * f .axes ≡ (from + (n + 1) * far) * f .axes
+    next =
+        ap (λ k. k + far * f .axes) (c .at-is)
+        ∙ sym (add-mul (from + n * far) far (f .axes))
+        ∙ ap (λ k. k * f .axes) (omega (arith, ap (λ k. k * far) (add-one n), suc-mul n far))
 
-    pub coding-more : (code : ℕ) → n < 512 → inside f (drop at xs) ≡ true → code ≡ code16 f (drop at xs) → Coding f xs from (set codes n code) (n + 1) (at + f .axes)
+    module _ (most : ℕ) (h : n < most) where
+      far-enough : at + far * f .axes ≤ (from + most * far) * f .axes
+      far-enough = le-trans (le-of-eq next) (mul-le-mul-right (f .axes) (omega (arith, mul-le-mul-right far (up h))))
+        where
+          up : n < most → n + 1 ≤ most
+          up l = omega arith
+
+      -- the row is there to read
+      pub row-there : 1 ≤ far → (from + most * far) * f .axes ≤ length xs → at + f .axes ≤ length xs
+      row-there some room = omega (arith, far-enough, one, room)
+        where
+          one : f .axes ≤ far * f .axes
+          one = le-trans (le-of-eq (sym (one-mul (f .axes)))) (mul-le-mul-right (f .axes) some)
+
+      -- and the next begins not too far
+      pub next-small : from + most * far ≤ mostPoints → f .axes ≤ 3 → at + far * f .axes ≤ 3145728
+      next-small few axes = omega (arith, far-enough, rows-small (from + most * far) (f .axes) few axes)
+
+    pub coding-more : (code : ℕ) → n < 512 → inside f (drop at xs) ≡ true → code ≡ code16 f (drop at xs) → Coding f xs from far (set codes n code) (n + 1) (at + far * f .axes)
     coding-more code h i e = record {
-      at-is = ap (λ k. k + f .axes) (c .at-is) ∙ sym (suc-mul (from + n) (f .axes)) ∙ ap (λ k. k * f .axes) (omega arith);
+      at-is = next;
       long = length-set codes n code ∙ c .long;
       all-in = λ j l. in-at j (decLt j n) l;
       codes-are = λ j l. code-at j (decLt j n) l;
     }
       where
-        here : (j : ℕ) → j ≡ n → drop ((from + j) * f .axes) xs ≡ drop at xs
-        here j z = ap (λ k. drop ((from + k) * f .axes) xs) z ∙ ap (λ k. drop k xs) (sym (c .at-is))
+        here : (j : ℕ) → j ≡ n → drop ((from + j * far) * f .axes) xs ≡ drop at xs
+        here j z = ap (λ k. drop ((from + k * far) * f .axes) xs) z ∙ ap (λ k. drop k xs) (sym (c .at-is))
 
-        in-at : (j : ℕ) → Dec (j < n) → j < n + 1 → inside f (drop ((from + j) * f .axes) xs) ≡ true
+        in-at : (j : ℕ) → Dec (j < n) → j < n + 1 → inside f (drop ((from + j * far) * f .axes) xs) ≡ true
         in-at j (yes l) _ = c .all-in j l
         in-at j (no l) k = ap (inside f) (here j (omega arith)) ∙ i
 
-        code-at : (j : ℕ) → Dec (j < n) → j < n + 1 → getD (set codes n code) j 0 ≡ code16 f (drop ((from + j) * f .axes) xs)
+        code-at : (j : ℕ) → Dec (j < n) → j < n + 1 → getD (set codes n code) j 0 ≡ code16 f (drop ((from + j * far) * f .axes) xs)
         code-at j (yes l) _ = getD-set-other codes n j code 0 (λ z. omega arith) ∙ c .codes-are j l
         code-at j (no l) k =
             let z : j ≡ n = omega arith in
             ap (λ m. getD (set codes n code) m 0) z ∙ getD-set-same codes n code 0 (omega (arith, c .long)) ∙ e ∙ ap (code16 f) (sym (here j z))
 
-    -- what was coded before an outside row, or up to the end of a piece, which has one row at least
-    pub coded-stop : (rows : ℕ) → from + n ≤ rows → inside f (drop at xs) ≡ false → Piece f xs from rows codes n
-    coded-stop rows h i = record {
-      within = h;
-      all-in = c .all-in;
-      codes-are = c .codes-are;
-      none = λ z. ap (λ k. inside f (drop k xs)) (ap (λ k. k * f .axes) (omega arith) ∙ sym (c .at-is)) ∙ i;
-    }
+    -- what was coded, up to an outside row or to the end
+    pub coded-stop : (most : ℕ) → n ≤ most → inside f (drop at xs) ≡ false → Piece f xs from far most codes n
+    coded-stop most h i = record { within = h; all-in = c .all-in; codes-are = c .codes-are; stop = λ _. ap (λ k. inside f (drop k xs)) (sym (c .at-is)) ∙ i }
 
-    pub coded-all : (rows : ℕ) → from + n ≤ rows → 1 ≤ n → Piece f xs from rows codes n
-    coded-all rows h some = record { within = h; all-in = c .all-in; codes-are = c .codes-are; none = λ z. absurd (omega arith) }
+    pub coded-all : (most : ℕ) → n ≤ most → most ≤ n → Piece f xs from far most codes n
+    coded-all most h l = record { within = h; all-in = c .all-in; codes-are = c .codes-are; stop = λ z. absurd (omega arith) }
 
 -- ---- the first rows are inside and in leaves, and counted there
 pub record Counting (f : Frame) (n : ℕ) (keys : List ℕ) (xs : List Float) (counts : List ℕ) (row : ℕ) : Type 0 where
@@ -232,7 +256,13 @@ module _ (b : Box) (keys : List ℕ) (xs : List Float) where
         go (no l) = omega (arith, c .rows)
 
     -- ---- a piece of the targets
-    module _ (codes : List ℕ) (m : ℕ) (fits : m ≤ length codes) (p : Piece (frameOf b) xs row (rowsOf b xs) codes m) (r : ℕ) (q : r ≡ heldBefore d keys (take m codes)) where
+    module _ (codes : List ℕ) (most m : ℕ) (fits : m ≤ length codes) (end : row + most ≤ rowsOf b xs) (p : Piece (frameOf b) xs row 1 most codes m) (r : ℕ) (q : r ≡ heldBefore d keys (take m codes)) where
+      in-piece : (i : ℕ) → i < m → inside (frameOf b) (drop ((row + i) * b .axes) xs) ≡ true
+      in-piece i l = ap (λ k. inside (frameOf b) (drop ((row + k) * b .axes) xs)) (sym (mul-one i)) ∙ p .all-in i l
+
+      code-of : (i : ℕ) → i < m → getD codes i 0 ≡ code16 (frameOf b) (drop ((row + i) * b .axes) xs)
+      code-of i l = p .codes-are i l ∙ ap (λ k. code16 (frameOf b) (drop ((row + k) * b .axes) xs)) (mul-one i)
+
       -- its rows are inside
       rows-in : row + m ≤ rowsInside b xs
       rows-in = go (decLt (rowsInside b xs) (row + m))
@@ -242,7 +272,7 @@ module _ (b : Box) (keys : List ℕ) (xs : List Float) where
           go (yes l) =
               let i = rowsInside b xs - row in
               let e : row + i ≡ rowsInside b xs = omega (arith, c .rows) in
-              absurd (clash (ap (λ k. inside (frameOf b) (drop (k * b .axes) xs)) (sym e) ∙ p .all-in i (omega (arith, c .rows))) (row-outside n (frameOf b) xs (omega (arith, p .within))))
+              absurd (clash (ap (λ k. inside (frameOf b) (drop (k * b .axes) xs)) (sym e) ∙ in-piece i (omega (arith, c .rows))) (row-outside n (frameOf b) xs (omega (arith, p .within))))
 
       upto : r ≤ m
       upto = omega (arith, passing-le (held d keys) (take m codes), length-take-le m codes fits)
@@ -257,7 +287,7 @@ module _ (b : Box) (keys : List ℕ) (xs : List Float) where
               let j = i - row in
               let e : row + j ≡ i = omega arith in
               ap (λ x. held d keys (code16 (frameOf b) (drop (x * b .axes) xs))) (sym e)
-              ∙ ap (held d keys) (sym (p .codes-are j (omega (arith, upto))))
+              ∙ ap (held d keys) (sym (code-of j (omega (arith, upto))))
               ∙ ap (held d keys) (sym (getD-take m codes j 0 (omega (arith, upto))))
               ∙ passing-before (held d keys) (take m codes) j (omega arith)
 
@@ -287,7 +317,7 @@ module _ (b : Box) (keys : List ℕ) (xs : List Float) where
           marked i l =
               let s : row + i < n = omega (arith, p .within) in
               getD-map (leafKey d keys) codes i (omega arith)
-              ∙ ap (leafKey d keys) (p .codes-are i l ∙ sym (code-at-row n (row + i) (frameOf b) xs s))
+              ∙ ap (leafKey d keys) (code-of i l ∙ sym (code-at-row n (row + i) (frameOf b) xs s))
               ∙ sym (getD-map (leafKey d keys) all (row + i) (omega (arith, codes-length n (frameOf b) xs)))
 
       pub counting-unstored : r < m → Refused (Unstored (row + r)) ≡ pointsOutcome b keys xs
@@ -295,7 +325,7 @@ module _ (b : Box) (keys : List ℕ) (xs : List Float) where
       counting-unstored h =
           let inner : row + r < rowsInside b xs = omega (arith, rows-in) in
           let none : held d keys (code16 (frameOf b) (drop ((row + r) * b .axes) xs)) ≡ false =
-          ap (held d keys) (sym (p .codes-are r h)) ∙ ap (held d keys) (sym (getD-take m codes r 0 h)) ∙ ap (λ i. held d keys (getD (take m codes) i 0)) q ∙ passing-stop (held d keys) (take m codes) (omega (arith, length-take-le m codes fits)) in
+          ap (held d keys) (sym (code-of r h)) ∙ ap (held d keys) (sym (getD-take m codes r 0 h)) ∙ ap (λ i. held d keys (getD (take m codes) i 0)) q ∙ passing-stop (held d keys) (take m codes) (omega (arith, length-take-le m codes fits)) in
           let stop = held-is b keys xs (row + r) (rowsInside b xs) (omega arith) held-first (λ _. none) in
           rw (stop, ne-eqb (row + r) (rowsInside b xs) (λ z. omega arith))
 
@@ -323,10 +353,6 @@ module _ (b : Box) (keys : List ℕ) (xs : List Float) where
           let z : row ≡ n = omega (arith, c .rows, all-in) in
           subst (λ m. Counted keys (leafKeys d keys (codes16 m (frameOf b) xs)) n counts) (sym all-in)
           (subst (λ m. Counted keys (leafKeys d keys all) m counts) z (c .counted))
-
--- so far a row begins at most
-pub rows-small : (row axes : ℕ) → row ≤ 1048576 → axes ≤ 3 → row * axes ≤ 3145728
-rows-small row axes a b = mul-le-mul a b
 
 -- a refusal is no end
 pub not-done : {A : Type 0} (o : Outcome) (r : Rattle.refusal.specs.declared.Refusal.Refusal) → Refused r ≡ o → o ≡ Done → A

@@ -9,12 +9,12 @@ use Rattle.space.specs.declared.Frame.{Frame}
 use Rattle.space.specs.Cells.{inside, code16}
 use Rattle.grouping.specs.Passes.{firstIn}
 
--- of the rows from `from` on, up to row `end`, the first n are inside, and their codes are these; where there are none, row `from` is outside
-pub record Piece (f : Frame) (xs : List Float) (from end : ℕ) (codes : List ℕ) (n : ℕ) : Type 0 where
-  pub within : from + n ≤ end
-  pub all-in : (i : ℕ) → i < n → inside f (drop ((from + i) * f .axes) xs) ≡ true
-  pub codes-are : (i : ℕ) → i < n → getD codes i 0 ≡ code16 f (drop ((from + i) * f .axes) xs)
-  pub none : n ≡ 0 → inside f (drop (from * f .axes) xs) ≡ false
+-- of so many rows, `far` apart from row `from` on, the first n are inside, and their codes are these; if there are more, the next one is outside
+pub record Piece (f : Frame) (xs : List Float) (from far most : ℕ) (codes : List ℕ) (n : ℕ) : Type 0 where
+  pub within : n ≤ most
+  pub all-in : (i : ℕ) → i < n → inside f (drop ((from + i * far) * f .axes) xs) ≡ true
+  pub codes-are : (i : ℕ) → i < n → getD codes i 0 ≡ code16 f (drop ((from + i * far) * f .axes) xs)
+  pub stop : n < most → inside f (drop ((from + n * far) * f .axes) xs) ≡ false
 
 -- the first n marks are counted on top of what stood there: keys tell the nodes apart
 pub record Added (keys marks : List ℕ) (n : ℕ) (old new : List ℕ) : Type 0 where

@@ -26,14 +26,23 @@ fn piece_of(rest: usize) -> usize
     if rest < PIECE { rest } else { PIECE }
 }
 
-// Puts the codes of the targets from one row on, up to a piece's end or the first that is outside; answers how many.
-fn code_rows(f: Frame, targets: &[f64], from: usize, rows: usize, codes: &mut [u64]) -> usize
-    requires { ⌜ (1 ≤ f .axes) × (f .axes ≤ 3) × (from < rows) × (rows ≤ mostPoints) × (rows * f .axes ≤ length (now targets)) × (length (now codes) ≡ 512) ⌝ }
-    ensures { λ r. ⌜ (r ≤ 512) × (length (now (codes .exit)) ≡ 512) × Piece f (now (targets .entry)) from rows (now (codes .exit)) r ⌝ }
+// Puts the codes of so many targets, at equal distances from one row on, up to the first of them that is outside; answers how many.
+// More than one place calls it, so that a compiler leaves it a function of its own: joined with the whole call, its loop has too few
+// registers.
+fn code_rows(
+    f: Frame,
+    targets: &[f64],
+    from: usize,
+    far: usize,
+    most: usize,
+    codes: &mut [u64],
+) -> usize
+    requires { ⌜ (1 ≤ f .axes) × (f .axes ≤ 3) × (1 ≤ far) × (far ≤ mostPoints) × (most ≤ 512) × (length (now codes) ≡ 512) ⌝ }
+    requires { ⌜ (from + most * far ≤ mostPoints) × ((from + most * far) * f .axes ≤ length (now targets)) ⌝ }
+    ensures { λ r. ⌜ (length (now (codes .exit)) ≡ 512) × Piece f (now (targets .entry)) from far most (now (codes .exit)) r ⌝ }
 {
-    let axes = f.axes;
-    let most = piece_of(rows - from);
-    let mut at = from * axes;
+    let step = far * f.axes;
+    let mut at = from * f.axes;
     let mut n = 0;
     while n < most {
         match space::code_at(f, targets, at) {
@@ -45,7 +54,7 @@ fn code_rows(f: Frame, targets: &[f64], from: usize, rows: usize, codes: &mut [u
             }
         }
         n += 1;
-        at += axes;
+        at += step;
     }
     n
 }
@@ -105,7 +114,8 @@ fn count_by(
     let rows = targets.len() / axes;
     let mut row = 0;
     while row < rows {
-        let n = code_rows(f, targets, row, rows, codes);
+        let most = piece_of(rows - row);
+        let n = code_rows(f, targets, row, 1, most, codes);
         if n < 1 {
             return Outcome::Refused(Refusal::Point(space::wall_of(f, targets, row * axes, row)));
         }
@@ -118,31 +128,16 @@ fn count_by(
     Outcome::Done
 }
 
-// Puts the codes of some targets at equal distances, up to the first of them that is outside; answers how many.
+// Puts the codes of some targets, from all over them, up to the first of these that is outside; answers how many.
 fn some_codes(f: Frame, targets: &[f64], rows: usize, codes: &mut [u64]) -> usize
     requires { ⌜ (1 ≤ f .axes) × (f .axes ≤ 3) × (rows ≤ mostPoints) × (rows * f .axes ≤ length (now targets)) × (length (now codes) ≡ 512) ⌝ }
     ensures { λ r. ⌜ (r ≤ 64) × (length (now (codes .exit)) ≡ 512) ⌝ }
 {
-    let axes = f.axes;
-    let far = rows / hints::PROBES + 1;
-    let mut row: usize = 0;
-    let mut n: usize = 0;
-    while n < hints::PROBES {
-        if rows <= row {
-            return n;
-        }
-        match space::code_at(f, targets, row * axes) {
-            Cell::Number(code) => {
-                codes[n] = code;
-            }
-            Cell::Outside => {
-                return n;
-            }
-        }
-        row += far;
-        n += 1;
+    let far = rows / hints::PROBES;
+    if far < 1 {
+        return code_rows(f, targets, 0, 1, rows, codes);
     }
-    n
+    code_rows(f, targets, 0, far, hints::PROBES, codes)
 }
 
 // The same with hints of its own, made for where the targets are.
