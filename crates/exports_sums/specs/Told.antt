@@ -1,4 +1,4 @@
--- What the C face tells of the sum check and of the check of lists: how a call ended, and its numbers, 0 after a refusal.
+-- What the C face tells of the sum checks and of the check of lists: how a call ended, and its numbers, 0 after a refusal.
 use mathlib.Core.Bool.{Bool, false}
 use Prim.Native.Nat.{ℕ}
 use lib.IntN.{ℤ, pos}
@@ -8,6 +8,8 @@ use Rattle.list_check.specs.declared.RightAnswer.{RightAnswer}
 use Rattle.list_check.specs.declared.RightAnswer.the-variants as right
 use Rattle.sum_check.specs.declared.SumAnswer.{SumAnswer}
 use Rattle.sum_check.specs.declared.SumAnswer.the-variants as sums
+use Rattle.survey_check.specs.declared.SurveyAnswer.{SurveyAnswer}
+use Rattle.survey_check.specs.declared.SurveyAnswer.the-variants as survey
 
 abbrev pub rightEnd : RightAnswer → Outcome
 rightEnd (right.Right r) = Done
@@ -32,3 +34,15 @@ farIn (sums.Refused refusal) = pos 0
 abbrev pub additionsIn : SumAnswer → ℕ
 additionsIn (sums.Sums near far n) = n
 additionsIn (sums.Refused refusal) = 0
+
+abbrev pub surveyEnd : SurveyAnswer → Outcome
+surveyEnd (survey.Checked leaves n) = Done
+surveyEnd (survey.Refused refusal) = Refused refusal
+
+abbrev pub leavesIn : SurveyAnswer → ℕ
+leavesIn (survey.Checked leaves n) = leaves
+leavesIn (survey.Refused refusal) = 0
+
+abbrev pub allAdditionsIn : SurveyAnswer → ℕ
+allAdditionsIn (survey.Checked leaves n) = n
+allAdditionsIn (survey.Refused refusal) = 0

@@ -1,15 +1,18 @@
-// The sum check, the check of lists and the test of an order column for C.
+// The sum checks of a leaf and of a survey, the check of lists and the test of an order column for C.
 use exports_keys::Ended;
 use list_check::RightAnswer;
 use refusal::Outcome;
 use sum_check::SumAnswer;
+use survey_check::SurveyAnswer;
 ghost use mathlib.Core.Path.{_≡_};
+ghost use lib.ListN.{length, replicate};
 ghost use Rattle.tree.specs.Columns.{columns};
 ghost use Rattle.sums.specs.Arrangement.{arranges};
 ghost use Rattle.list_check.specs.Answers.{rightAnswer};
 ghost use Rattle.sum_check.specs.Answers.{sumAnswer};
+ghost use Rattle.survey_check.specs.Answers.{surveyAnswer};
 ghost use Rattle.exports_keys.specs.Told.{told};
-ghost use Rattle.exports_sums.specs.Told.{rightEnd, rightIn, sumsEnd, nearIn, farIn, additionsIn};
+ghost use Rattle.exports_sums.specs.Told.{rightEnd, rightIn, sumsEnd, nearIn, farIn, additionsIn, surveyEnd, leavesIn, allAdditionsIn};
 
 // Whether the order column has each index below the total once.
 #[no_mangle]
@@ -127,4 +130,70 @@ pub extern "C" fn lohandema_sum_check(
         node,
     );
     tell_sums(answer, near, far, additions)
+}
+
+// Tells the answer of a survey's sum check.
+fn tell_survey(answer: SurveyAnswer, leaves: &mut usize, additions: &mut usize) -> Ended
+    ensures ended { λ r. ⌜ r ≡ told (surveyEnd answer) ⌝ }
+    ensures leaves { λ _. ⌜ now (leaves .exit) ≡ leavesIn answer ⌝ }
+    ensures additions { λ _. ⌜ now (additions .exit) ≡ allAdditionsIn answer ⌝ }
+{
+    match answer {
+        SurveyAnswer::Checked(agreeing, count) => {
+            *leaves = agreeing;
+            *additions = count;
+            exports_keys::end_of(Outcome::Done)
+        }
+        SurveyAnswer::Refused(refusal) => {
+            *leaves = 0;
+            *additions = 0;
+            exports_keys::end_of(Outcome::Refused(refusal))
+        }
+    }
+}
+
+// How many leaves' near and far sum together are the plain sum of all readings, and the additions of all leaves.
+#[no_mangle]
+pub extern "C" fn lohandema_check_sums(
+    axes: usize,
+    key: &[u64],
+    own: &[usize],
+    begin: &[usize],
+    total: &[usize],
+    indices: &[usize],
+    readings: &[i64],
+    u_starts: &[usize],
+    u_keys: &[u64],
+    v_starts: &[usize],
+    v_keys: &[u64],
+    sums: &mut [u64],
+    leaves: &mut usize,
+    additions: &mut usize,
+) -> Ended
+    ensures ended { λ r. ⌜ r ≡ told (surveyEnd (surveyAnswer axes (columns (now (key .entry)) (now (own .entry)) (now (begin .entry)) (now (total .entry)))
+        (now (indices .entry)) (now (readings .entry)) (now («u_starts» .entry)) (now («u_keys» .entry)) (now («v_starts» .entry)) (now («v_keys» .entry))
+        (length (now (sums .entry))))) ⌝ }
+    ensures leaves { λ _. ⌜ now (leaves .exit) ≡ leavesIn (surveyAnswer axes (columns (now (key .entry)) (now (own .entry)) (now (begin .entry)) (now (total .entry)))
+        (now (indices .entry)) (now (readings .entry)) (now («u_starts» .entry)) (now («u_keys» .entry)) (now («v_starts» .entry)) (now («v_keys» .entry))
+        (length (now (sums .entry)))) ⌝ }
+    ensures additions { λ _. ⌜ now (additions .exit) ≡ allAdditionsIn (surveyAnswer axes (columns (now (key .entry)) (now (own .entry)) (now (begin .entry)) (now (total .entry)))
+        (now (indices .entry)) (now (readings .entry)) (now («u_starts» .entry)) (now («u_keys» .entry)) (now («v_starts» .entry)) (now («v_keys» .entry))
+        (length (now (sums .entry)))) ⌝ }
+    ensures left { λ _. ⌜ now (sums .exit) ≡ replicate (length (now (sums .entry))) 0 ⌝ }
+{
+    let answer = survey_check::check_sums(
+        axes,
+        key,
+        own,
+        begin,
+        total,
+        indices,
+        readings,
+        u_starts,
+        u_keys,
+        v_starts,
+        v_keys,
+        sums,
+    );
+    tell_survey(answer, leaves, additions)
 }

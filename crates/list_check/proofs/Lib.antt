@@ -1,4 +1,5 @@
 pub mod Starts
 pub mod Nodes
+pub mod Riding
 pub mod Path
 pub mod Judged

@@ -6,12 +6,11 @@ use mathlib.Core.Logic.{⊎-elim, _⊎_, inl, inr}
 use Prim.Native.Nat.{ℕ, zero, suc, _+_, _-_, _≤_, _<_, min}
 use native.Mathlib.Omega.{arith}
 use native.Mathlib.Numerals.{add-one}
-use lib.ListN.{length, getD, set, replicate, length-replicate, getD-replicate, length-set}
-use lib.Seq.{getD-set-same, getD-set-other}
+use lib.ListN.{length, getD, set, replicate}
 use Rattle.slices.specs.Lists.{sum, Mem}
 use Rattle.slices.proofs.Tests.{clash, lt-or-le}
 use Rattle.slices.proofs.Sums.{sum-same}
-use Rattle.morton.specs.Keys.{levelOf, parent, upwards, ancestors, under}
+use Rattle.morton.specs.Keys.{levelOf, parent, upwards, ancestors}
 use Rattle.morton.proofs.Cells.{level-parent}
 use Rattle.tree.specs.Nodes.{leaf, ownOf}
 use Rattle.tree.specs.Totals.{totalIn}
@@ -20,10 +19,7 @@ use Rattle.tree.specs.declared.Found as F
 use Rattle.tree.specs.declared.Found.the-variants.{At, Nothing}
 use Rattle.tree.proofs.Rules as Rules
 use Rattle.tree.proofs.Rules.{facts, rows-of}
-use Rattle.tree.proofs.Laws.{parent-holds}
-use Rattle.tree.proofs.Ranges.{nested, same-level, parent-under, level-pos, level-le}
 use Rattle.tree.proofs.Leaves.{place-is}
-use Rattle.tree.proofs.Sourced.{under-facts, under-trans}
 use Rattle.tree.proofs.Members.{root-no-leaf}
 use Rattle.tree.proofs.Totals.{root-total}
 use Rattle.tree.proofs.Verdict.{total-at}
@@ -40,6 +36,7 @@ use Rattle.list_rows.specs.Rows.{tooMany, RowPasses, rowTotal}
 use Rattle.list_rows.proofs.Rows.{total-of}
 use Rattle.list_check.specs.Checks.{Started, farMet, metHere, NearRight, NodeRight, NodeSays, Below}
 use Rattle.list_check.proofs.Starts.{row-empty, empty-row}
+use Rattle.list_check.proofs.Riding.{Rides, ride-start, ride-deep, ride-in, ride-above, ride-more}
 
 module _ (d : ℕ) (keys own total us uk vs vk : List ℕ) where
   abbrev far : ℕ → ℕ
@@ -68,9 +65,8 @@ module _ (d : ℕ) (keys own total us uk vs vk : List ℕ) where
   pub record Judging (counts : List ℕ) (i : ℕ) : Type 0 where
     pub some : 0 < i
     pub upto : i ≤ length keys
-    pub size : length counts ≡ 17
+    pub rides : Rides d keys (λ a. min (far a) tooMany) counts i
     pub right : (j : ℕ) → 0 < j → j < i → Right j
-    pub path : (a : ℕ) → under d a (getD keys (i - 1) 0) ≡ true → getD counts (levelOf a) 0 ≡ min (far a) tooMany
 
   module _ (c : Counted d keys own total) (s : Started keys us uk vs vk) where
     abbrev begin : List ℕ
@@ -104,43 +100,29 @@ module _ (d : ℕ) (keys own total us uk vs vk : List ℕ) where
       judge-start = record {
         some = omega arith;
         upto = omega (arith, w .some);
-        size = length-replicate {A = ℕ} 17 0;
+        rides = ride-start d keys (λ a. min (far a) tooMany) own begin w (ap (λ n. min n tooMany) none);
         right = λ j p q. absurd (omega arith);
-        path = λ a u. start a (subst (λ x. under d a x ≡ true) (w .ascending .root) u);
       }
         where
           none : far 0 ≡ 0
           none = far-root 0 refl ∙ ap (rowTotal keys total) (ap (rowOf keys vs vk) (sym (w .ascending .root)) ∙ row-at vs vk 0 (w .some) ∙ root-v)
-
-          start : (a : ℕ) → under d a 0 ≡ true → getD (replicate 17 0) (levelOf a) 0 ≡ min (far a) tooMany
-          start a u =
-              let z : levelOf a ≡ 0 = omega (arith, under-facts d a 0 u .level) in
-              let e : 0 ≡ a = same-level d a 0 u (omega arith) in
-              ap (λ n. getD (replicate 17 0) n 0) z ∙ sym (ap (λ x. min (far x) tooMany) (sym e) ∙ ap (λ n. min n tooMany) none)
 
     -- ---- one node more
     module _ (counts : List ℕ) (i : ℕ) (g : Judging counts i) (l : i < length keys) where
       abbrev k : ℕ
       k = getD keys i 0
 
-      last : suc (i - 1) ≡ i
-      last = omega (arith, g .some)
-
       pub below : Below keys i
       below = record { some = g .some; within = l }
 
       deep : 0 < levelOf k
-      deep = level-pos d keys (w .ascending) i (g .some) l
+      deep = ride-deep d keys (λ a. min (far a) tooMany) own begin w i (g .some) l
 
       pub level-in : (0 < levelOf k) × (levelOf k < length counts)
-      level-in = (deep, omega (arith, level-le d keys (w .ascending) i l, g .size))
-
-      -- its parent holds the node before
-      over : under d (parent d k) (getD keys (i - 1) 0) ≡ true
-      over = subst (λ n. under d (parent d (getD keys n 0)) (getD keys (i - 1) 0) ≡ true) last (parent-holds d keys nodes (i - 1) (omega arith))
+      level-in = (deep, ride-in d keys (λ a. min (far a) tooMany) own begin w i (g .some) l counts (g .rides))
 
       above-is : getD counts (levelOf k - 1) 0 ≡ min (far (parent d k)) tooMany
-      above-is = ap (λ n. getD counts n 0) (sym (level-parent d k)) ∙ g .path (parent d k) over
+      above-is = ride-above d keys (λ a. min (far a) tooMany) own begin w i (g .some) l counts (g .rides)
 
       pub above-small : getD counts (levelOf k - 1) 0 ≤ tooMany
       above-small = omega (arith, above-is)
@@ -152,9 +134,8 @@ module _ (d : ℕ) (keys own total us uk vs vk : List ℕ) where
       judge-more a h met e = record {
         some = omega arith;
         upto = omega arith;
-        size = length-set counts (levelOf k) met ∙ g .size;
+        rides = ride-more d keys (λ a. min (far a) tooMany) own begin w i (g .some) l counts (g .rides) met met-is;
         right = λ j p q. ⊎-elim (λ (z : j < i). g .right j p z) (λ (z : i ≤ j). let same : i ≡ j = omega arith in subst Right same now-right) (lt-or-le j i);
-        path = λ x u. by-level x (subst (λ n. under d x (getD keys n 0) ≡ true) (let z : (i + 1) - 1 ≡ i = omega arith in z) u);
       }
         where
           says : NodeRight d keys own total us uk vs vk i (getD counts (levelOf k - 1) 0) × (met ≡ metHere keys total vs vk i (getD counts (levelOf k - 1) 0))
@@ -170,15 +151,6 @@ module _ (d : ℕ) (keys own total us uk vs vk : List ℕ) where
 
           met-is : met ≡ min (far k) tooMany
           met-is = omega (arith, says .1, above-is, far-is)
-
-          by-level : (x : ℕ) → under d x k ≡ true → getD (set counts (levelOf k) met) (levelOf x) 0 ≡ min (far x) tooMany
-          by-level x u = ⊎-elim
-              (λ (z : levelOf x < levelOf k). getD-set-other counts (levelOf k) (levelOf x) met 0 (λ q. omega arith)
-              ∙ g .path x (under-trans d x (parent d k) (getD keys (i - 1) 0) (nested d x (parent d k) k (level-le d keys (w .ascending) i l) (omega (arith, level-parent d k)) u (parent-under d k deep)) over))
-              (λ (z : levelOf k ≤ levelOf x).
-              let same : k ≡ x = same-level d x k u z in
-              subst (λ y. getD (set counts (levelOf k) met) (levelOf y) 0 ≡ min (far y) tooMany) same (getD-set-same counts (levelOf k) met 0 (level-in .1) ∙ met-is))
-              (lt-or-le (levelOf x) (levelOf k))
 
     -- ---- what is met, by the definition
     total-in : (x : ℕ) → Mem x keys → ownOf keys total x ≡ totalIn d keys own x

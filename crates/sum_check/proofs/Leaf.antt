@@ -77,10 +77,10 @@ module _ (d : ℕ) (keys own begin total : List ℕ) (readings : List ℤ) (orde
   mb : Mem b keys
   mb = (node, k .within, refl)
 
-  rows : StartsRight keys us uk × StartsRight keys vs vk × ListsRight d keys own (rowOf keys us uk) (rowOf keys vs vk)
+  pub rows : StartsRight keys us uk × StartsRight keys vs vk × ListsRight d keys own (rowOf keys us uk) (rowOf keys vs vk)
   rows = right-flat d keys own begin formed' us uk vs vk (k .flat)
 
-  gives : Gives keys (uRow d keys own) (rowOf keys us uk) × Gives keys (vRow d keys own) (rowOf keys vs vk)
+  pub gives : Gives keys (uRow d keys own) (rowOf keys us uk) × Gives keys (vRow d keys own) (rowOf keys vs vk)
   gives = lists-right d keys own begin formed' (rowOf keys us uk) (rowOf keys vs vk) (rows .2)
 
   -- ---- what the sums ask
@@ -97,7 +97,7 @@ module _ (d : ℕ) (keys own begin total : List ℕ) (readings : List ℤ) (orde
     runs = λ i l. omega (arith, w .rows .runs i l, sum-take own i, sum-whole own (suc i), k .arranged .entries);
   }
 
-  far-columns : Columns d keys total begin order
+  pub far-columns : Columns d keys total begin order
   far-columns = record {
     counts = w .totals;
     begins = t .begins;
@@ -129,7 +129,7 @@ module _ (d : ℕ) (keys own begin total : List ℕ) (readings : List ℤ) (orde
   part-is : part ≡ uRow d keys own b
   part-is = row-is ∙ gives .0 b mb
 
-  adds : sourcesMet d keys own (rowOf keys us uk) (rowOf keys vs vk) b ≡ sum own
+  pub adds : sourcesMet d keys own (rowOf keys us uk) (rowOf keys vs vk) b ≡ sum own
   adds = rows .2 .adds b mb (k .is-leaf)
 
   near-few : sourcesIn keys own part ≤ mostSources
@@ -142,13 +142,13 @@ module _ (d : ℕ) (keys own begin total : List ℕ) (readings : List ℤ) (orde
   count-asks = (counts, near-few)
 
   -- ---- far
-  total-in : (x : ℕ) → Mem x keys → ownOf keys total x ≡ totalIn d keys own x
+  pub total-in : (x : ℕ) → Mem x keys → ownOf keys total x ≡ totalIn d keys own x
   total-in x (i, l, e) = subst (λ y. ownOf keys total y ≡ totalIn d keys own y) e (own-at keys total (t .distinct) (w .totals) i l ∙ w .totalled i l)
 
-  far-few : farCount d keys total vs vk b ≤ sum own
+  pub far-few : farCount d keys total vs vk b ≤ sum own
   far-few = omega (arith, adds, met-is d keys own total us uk vs vk (counted d keys own begin total (k .readings-read .tree)) (record { near = rows .0; far = rows .1 }) (rows .2 .passing) node (k .within))
 
-  cells-few : farCells d keys vs vk b ≤ farCount d keys total vs vk b
+  pub cells-few : farCells d keys vs vk b ≤ farCount d keys total vs vk b
   cells-few = sum-less (λ a. length (rowOf keys vs vk a)) (λ a. sourcesIn keys total (rowOf keys vs vk a)) (ancestors d b) (λ a m.
       let ma = ancestor-mem d keys own begin t b a mb m in
       length-le (ownOf keys total) (rowOf keys vs vk a) (λ x n.
@@ -173,14 +173,14 @@ module _ (d : ℕ) (keys own begin total : List ℕ) (readings : List ℤ) (orde
       (ap₂ (λ a n. addedℤ (readingAt order readings) (range a n)) (own-at keys begin (t .distinct) (t .begins) i l) (own-at keys total (t .distinct) (w .totals) i l ∙ w .totalled i l)
       ∙ sym (run-readings d keys own begin formed' i l order readings))
 
-  far-is : farReadings d keys total begin order readings vs vk b ≡ farOf d (columns keys own begin total) order readings node
+  pub far-is : farReadings d keys total begin order readings vs vk b ≡ farOf d (columns keys own begin total) order readings node
   unfolding farSum
   far-is = total-same (pos 0) _+ℤ_ wholes (λ a. addedℤ (nodeReadings keys total begin order readings) (rowOf keys vs vk a)) (λ a. addedℤ (cellReadings d keys own begin order readings) (vRow d keys own a)) (ancestors d b) (λ a m.
       let ma = ancestor-mem d keys own begin t b a mb m in
       total-same (pos 0) _+ℤ_ wholes (nodeReadings keys total begin order readings) (cellReadings d keys own begin order readings) (rowOf keys vs vk a) (λ x n. cell-is x (rows .2 .passing .v-passes a x ma n .0))
       ∙ ap (addedℤ (cellReadings d keys own begin order readings)) (gives .1 a ma))
 
-  cells-is : farCells d keys vs vk b ≡ sum (map (λ a. length (vRow d keys own a)) (ancestors d b))
+  pub cells-is : farCells d keys vs vk b ≡ sum (map (λ a. length (vRow d keys own a)) (ancestors d b))
   cells-is = sum-same (λ a. length (rowOf keys vs vk a)) (λ a. length (vRow d keys own a)) (ancestors d b) (λ a m. ap length (gives .1 a (ancestor-mem d keys own begin t b a mb m)))
 
   -- ---- together

@@ -40,7 +40,7 @@ fn first_large(readings: &[i64]) -> usize
 }
 
 // The refusals of the tree and the readings.
-fn readings_outcome(
+pub fn readings_outcome(
     axes: usize,
     key: &[u64],
     own: &[usize],
@@ -76,7 +76,7 @@ fn is_leaf_at(axes: usize, key: &[u64], node: usize) -> bool
 }
 
 // Whether the lists are the tree's, and the order arranges all indices.
-fn is_built(
+pub fn is_built(
     axes: usize,
     key: &[u64],
     own: &[usize],

@@ -43,10 +43,10 @@ sub-above : tie.Need-sub-above Inv-loop μ-loop
 sub-above c = level-in (c .before .before .before .before .before .before .before .before .before .before .before .before .before .before .args .axes) (now (c .before .before .before .before .before .before .before .before .before .before .before .before .before .before .args .key)) (now (c .before .before .before .before .before .before .before .before .before .before .before .before .before .before .args .own)) (now (c .before .before .before .before .before .before .before .before .before .before .before .before .before .before .args .total)) (now (c .before .before .before .before .before .before .before .before .before .before .before .before .before .before .args .u-starts)) (now (c .before .before .before .before .before .before .before .before .before .before .before .before .before .before .args .u-keys)) (now (c .before .before .before .before .before .before .before .before .before .before .before .before .before .before .args .v-starts)) (now (c .before .before .before .before .before .before .before .before .before .before .before .before .before .before .args .v-keys)) (c .before .before .before .before .before .before .before .before .before .before .before .before .before .before .pre .0) (c .before .before .before .before .before .before .before .before .before .before .before .before .before .before .pre .1) (c .before .before .loop .far) (c .before .before .loop .node) (c .before .before .loop .inv .1) (c .before .loop-test .taken) .0
 
 mul-above : tie.Need-mul-above Inv-loop μ-loop
-mul-above c = omega (arith, level-in (c .before .before .before .before .before .before .before .before .before .before .before .before .before .before .args .axes) (now (c .before .before .before .before .before .before .before .before .before .before .before .before .before .before .args .key)) (now (c .before .before .before .before .before .before .before .before .before .before .before .before .before .before .args .own)) (now (c .before .before .before .before .before .before .before .before .before .before .before .before .before .before .args .total)) (now (c .before .before .before .before .before .before .before .before .before .before .before .before .before .before .args .u-starts)) (now (c .before .before .before .before .before .before .before .before .before .before .before .before .before .before .args .u-keys)) (now (c .before .before .before .before .before .before .before .before .before .before .before .before .before .before .args .v-starts)) (now (c .before .before .before .before .before .before .before .before .before .before .before .before .before .before .args .v-keys)) (c .before .before .before .before .before .before .before .before .before .before .before .before .before .before .pre .0) (c .before .before .before .before .before .before .before .before .before .before .before .before .before .before .pre .1) (c .before .before .loop .far) (c .before .before .loop .node) (c .before .before .loop .inv .1) (c .before .loop-test .taken) .1, c .before .before .loop .inv .1 .size)
+mul-above c = omega (arith, level-in (c .before .before .before .before .before .before .before .before .before .before .before .before .before .before .args .axes) (now (c .before .before .before .before .before .before .before .before .before .before .before .before .before .before .args .key)) (now (c .before .before .before .before .before .before .before .before .before .before .before .before .before .before .args .own)) (now (c .before .before .before .before .before .before .before .before .before .before .before .before .before .before .args .total)) (now (c .before .before .before .before .before .before .before .before .before .before .before .before .before .before .args .u-starts)) (now (c .before .before .before .before .before .before .before .before .before .before .before .before .before .before .args .u-keys)) (now (c .before .before .before .before .before .before .before .before .before .before .before .before .before .before .args .v-starts)) (now (c .before .before .before .before .before .before .before .before .before .before .before .before .before .before .args .v-keys)) (c .before .before .before .before .before .before .before .before .before .before .before .before .before .before .pre .0) (c .before .before .before .before .before .before .before .before .before .before .before .before .before .before .pre .1) (c .before .before .loop .far) (c .before .before .loop .node) (c .before .before .loop .inv .1) (c .before .loop-test .taken) .1, c .before .before .loop .inv .1 .rides .size)
 
 array-read-above : tie.Need-array-read-above Inv-loop μ-loop
-array-read-above c = omega (arith, level-in (c .before .before .before .before .before .before .before .before .before .before .before .before .before .before .args .axes) (now (c .before .before .before .before .before .before .before .before .before .before .before .before .before .before .args .key)) (now (c .before .before .before .before .before .before .before .before .before .before .before .before .before .before .args .own)) (now (c .before .before .before .before .before .before .before .before .before .before .before .before .before .before .args .total)) (now (c .before .before .before .before .before .before .before .before .before .before .before .before .before .before .args .u-starts)) (now (c .before .before .before .before .before .before .before .before .before .before .before .before .before .before .args .u-keys)) (now (c .before .before .before .before .before .before .before .before .before .before .before .before .before .before .args .v-starts)) (now (c .before .before .before .before .before .before .before .before .before .before .before .before .before .before .args .v-keys)) (c .before .before .before .before .before .before .before .before .before .before .before .before .before .before .pre .0) (c .before .before .before .before .before .before .before .before .before .before .before .before .before .before .pre .1) (c .before .before .loop .far) (c .before .before .loop .node) (c .before .before .loop .inv .1) (c .before .loop-test .taken) .1, c .before .before .loop .inv .1 .size)
+array-read-above c = omega (arith, level-in (c .before .before .before .before .before .before .before .before .before .before .before .before .before .before .args .axes) (now (c .before .before .before .before .before .before .before .before .before .before .before .before .before .before .args .key)) (now (c .before .before .before .before .before .before .before .before .before .before .before .before .before .before .args .own)) (now (c .before .before .before .before .before .before .before .before .before .before .before .before .before .before .args .total)) (now (c .before .before .before .before .before .before .before .before .before .before .before .before .before .before .args .u-starts)) (now (c .before .before .before .before .before .before .before .before .before .before .before .before .before .before .args .u-keys)) (now (c .before .before .before .before .before .before .before .before .before .before .before .before .before .before .args .v-starts)) (now (c .before .before .before .before .before .before .before .before .before .before .before .before .before .before .args .v-keys)) (c .before .before .before .before .before .before .before .before .before .before .before .before .before .before .pre .0) (c .before .before .before .before .before .before .before .before .before .before .before .before .before .before .pre .1) (c .before .before .loop .far) (c .before .before .loop .node) (c .before .before .loop .inv .1) (c .before .loop-test .taken) .1, c .before .before .loop .inv .1 .rides .size)
 
 slice-aggregate-node-sources : tie.Need-slice-aggregate-node-sources Inv-loop μ-loop
 slice-aggregate-node-sources c = search needs
@@ -67,10 +67,10 @@ returns-3 : tie.Need-returns-3 Inv-loop μ-loop
 returns-3 c = λ r. judge-fails (c .before .before .before .before .before .before .before .before .before .before .before .before .before .before .before .before .before .before .before .before .before .args .axes) (now (c .before .before .before .before .before .before .before .before .before .before .before .before .before .before .before .before .before .before .before .before .before .args .key)) (now (c .before .before .before .before .before .before .before .before .before .before .before .before .before .before .before .before .before .before .before .before .before .args .own)) (now (c .before .before .before .before .before .before .before .before .before .before .before .before .before .before .before .before .before .before .before .before .before .args .total)) (now (c .before .before .before .before .before .before .before .before .before .before .before .before .before .before .before .before .before .before .before .before .before .args .u-starts)) (now (c .before .before .before .before .before .before .before .before .before .before .before .before .before .before .before .before .before .before .before .before .before .args .u-keys)) (now (c .before .before .before .before .before .before .before .before .before .before .before .before .before .before .before .before .before .before .before .before .before .args .v-starts)) (now (c .before .before .before .before .before .before .before .before .before .before .before .before .before .before .before .before .before .before .before .before .before .args .v-keys)) (c .before .before .before .before .before .before .before .before .before .before .before .before .before .before .before .before .before .before .before .before .before .pre .0) (c .before .before .before .before .before .before .before .before .before .before .before .before .before .before .before .before .before .before .before .before .before .pre .1) r (c .before .before .before .before .before .before .before .before .before .loop .far) (c .before .before .before .before .before .before .before .before .before .loop .node) (c .before .before .before .before .before .before .before .before .before .loop .inv .1) (c .before .before .before .before .before .before .before .before .loop-test .taken) (c .before .before .before .before .node-sources .result) (c .before .before .before .before .node-sources .ensures .0) (c .enum-told .given .1)
 
 mul-far : tie.Need-mul-far Inv-loop μ-loop
-mul-far c = omega (arith, level-in (c .before .before .before .before .before .before .before .before .before .before .before .before .before .before .before .before .before .before .before .before .before .before .args .axes) (now (c .before .before .before .before .before .before .before .before .before .before .before .before .before .before .before .before .before .before .before .before .before .before .args .key)) (now (c .before .before .before .before .before .before .before .before .before .before .before .before .before .before .before .before .before .before .before .before .before .before .args .own)) (now (c .before .before .before .before .before .before .before .before .before .before .before .before .before .before .before .before .before .before .before .before .before .before .args .total)) (now (c .before .before .before .before .before .before .before .before .before .before .before .before .before .before .before .before .before .before .before .before .before .before .args .u-starts)) (now (c .before .before .before .before .before .before .before .before .before .before .before .before .before .before .before .before .before .before .before .before .before .before .args .u-keys)) (now (c .before .before .before .before .before .before .before .before .before .before .before .before .before .before .before .before .before .before .before .before .before .before .args .v-starts)) (now (c .before .before .before .before .before .before .before .before .before .before .before .before .before .before .before .before .before .before .before .before .before .before .args .v-keys)) (c .before .before .before .before .before .before .before .before .before .before .before .before .before .before .before .before .before .before .before .before .before .before .pre .0) (c .before .before .before .before .before .before .before .before .before .before .before .before .before .before .before .before .before .before .before .before .before .before .pre .1) (c .before .before .before .before .before .before .before .before .before .before .loop .far) (c .before .before .before .before .before .before .before .before .before .before .loop .node) (c .before .before .before .before .before .before .before .before .before .before .loop .inv .1) (c .before .before .before .before .before .before .before .before .before .loop-test .taken) .1, c .before .before .before .before .before .before .before .before .before .before .loop .inv .1 .size)
+mul-far c = omega (arith, level-in (c .before .before .before .before .before .before .before .before .before .before .before .before .before .before .before .before .before .before .before .before .before .before .args .axes) (now (c .before .before .before .before .before .before .before .before .before .before .before .before .before .before .before .before .before .before .before .before .before .before .args .key)) (now (c .before .before .before .before .before .before .before .before .before .before .before .before .before .before .before .before .before .before .before .before .before .before .args .own)) (now (c .before .before .before .before .before .before .before .before .before .before .before .before .before .before .before .before .before .before .before .before .before .before .args .total)) (now (c .before .before .before .before .before .before .before .before .before .before .before .before .before .before .before .before .before .before .before .before .before .before .args .u-starts)) (now (c .before .before .before .before .before .before .before .before .before .before .before .before .before .before .before .before .before .before .before .before .before .before .args .u-keys)) (now (c .before .before .before .before .before .before .before .before .before .before .before .before .before .before .before .before .before .before .before .before .before .before .args .v-starts)) (now (c .before .before .before .before .before .before .before .before .before .before .before .before .before .before .before .before .before .before .before .before .before .before .args .v-keys)) (c .before .before .before .before .before .before .before .before .before .before .before .before .before .before .before .before .before .before .before .before .before .before .pre .0) (c .before .before .before .before .before .before .before .before .before .before .before .before .before .before .before .before .before .before .before .before .before .before .pre .1) (c .before .before .before .before .before .before .before .before .before .before .loop .far) (c .before .before .before .before .before .before .before .before .before .before .loop .node) (c .before .before .before .before .before .before .before .before .before .before .loop .inv .1) (c .before .before .before .before .before .before .before .before .before .loop-test .taken) .1, c .before .before .before .before .before .before .before .before .before .before .loop .inv .1 .rides .size)
 
 array-write-far : tie.Need-array-write-far Inv-loop μ-loop
-array-write-far c = omega (arith, level-in (c .before .before .before .before .before .before .before .before .before .before .before .before .before .before .before .before .before .before .before .before .before .before .args .axes) (now (c .before .before .before .before .before .before .before .before .before .before .before .before .before .before .before .before .before .before .before .before .before .before .args .key)) (now (c .before .before .before .before .before .before .before .before .before .before .before .before .before .before .before .before .before .before .before .before .before .before .args .own)) (now (c .before .before .before .before .before .before .before .before .before .before .before .before .before .before .before .before .before .before .before .before .before .before .args .total)) (now (c .before .before .before .before .before .before .before .before .before .before .before .before .before .before .before .before .before .before .before .before .before .before .args .u-starts)) (now (c .before .before .before .before .before .before .before .before .before .before .before .before .before .before .before .before .before .before .before .before .before .before .args .u-keys)) (now (c .before .before .before .before .before .before .before .before .before .before .before .before .before .before .before .before .before .before .before .before .before .before .args .v-starts)) (now (c .before .before .before .before .before .before .before .before .before .before .before .before .before .before .before .before .before .before .before .before .before .before .args .v-keys)) (c .before .before .before .before .before .before .before .before .before .before .before .before .before .before .before .before .before .before .before .before .before .before .pre .0) (c .before .before .before .before .before .before .before .before .before .before .before .before .before .before .before .before .before .before .before .before .before .before .pre .1) (c .before .before .before .before .before .before .before .before .before .before .loop .far) (c .before .before .before .before .before .before .before .before .before .before .loop .node) (c .before .before .before .before .before .before .before .before .before .before .loop .inv .1) (c .before .before .before .before .before .before .before .before .before .loop-test .taken) .1, c .before .before .before .before .before .before .before .before .before .before .loop .inv .1 .size)
+array-write-far c = omega (arith, level-in (c .before .before .before .before .before .before .before .before .before .before .before .before .before .before .before .before .before .before .before .before .before .before .args .axes) (now (c .before .before .before .before .before .before .before .before .before .before .before .before .before .before .before .before .before .before .before .before .before .before .args .key)) (now (c .before .before .before .before .before .before .before .before .before .before .before .before .before .before .before .before .before .before .before .before .before .before .args .own)) (now (c .before .before .before .before .before .before .before .before .before .before .before .before .before .before .before .before .before .before .before .before .before .before .args .total)) (now (c .before .before .before .before .before .before .before .before .before .before .before .before .before .before .before .before .before .before .before .before .before .before .args .u-starts)) (now (c .before .before .before .before .before .before .before .before .before .before .before .before .before .before .before .before .before .before .before .before .before .before .args .u-keys)) (now (c .before .before .before .before .before .before .before .before .before .before .before .before .before .before .before .before .before .before .before .before .before .before .args .v-starts)) (now (c .before .before .before .before .before .before .before .before .before .before .before .before .before .before .before .before .before .before .before .before .before .before .args .v-keys)) (c .before .before .before .before .before .before .before .before .before .before .before .before .before .before .before .before .before .before .before .before .before .before .pre .0) (c .before .before .before .before .before .before .before .before .before .before .before .before .before .before .before .before .before .before .before .before .before .before .pre .1) (c .before .before .before .before .before .before .before .before .before .before .loop .far) (c .before .before .before .before .before .before .before .before .before .before .loop .node) (c .before .before .before .before .before .before .before .before .before .before .loop .inv .1) (c .before .before .before .before .before .before .before .before .before .loop-test .taken) .1, c .before .before .before .before .before .before .before .before .before .before .loop .inv .1 .rides .size)
 
 add-node : tie.Need-add-node Inv-loop μ-loop
 add-node c = omega (arith, c .before .before .before .before .before .before .before .before .before .loop-test .taken, c .before .before .before .before .before .before .before .before .before .before .before .before .before .before .before .before .before .before .before .before .before .before .good .1 .0)
