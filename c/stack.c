@@ -139,6 +139,12 @@ static void sum_check(void)
     last = lohandema_sum_check(axes, COLUMNS, order, points, readings, points, LISTS, nodes - 1, &near, &far, &additions);
 }
 
+static void check_sums(void)
+{
+    size_t leaves, additions;
+    last = lohandema_check_sums(axes, COLUMNS, order, points, readings, points, LISTS, work, points + 1, &leaves, &additions);
+}
+
 static void is_arrangement(void)
 {
     last.number = lohandema_is_arrangement(order, points, points) ? 0 : 99;
@@ -272,6 +278,7 @@ static struct {
     {"get_near_work", get_near_work, LOHANDEMA_STACK, 0},
     {"lists_right", lists_right, 96 * KIB, 0},
     {"sum_check", sum_check, 96 * KIB, 0},
+    {"check_sums", check_sums, 96 * KIB, 0},
     {"is_arrangement", is_arrangement, 32 * KIB, 0},
     {"get_neighbours", get_neighbours, 8 * KIB, 0},
     {"get_children", get_children, 8 * KIB, 0},

@@ -1,4 +1,4 @@
-/* The sum check, the check of lists and the test of an order column: document 01's example with readings. */
+/* The sum checks of a leaf and of a survey, the check of lists and the test of an order column: document 01's example with readings. */
 #include "checks.h"
 
 enum { NODES = 9, SOURCES = 4, U_KEYS = 8, V_KEYS = 2 };
@@ -71,6 +71,50 @@ static void sums_refused(void)
     EXPECT(told(0, 0, 0));
 }
 
+static uint64_t sums[SOURCES + 2];
+static size_t leaves;
+
+static lohandema_ended check_all(size_t axes, const size_t *indices, const int64_t *of, size_t numbers, const uint64_t *vk, size_t room)
+{
+    for (size_t i = 0; i < SOURCES + 2; i++)
+        sums[i] = 77;
+    leaves = additions = 77;
+    return lohandema_check_sums(axes, TREE, indices, SOURCES, of, numbers, u_starts, NODES + 1, u_keys, U_KEYS, v_starts,
+                                NODES + 1, vk, V_KEYS, sums, room, &leaves, &additions);
+}
+
+/* What the call has told, and zeros in the first so many sums, with the rest as it was. */
+static bool all_told(size_t agree, size_t count, size_t room)
+{
+    bool so = leaves == agree && additions == count;
+    for (size_t i = 0; i < SOURCES + 2; i++)
+        so = so && sums[i] == (i < room ? 0u : 77u);
+    return so;
+}
+
+static void sums_of_the_survey(void)
+{
+    const size_t turned[SOURCES] = {2, 0, 3, 1}, twice[SOURCES] = {0, 1, 1, 3};
+    const int64_t widest[SOURCES] = {1099511627776, -1099511627776, 1099511627776, 1099511627776};
+    const int64_t large[SOURCES] = {0, 1099511627777, INT64_MIN, 0};
+    const uint64_t other[V_KEYS] = {98306, 1};
+    ENDED(check_all(1, order, readings, SOURCES, v_keys, SOURCES + 1), 0, 0);
+    EXPECT(all_told(4, 12, SOURCES + 1));
+    ENDED(check_all(1, turned, widest, SOURCES, v_keys, SOURCES + 2), 0, 0);
+    EXPECT(all_told(4, 12, SOURCES + 2));
+    ENDED(check_all(0, order, readings, SOURCES, v_keys, SOURCES + 1), LOHANDEMA_DIMS, 0);
+    EXPECT(all_told(0, 0, SOURCES + 1));
+    ENDED(check_all(2, order, large, 1, v_keys, 0), LOHANDEMA_TREE, 0);
+    EXPECT(all_told(0, 0, 0));
+    ENDED(check_all(1, twice, large, 3, other, 0), LOHANDEMA_SHAPE, 0);
+    ENDED(check_all(1, twice, large, SOURCES, other, 0), LOHANDEMA_READING, 1);
+    ENDED(check_all(1, twice, readings, SOURCES, v_keys, 0), LOHANDEMA_NOTBUILT, 0);
+    ENDED(check_all(1, order, readings, SOURCES, other, SOURCES), LOHANDEMA_NOTBUILT, 0);
+    EXPECT(all_told(0, 0, SOURCES));
+    ENDED(check_all(1, order, readings, SOURCES, v_keys, SOURCES), LOHANDEMA_ROOM, LOHANDEMA_ROOM_WORK);
+    EXPECT(all_told(0, 0, SOURCES));
+}
+
 static bool lists_are(const size_t *us, size_t us_len, const uint64_t *uk, size_t uk_len, const uint64_t *vk, size_t vk_len)
 {
     bool right = true;
@@ -109,6 +153,7 @@ void test_sums(void)
 {
     sums_of_leaves();
     sums_refused();
+    sums_of_the_survey();
     lists_judged();
     orders_judged();
 }

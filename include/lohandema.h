@@ -25,7 +25,7 @@
  * not promises. pthread_attr_setstacksize takes no less than PTHREAD_STACK_MIN, which is 131,072 bytes on some
  * systems, and fails below it: pass the larger of the two.
  *   points_to_keys, get_interaction_lists, get_near_work                                    128 KiB
- *   sum_check, lists_right                                                                   96 KiB
+ *   sum_check, check_sums, lists_right                                                       96 KiB
  *   build_tree, build_tree_on_grid                                                           48 KiB
  *   get_sourced_cells, is_arrangement                                                        32 KiB
  *   every other call                                                                          8 KiB
@@ -458,6 +458,18 @@ lohandema_ended lohandema_sum_check(size_t axes, const uint64_t *key, size_t key
                                     const uint64_t *u_keys, size_t u_keys_len, const size_t *v_starts,
                                     size_t v_starts_len, const uint64_t *v_keys, size_t v_keys_len, size_t node,
                                     int64_t *near, int64_t *far, size_t *additions);
+
+/* The same for every leaf at once, in about the time of reading the lists: all arguments are checked as above, once, and each
+ * leaf's near and far readings are added up and compared with the sum of all. leaves: how many leaves agree, which is all of
+ * them. additions: those of all leaves together, 2^63 - 1 at most. Both are 0 after a refusal. sums: room for one number more
+ * than there are sources; all zero after the call. Refused 1, 13, 3, 20, 18, 8 (value 1: sums is too short). */
+lohandema_ended lohandema_check_sums(size_t axes, const uint64_t *key, size_t key_len, const size_t *own, size_t own_len,
+                                     const size_t *begin, size_t begin_len, const size_t *total, size_t total_len,
+                                     const size_t *indices, size_t indices_len, const int64_t *readings,
+                                     size_t readings_len, const size_t *u_starts, size_t u_starts_len,
+                                     const uint64_t *u_keys, size_t u_keys_len, const size_t *v_starts,
+                                     size_t v_starts_len, const uint64_t *v_keys, size_t v_keys_len, uint64_t *sums,
+                                     size_t sums_len, size_t *leaves, size_t *additions);
 
 #ifdef __cplusplus
 }

@@ -5,7 +5,7 @@ use crate::Refusal;
 use crate::points::Bounds;
 use crate::raw;
 use crate::refusal::answered;
-use crate::trees::{Lists, Sums};
+use crate::trees::{Checked, Lists, Sums};
 
 /// The columns of a tree and its number of axes, lent. A [`Tree`](crate::Tree) lends its own, and says how nodes are numbered.
 #[derive(Clone, Copy, Debug, PartialEq, Eq)]
@@ -355,6 +355,53 @@ pub fn sum_check(
         )
     };
     answered(ended, sums)
+}
+
+/// The sums of every leaf: see [`Tree::check_sums`](crate::Tree::check_sums). `sums` wants one entry more than there are
+/// sources, and is zero after the call.
+///
+/// # Errors
+/// [`DIMS`](Refusal::DIMS); [`TREE`](Refusal::TREE); [`SHAPE`](Refusal::SHAPE) where readings and sources differ in number;
+/// [`READING`](Refusal::READING); [`NOTBUILT`](Refusal::NOTBUILT); [`ROOM`](Refusal::ROOM) 1.
+pub fn check_sums(
+    tree: Columns<'_>,
+    order: &[usize],
+    readings: &[i64],
+    lists: &Lists,
+    sums: &mut [u64],
+) -> Result<Checked, Refusal> {
+    let mut checked = Checked::default();
+    // SAFETY: columns, order, readings and lists are read and the sums written with their own lengths.
+    let ended = unsafe {
+        raw::lohandema_check_sums(
+            tree.axes,
+            tree.key.as_ptr(),
+            tree.key.len(),
+            tree.own.as_ptr(),
+            tree.own.len(),
+            tree.begin.as_ptr(),
+            tree.begin.len(),
+            tree.total.as_ptr(),
+            tree.total.len(),
+            order.as_ptr(),
+            order.len(),
+            readings.as_ptr(),
+            readings.len(),
+            lists.u.starts.as_ptr(),
+            lists.u.starts.len(),
+            lists.u.keys.as_ptr(),
+            lists.u.keys.len(),
+            lists.v.starts.as_ptr(),
+            lists.v.starts.len(),
+            lists.v.keys.as_ptr(),
+            lists.v.keys.len(),
+            sums.as_mut_ptr(),
+            sums.len(),
+            &mut checked.leaves,
+            &mut checked.additions,
+        )
+    };
+    answered(ended, checked)
 }
 
 /// What a build is asked.

@@ -82,4 +82,4 @@ pub mod trees;
 pub use lent::{Asked, Columns, Grid};
 pub use points::Bounds;
 pub use refusal::{Reason, Refusal, Wall};
-pub use trees::{Groups, Leaf, Lists, Rows, Sums, Tree};
+pub use trees::{Checked, Groups, Leaf, Lists, Rows, Sums, Tree};

@@ -100,6 +100,16 @@ pub struct Sums {
     pub additions: usize,
 }
 
+/// The sum check of a whole survey.
+#[derive(Clone, Copy, Debug, Default, PartialEq, Eq, Hash)]
+#[must_use]
+pub struct Checked {
+    /// How many leaves' near and far readings together are the sum of all readings: all leaves.
+    pub leaves: usize,
+    /// The additions of all leaves together, 2^63 - 1 at most.
+    pub additions: usize,
+}
+
 /// The points of each node: those of node n are `indices[starts[n]..starts[n + 1]]`, ascending.
 ///
 /// ```

@@ -7,7 +7,7 @@ use crate::points::Bounds;
 use crate::refusal::Refusal;
 use crate::{raw, room};
 
-pub use crate::rows::{Groups, Lists, Rows, Sums};
+pub use crate::rows::{Checked, Groups, Lists, Rows, Sums};
 
 /// A tree: its box, its columns with an entry for each node, and the order of its sources.
 ///
@@ -363,6 +363,26 @@ impl Tree {
     /// column are not the tree's.
     pub fn sum_check(&self, lists: &Lists, readings: &[i64], node: usize) -> Result<Sums, Refusal> {
         lent::sum_check(self.columns(), &self.order, readings, lists, node)
+    }
+
+    /// The sums of every leaf at once: how many leaves' near and far readings together are the sum of all, which is all of
+    /// them, and the additions of all leaves. Everything is checked once, and the time is about that of reading the lists.
+    ///
+    /// ```
+    /// use lohandema::{Asked, Bounds, Tree};
+    /// let bounds = Bounds::new(&[4.0], 4.0);
+    /// let tree = Tree::build(Asked::new(&bounds, &[0.5, 1.5, 6.5, 7.5], 1))?;
+    /// let lists = tree.get_interaction_lists()?;
+    /// let checked = tree.check_sums(&lists, &[1, 2, 3, 4])?;
+    /// assert_eq!((checked.leaves, checked.additions), (4, 12));
+    /// # Ok::<(), lohandema::Refusal>(())
+    /// ```
+    ///
+    /// # Errors
+    /// Those of [`sum_check`](Tree::sum_check), but for [`NOTLEAF`](Refusal::NOTLEAF).
+    pub fn check_sums(&self, lists: &Lists, readings: &[i64]) -> Result<Checked, Refusal> {
+        let mut sums = vec![0; readings.len() + 1];
+        lent::check_sums(self.columns(), &self.order, readings, lists, &mut sums)
     }
 
     /// The near and far rows.

@@ -30,6 +30,7 @@ fn near_and_far_are_all_readings_for_every_leaf() {
         assert_eq!(tree.lists_right(&lists), Ok(true));
         assert!(lent::is_arrangement(&tree.order, 60));
         let all: i64 = readings.iter().sum();
+        let mut additions = 0;
         for leaf in tree.leaves().unwrap() {
             let near: i64 = lists
                 .u
@@ -41,7 +42,11 @@ fn near_and_far_are_all_readings_for_every_leaf() {
                 .sum();
             let sums = tree.sum_check(&lists, &readings, leaf.node).unwrap();
             assert_eq!((sums.near, sums.near + sums.far), (near, all));
+            additions += sums.additions;
         }
+        let checked = tree.check_sums(&lists, &readings).unwrap();
+        let leaves = tree.leaves().unwrap().count();
+        assert_eq!((checked.leaves, checked.additions), (leaves, additions));
     }
 }
 
@@ -68,6 +73,8 @@ fn what_is_not_the_trees_is_refused() {
         other.v.keys[place] ^= 32_768;
         assert_eq!(tree.lists_right(&other), Ok(false));
         assert_eq!(number(&other, &readings, leaf), (Refusal::NOTBUILT, 0));
+        let refusal = tree.check_sums(&other, &readings).unwrap_err();
+        assert_eq!(refusal.number, Refusal::NOTBUILT);
     }
     for place in 0..lists.u.keys.len() {
         let mut other = lists.clone();
@@ -78,4 +85,18 @@ fn what_is_not_the_trees_is_refused() {
     turned.order[0] = turned.order[1];
     let refusal = turned.sum_check(&lists, &readings, leaf).unwrap_err();
     assert_eq!(refusal.number, Refusal::NOTBUILT);
+}
+
+#[test]
+fn the_sums_want_one_place_more_than_there_are_sources() {
+    let (tree, lists, readings) = survey(3, 60);
+    let mut sums = vec![7; 60];
+    let short = lent::check_sums(tree.columns(), &tree.order, &readings, &lists, &mut sums);
+    let refusal = short.unwrap_err();
+    assert_eq!((refusal.number, refusal.value), (Refusal::ROOM, 1));
+    assert_eq!(sums, vec![0; 60]);
+    sums = vec![7; 61];
+    let enough = lent::check_sums(tree.columns(), &tree.order, &readings, &lists, &mut sums);
+    assert!(enough.is_ok());
+    assert_eq!(sums, vec![0; 61]);
 }
