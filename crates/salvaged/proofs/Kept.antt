@@ -33,7 +33,7 @@ use Rattle.salvaged.proofs.Put.{all-put, put-all, all-chain, one-order,
 -- ---- a key's ancestors
 
 module _ (d : ℕ) where
-  up-valid : (n k : ℕ) → levelOf k ≡ n → ValidKey d k → (y : ℕ) → Mem y (upwards n d k) → ValidKey d y
+  pub up-valid : (n k : ℕ) → levelOf k ≡ n → ValidKey d k → (y : ℕ) → Mem y (upwards n d k) → ValidKey d y
   unfolding upwards
   up-valid zero k e v y m = go (mem-cases y k [] m)
     where
@@ -46,13 +46,13 @@ module _ (d : ℕ) where
       go (inl q) rest = subst (ValidKey d) q v
       go (inr r) rest = rest r
 
-  up-first : (n k : ℕ) → Mem k (upwards n d k)
+  pub up-first : (n k : ℕ) → Mem k (upwards n d k)
   unfolding upwards
   up-first zero k = here k []
   up-first (suc n) k = here k (upwards n d (parent d k))
 
   -- the parent of each but the root is one
-  up-parent : (n k : ℕ) → levelOf k ≡ n → (y : ℕ) → Mem y (upwards n d k) → 0 < levelOf y → Mem (parent d y) (upwards n d k)
+  pub up-parent : (n k : ℕ) → levelOf k ≡ n → (y : ℕ) → Mem y (upwards n d k) → 0 < levelOf y → Mem (parent d y) (upwards n d k)
   unfolding upwards
   up-parent zero k e y m l = go (mem-cases y k [] m)
     where
@@ -80,7 +80,7 @@ module _ (d : ℕ) where
       go (inr r) rest = under-trans d y (parent d k) k (rest r) (parent-under d k (omega arith))
 
   -- keys among which each one's parent is hold the ancestors of each
-  up-within : (keys : List ℕ) → ((k : ℕ) → Mem k keys → 0 < levelOf k → Mem (parent d k) keys) → (n k : ℕ) → levelOf k ≡ n → Mem k keys → (y : ℕ) → Mem y (upwards n d k) → Mem y keys
+  pub up-within : (keys : List ℕ) → ((k : ℕ) → Mem k keys → 0 < levelOf k → Mem (parent d k) keys) → (n k : ℕ) → levelOf k ≡ n → Mem k keys → (y : ℕ) → Mem y (upwards n d k) → Mem y keys
   unfolding upwards
   up-within keys up zero k e mk y m = go (mem-cases y k [] m)
     where
