@@ -54,6 +54,7 @@ void test_grids(void);
 void test_trees(void);
 void test_nodes(void);
 void test_room(void);
+void test_sizes(void);
 void test_near_work(void);
 void test_totals(void);
 void test_order(void);

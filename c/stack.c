@@ -110,6 +110,12 @@ static void get_sourced_cells(void)
     last = lohandema_get_sourced_cells(axes, COLUMNS, cells, NODES, &count);
 }
 
+static void get_list_sizes(void)
+{
+    size_t u, v;
+    last = lohandema_get_list_sizes(axes, COLUMNS, v_starts, NODES, u_keys, NODES, &u, &v);
+}
+
 static void get_interaction_lists(void)
 {
     size_t u, v;
@@ -274,6 +280,7 @@ static struct {
     {"point_to_leaf", point_to_leaf, 8 * KIB, 0},
     {"get_points_to_leaves_map", get_points_to_leaves_map, 8 * KIB, 0},
     {"get_sourced_cells", get_sourced_cells, 32 * KIB, 0},
+    {"get_list_sizes", get_list_sizes, LOHANDEMA_STACK, 0},
     {"get_interaction_lists", get_interaction_lists, LOHANDEMA_STACK, 0},
     {"get_near_work", get_near_work, LOHANDEMA_STACK, 0},
     {"lists_right", lists_right, 96 * KIB, 0},

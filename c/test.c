@@ -97,6 +97,7 @@ int main(void)
     test_trees();
     test_nodes();
     test_room();
+    test_sizes();
     test_near_work();
     test_totals();
     test_order();

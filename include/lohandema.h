@@ -24,7 +24,7 @@
  * of the compiled code, measured on x86-64 and on Arm (c/stack.c; docs/BENCHMARKS.md, "Stack") and rounded up well; they are
  * not promises. pthread_attr_setstacksize takes no less than PTHREAD_STACK_MIN, which is 131,072 bytes on some
  * systems, and fails below it: pass the larger of the two.
- *   points_to_keys, get_interaction_lists, get_near_work                                    128 KiB
+ *   points_to_keys, get_interaction_lists, get_list_sizes, get_near_work                    128 KiB
  *   sum_check, check_sums, lists_right                                                       96 KiB
  *   build_tree, build_tree_on_grid                                                           48 KiB
  *   get_sourced_cells, is_arrangement                                                        32 KiB
@@ -414,7 +414,7 @@ lohandema_ended lohandema_get_sourced_cells(size_t axes, const uint64_t *key, si
 
 /* The near (U) and far (V) rows of all nodes. Row n of U is u_keys[u_starts[n]] up to, and without, u_keys[u_starts[n + 1]],
  * ascending; V likewise. u and v: how many keys each list has. The starts need N + 1 entries each; the keys their number,
- * which is not known before: on 8 with value 6 or 7 lend more and call again. At most 16,777,216 entries count.
+ * which lohandema_get_list_sizes (below) tells; or on 8 with value 6 or 7 lend more and call again. At most 16,777,216 entries count.
  * Refused 1, 13, 8 (4 u_starts, 5 v_starts, 6 u_keys, 7 v_keys). */
 lohandema_ended lohandema_get_interaction_lists(size_t axes, const uint64_t *key, size_t key_len, const size_t *own,
                                                 size_t own_len, const size_t *begin, size_t begin_len,
@@ -422,6 +422,14 @@ lohandema_ended lohandema_get_interaction_lists(size_t axes, const uint64_t *key
                                                 size_t u_starts_len, uint64_t *u_keys, size_t u_keys_len, size_t *v_starts,
                                                 size_t v_starts_len, uint64_t *v_keys, size_t v_keys_len, size_t *u,
                                                 size_t *v);
+
+/* u and v: how many keys lohandema_get_interaction_lists writes for a tree, with no list: lend just so many. Each row is made in
+ * room for one and forgotten: it takes no longer than the lists themselves, and mostly less. work and row need N entries each.
+ * Refused 1, 13, 8 (1 work or row; 6 or 7 where the U or V list has more than 16,777,216 keys, as the list call has no room
+ * for it whatever it is lent). */
+lohandema_ended lohandema_get_list_sizes(size_t axes, const uint64_t *key, size_t key_len, const size_t *own, size_t own_len,
+                                         const size_t *begin, size_t begin_len, const size_t *total, size_t total_len,
+                                         size_t *work, size_t work_len, uint64_t *row, size_t row_len, size_t *u, size_t *v);
 
 /* work: near work, the sum over leaves of the targets in the leaf times the sources in its U row: how many pairs of a target
  * and a source are summed singly. counts: how many targets each node has, in the numbering of the columns; only leaves have any.

@@ -59,6 +59,8 @@ lohandema_ended lohandema_get_points_to_leaves_map(size_t axes, TREE, const uint
 lohandema_ended lohandema_get_sourced_cells(size_t axes, TREE, uint64_t *cells, size_t cells_len, size_t *count);
 lohandema_ended lohandema_get_interaction_lists(size_t axes, TREE, size_t *u_starts, size_t u_starts_len, uint64_t *u_keys,
     size_t u_keys_len, size_t *v_starts, size_t v_starts_len, uint64_t *v_keys, size_t v_keys_len, size_t *u, size_t *v);
+lohandema_ended lohandema_get_list_sizes(size_t axes, TREE, size_t *work, size_t work_len, uint64_t *row, size_t row_len,
+    size_t *u, size_t *v);
 lohandema_ended lohandema_get_near_work(BOX, TREE, const double *targets, size_t targets_len, size_t *counts,
     size_t counts_len, uint64_t *work);
 """

@@ -390,6 +390,19 @@ class Tree:
                     else:
                         raise
 
+    def list_sizes(self, *, progress=False):
+        """How many keys the near (U) and the far (V) rows have, without the lists: it takes no longer than they do, and no room
+        for them. Refused as lists().
+
+        >>> Tree.build([[0.5], [1.5], [6.5], [7.5]], Box([4.0], 4.0), limit=1).list_sizes()
+        (8, 2)
+        """
+        room_for = [column(len(self)), column(len(self))]
+        lent, u, v = [Lent(memoryview(one)) for one in room_for], ctypes.c_size_t(), ctypes.c_size_t()
+        with telling(progress, "the sizes of the lists of %d nodes" % len(self)):
+            call("get_list_sizes", self.box.axes, *self._words(), *_words(lent), ctypes.byref(u), ctypes.byref(v))
+        return u.value, v.value
+
     def _listed(self, near, far):
         """The lists with room for so many keys."""
         columns = [column(len(self) + 1), column(near), column(len(self) + 1), column(far)]

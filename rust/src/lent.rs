@@ -231,6 +231,42 @@ pub fn get_interaction_lists(
     answered(ended, (u, v))
 }
 
+/// How many keys the U list and the V list of a tree have, with no list: [`get_interaction_lists`] with just so many entries is
+/// not refused. Each row is made in room for one and forgotten: it takes no longer than the lists themselves, and mostly less.
+/// `work` and `row` have at least one entry for each node.
+///
+/// # Errors
+/// [`DIMS`](Refusal::DIMS); [`TREE`](Refusal::TREE); [`ROOM`](Refusal::ROOM) 1 where `work` or `row` is short, 6 or 7 where the
+/// U or V list has more than 16,777,216 keys, for which no room is enough.
+pub fn get_list_sizes(
+    tree: Columns<'_>,
+    work: &mut [usize],
+    row: &mut [u64],
+) -> Result<(usize, usize), Refusal> {
+    let (mut u, mut v) = (0, 0);
+    // SAFETY: columns are read with their own lengths; both slices, lent to us alone, are written within theirs.
+    let ended = unsafe {
+        raw::lohandema_get_list_sizes(
+            tree.axes,
+            tree.key.as_ptr(),
+            tree.key.len(),
+            tree.own.as_ptr(),
+            tree.own.len(),
+            tree.begin.as_ptr(),
+            tree.begin.len(),
+            tree.total.as_ptr(),
+            tree.total.len(),
+            work.as_mut_ptr(),
+            work.len(),
+            row.as_mut_ptr(),
+            row.len(),
+            &mut u,
+            &mut v,
+        )
+    };
+    answered(ended, (u, v))
+}
+
 /// Near work: the sum over leaves of the targets in the leaf times the sources in its U row, which is how many pairs of a target
 /// and a source are summed singly. How many targets each node has goes into `counts`, which has at least one entry for each
 /// node; only leaves have any. Without targets the sources serve as targets, and `counts` is `own`. The targets are rows of one

@@ -233,6 +233,23 @@ unsafe extern "C" {
         u: *mut usize,
         v: *mut usize,
     ) -> Ended;
+    pub fn lohandema_get_list_sizes(
+        axes: usize,
+        key: *const u64,
+        key_len: usize,
+        own: *const usize,
+        own_len: usize,
+        begin: *const usize,
+        begin_len: usize,
+        total: *const usize,
+        total_len: usize,
+        work: *mut usize,
+        work_len: usize,
+        row: *mut u64,
+        row_len: usize,
+        u: *mut usize,
+        v: *mut usize,
+    ) -> Ended;
     pub fn lohandema_get_near_work(
         centre: *const [f64; 3],
         radius: f64,

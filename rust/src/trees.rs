@@ -385,6 +385,23 @@ impl Tree {
         lent::check_sums(self.columns(), &self.order, readings, lists, &mut sums)
     }
 
+    /// How many keys the near and the far rows have, without the lists: it takes no longer than they do, and no room for them.
+    ///
+    /// ```
+    /// use lohandema::{Asked, Bounds, Tree};
+    /// let bounds = Bounds::new(&[4.0], 4.0);
+    /// let tree = Tree::build(Asked::new(&bounds, &[0.5, 1.5, 6.5, 7.5], 1))?;
+    /// assert_eq!(tree.get_list_sizes(), Ok((8, 2)));
+    /// # Ok::<(), lohandema::Refusal>(())
+    /// ```
+    ///
+    /// # Errors
+    /// As [`get_interaction_lists`](Tree::get_interaction_lists).
+    pub fn get_list_sizes(&self) -> Result<(usize, usize), Refusal> {
+        let (mut work, mut row) = (vec![0; self.key.len()], vec![0; self.key.len()]);
+        lent::get_list_sizes(self.columns(), &mut work, &mut row)
+    }
+
     /// The near and far rows.
     ///
     /// # Errors

@@ -1,12 +1,13 @@
-// The list call and near work for C.
+// The list call, the sizes of its lists and near work for C.
 use exports_keys::Ended;
 use interaction::ListsAnswer;
 use near_work::WorkAnswer;
 use refusal::Outcome;
 ghost use mathlib.Core.Path.{_≡_};
-ghost use lib.ListN.{length};
+ghost use lib.ListN.{length, replicate};
 ghost use Rattle.tree.specs.Columns.{columns};
 ghost use Rattle.interaction.specs.Answers.{listsAnswer, uStartsLeft, uKeysLeft, vStartsLeft, vKeysLeft};
+ghost use Rattle.list_sizes.specs.Sizes.{sizesAnswer};
 ghost use Rattle.near_work.specs.Answers.{workAnswer, countsLeft};
 ghost use Rattle.exports_points.specs.Boxes.{boxAt};
 ghost use Rattle.exports_keys.specs.Told.{told};
@@ -76,6 +77,32 @@ pub extern "C" fn lohandema_get_interaction_lists(
 }
 
 // Near work of a tree with targets, or with its sources as targets where there are none; the counts are left as the targets of each node.
+// How many keys both lists have, with no list.
+#[no_mangle]
+pub extern "C" fn lohandema_get_list_sizes(
+    axes: usize,
+    key: &[u64],
+    own: &[usize],
+    begin: &[usize],
+    total: &[usize],
+    work: &mut [usize],
+    row: &mut [u64],
+    u: &mut usize,
+    v: &mut usize,
+) -> Ended
+    ensures ended { λ r. ⌜ r ≡ told (listsEnd (sizesAnswer axes (columns (now (key .entry)) (now (own .entry)) (now (begin .entry)) (now (total .entry)))
+        (length (now (work .entry))) (length (now (row .entry))))) ⌝ }
+    ensures work { λ _. ⌜ now (work .exit) ≡ replicate (length (now (work .entry))) 0 ⌝ }
+    ensures row { λ _. ⌜ now (row .exit) ≡ replicate (length (now (row .entry))) 0 ⌝ }
+    ensures u { λ _. ⌜ now (u .exit) ≡ uIn (sizesAnswer axes (columns (now (key .entry)) (now (own .entry)) (now (begin .entry)) (now (total .entry)))
+        (length (now (work .entry))) (length (now (row .entry)))) ⌝ }
+    ensures v { λ _. ⌜ now (v .exit) ≡ vIn (sizesAnswer axes (columns (now (key .entry)) (now (own .entry)) (now (begin .entry)) (now (total .entry)))
+        (length (now (work .entry))) (length (now (row .entry)))) ⌝ }
+{
+    let answer = list_sizes::get_list_sizes(axes, key, own, begin, total, work, row);
+    tell_lists(answer, u, v)
+}
+
 #[no_mangle]
 pub extern "C" fn lohandema_get_near_work(
     centre: &[f64; 3],
