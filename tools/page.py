@@ -92,9 +92,13 @@ class Rows:
 def tag(name, inside="", **attributes):
     """One SVG element; a hint in it is what a viewer shows under the mouse."""
     hint = attributes.pop("hint", None)
-    words = "".join(" %s=%s" % (word.strip("_").replace("_", "-"), quoteattr(number(value)))
-                    for word, value in attributes.items())
+    words = "".join(" %s=%s" % (word.strip("_").replace("_", "-"), quoted(value)) for word, value in attributes.items())
     return "<%s%s>%s%s</%s>" % (name, words, "<title>%s</title>" % escape(hint) if hint else "", inside, name)
+
+
+def quoted(value):
+    """A value in its quotes; a number has nothing to be escaped."""
+    return '"%s"' % number(value) if isinstance(value, float) else quoteattr(number(value))
 
 
 def number(value):

@@ -81,8 +81,8 @@ class Picture:
         """The ground, and every cell of the view: in plain white, or coloured if it lies in the chosen cell."""
         shapes = [box((LEFT, TOP, PLOT, self.view.ground), class_="ground", fill=UNSTORED)]
         for node in self.listing.nodes:
-            rect = self.view.rect(node.key)
-            if rect and self.view.shows(node):
+            rect = self.view.rect(node.key) if self.view.shows(node) else None
+            if rect:
                 hint = "node %d, key %d, level %d: %s" % (
                     node.number, node.key, house.level_of(node.key), some(self.listing.held[node.key], "reading"))
                 kind, fill = ("inner", CHOSEN) if self.in_cell(node.key) else ("cell", PLAIN)

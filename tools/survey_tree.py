@@ -122,13 +122,15 @@ def lists_of(survey):
     """The lists of a survey, which know their tree, and the leaves that do not meet each reading exactly once. The survey
     gets its box, its near work and the targets of each node."""
     lohandema = package()
-    sources, targets = [rows_of(rows, survey.axes) for rows in (survey.sources, survey.targets)]
-    used = {"targets": targets, "order": survey.order} if survey.targets and survey.keep_empty else {}
+    sources = rows_of(survey.sources, survey.axes)
     if isinstance(survey.targets, Grid):
-        grid = survey.targets
-        used = {"grid": lohandema.Grid(grid.origin, grid.spacing, grid.shape), "order": survey.order}
+        grid = lohandema.Grid(survey.targets.origin, survey.targets.spacing, survey.targets.shape)
+        targets, ends, used = grid.points(), grid.corners(), {"grid": grid, "order": survey.order}
+    else:
+        targets = ends = rows_of(survey.targets, survey.axes)
+        used = {"targets": targets, "order": survey.order} if survey.targets and survey.keep_empty else {}
     try:
-        box = lohandema.Box(survey.centre, survey.radius) if survey.centre else lohandema.Box.around(sources, targets)
+        box = lohandema.Box(survey.centre, survey.radius) if survey.centre else lohandema.Box.around(sources, ends)
         tree = lohandema.Tree.build(sources, box, limit=survey.limit, keep_empty=survey.keep_empty, progress=True, **used)
         lists = tree.lists(progress=True)
         survey.near_work, survey.aims = tree.near_work(targets, with_counts=True, progress=True)

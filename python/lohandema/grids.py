@@ -2,6 +2,7 @@
 
 import array
 import ctypes
+import math
 
 from .arrays import numpy, three, whole
 from .room import MOST_POINTS
@@ -86,12 +87,17 @@ class Grid:
         if numpy:
             across = numpy.meshgrid(*map(numpy.array, lines), indexing="ij")
             return numpy.stack([one.ravel() for one in across], axis=1).astype(float, copy=False)
-        flat, rows = array.array("d"), [()]
-        for line in lines:
-            rows = [row + (x,) for row in rows for x in line]
-        for row in rows:
-            flat.extend(row)
-        return memoryview(flat).cast("B").cast("d", [len(rows), self.axes]) if rows else memoryview(flat)
+        if not self.rows:
+            return memoryview(array.array("d"))
+        flat = array.array("d", [0.0]) * (self.rows * self.axes)
+        for axis, line in enumerate(lines):
+            # each coordinate as often as the later axes have points, and all of them as often as the earlier ones have
+            inner = math.prod(self.shape[axis + 1:])
+            column = array.array("d")
+            for x in line:
+                column.extend(array.array("d", [x]) * inner)
+            flat[axis::self.axes] = column * (self.rows // len(column))
+        return memoryview(flat).cast("B").cast("d", [self.rows, self.axes])
 
     def _words(self):
         """What a call takes of the grid."""

@@ -2,7 +2,10 @@
 
 A cell's sources are one part of the order column. So a leaf meets each source exactly once if the parts of the cells in its U
 row and in the V rows of itself and all cells above it, put in order, follow each other without a gap or an overlap, from the
-first source to the last."""
+first source to the last.
+
+With NumPy many leaves are looked at together. Without it the nodes are gone through one after the other, each cell before
+those inside it: what the V rows of a cell and all above it leave is kept as parts, so that no row is read twice."""
 
 from .arrays import numpy, packed
 from .progress import telling
@@ -16,20 +19,64 @@ def leaves_at_fault(lists, progress=False):
     leaves = lists.tree.leaves()
     with telling(progress, "each source met once by each of %d leaves" % len(leaves)):
         if not numpy:
-            return packed(leaf for leaf in leaves if not meets_once(lists, leaf))
+            return packed(Walk(lists).at_fault(leaves))
         parts = Parts(lists)
         return numpy.concatenate([leaves[:0]] + [parts.at_fault(some) for some in parts.chunks(leaves)])
 
 
-def meets_once(lists, leaf):
-    """Whether one leaf meets each source exactly once."""
-    tree, end = lists.tree, 0
-    nodes = [*tree.nodes_of(lists.near(leaf)), *tree.nodes_of(lists.far_of_path(leaf))]
-    for start, total in sorted((tree.begin[node], tree.total[node]) for node in nodes if tree.total[node]):
-        if start != end:
-            return False
-        end += total
-    return end == tree.total[0]
+def less(rest, parts):
+    """Parts that are left of others, both ascending and none empty, after some were taken out; None where one of these is not
+    whole in what was left."""
+    left, at, start = [], 0, rest[0][0] if rest else 0
+    for first, last in parts:
+        # what stands before it is left whole
+        while at < len(rest) and rest[at][1] <= first:
+            if start < rest[at][1]:
+                left.append((start, rest[at][1]))
+            at += 1
+            start = rest[at][0] if at < len(rest) else 0
+        if at == len(rest) or first < start or last > rest[at][1]:
+            return None
+        if start < first:
+            left.append((start, first))
+        start = last
+    if at < len(rest) and start < rest[at][1]:
+        left.append((start, rest[at][1]))
+    return left + rest[at + 1:]
+
+
+class Walk:
+    """The nodes one after the other, without NumPy."""
+
+    def __init__(self, lists):
+        self.tree, self.u, self.v = lists.tree, lists.u, lists.v
+        starts, totals = self.tree.begin.tolist(), self.tree.total.tolist()
+        # where the part of each cell starts and ends
+        self.part = {key: (start, start + total) for key, start, total in zip(self.tree.key.tolist(), starts, totals)}
+        self.all = [(0, totals[0])] if totals[0] else []
+
+    def parts(self, row):
+        """The parts of the cells in a row that have sources, ascending."""
+        try:
+            found = [self.part[key] for key in row]
+        except KeyError:
+            self.tree.nodes_of(row)  # says which key no node has
+            raise
+        return sorted(part for part in found if part[0] < part[1])
+
+    def at_fault(self, leaves):
+        """The leaves whose U row does not bring just what the V rows leave."""
+        # of each level, what the V rows of the last node and of all above it leave
+        rest = [self.all] * 18
+        levels, wanted = self.tree.levels().tolist(), set(leaves.tolist())
+        for node, level in enumerate(levels):
+            row = self.v[node]
+            left = rest[level - 1] if node else self.all
+            if len(row) and left is not None:
+                left = less(left, self.parts(row))
+            rest[level] = left
+            if node in wanted and (left is None or less(left, self.parts(self.u[node])) != []):
+                yield node
 
 
 class Parts:
