@@ -80,25 +80,28 @@ static void build(void)
                                          &depth));
 }
 
-/* Both lists, with more room for keys as long as that is short. */
+/* Room for just so many keys. */
+static uint64_t *slice(size_t count)
+{
+    uint64_t *place = (uint64_t *)calloc(count + 1, sizeof *place);
+    if (place == NULL) {
+        fprintf(stderr, "near_and_far: no memory for %zu keys\n", count);
+        exit(1);
+    }
+    return place;
+}
+
+/* How many keys both lists have, and then the lists. */
 static void make_lists(void)
 {
-    lohandema_ended ended;
-    size_t room = 1024, near, far;
-    do {
-        room *= 4;
-        free(u.keys);
-        free(v.keys);
-        u.keys = (uint64_t *)calloc(room, sizeof *u.keys);
-        v.keys = (uint64_t *)calloc(room, sizeof *v.keys);
-        if (u.keys == NULL || v.keys == NULL) {
-            fprintf(stderr, "near_and_far: no memory for %zu keys\n", room);
-            exit(1);
-        }
-        ended = lohandema_get_interaction_lists(AXES, TREE, u.starts, nodes + 1, u.keys, room, v.starts, nodes + 1, v.keys,
-                                                room, &near, &far);
-    } while (ended.number == LOHANDEMA_ROOM && room < LOHANDEMA_MOST_LIST_KEYS);
-    stop_if_refused(ended);
+    static size_t work[MOST];
+    static uint64_t row[MOST];
+    size_t near, far;
+    stop_if_refused(lohandema_get_list_sizes(AXES, TREE, work, nodes, row, nodes, &near, &far));
+    u.keys = slice(near);
+    v.keys = slice(far);
+    stop_if_refused(lohandema_get_interaction_lists(AXES, TREE, u.starts, nodes + 1, u.keys, near, v.starts, nodes + 1, v.keys,
+                                                    far, &near, &far));
 }
 
 /* The sources of any cell are one part of the order column. */

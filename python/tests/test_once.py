@@ -3,12 +3,17 @@
 import random
 import unittest
 
-from common import some_points
+from common import numpy, some_points
 
 from lohandema import Box, Tree
 from lohandema.arrays import packed
 from lohandema.once import less
 from lohandema.rows import Lists, Rows
+
+
+def column(numbers):
+    """Whole numbers as the package has them."""
+    return numpy.array(numbers, dtype=numpy.int64) if numpy else packed(numbers)
 
 
 def meets_once(lists, leaf):
@@ -34,7 +39,7 @@ def damaged(made, tree, rows):
             row = sorted(row + [made.choice(kept)])
         entries += row
         starts.append(len(entries))
-    return Rows(packed(starts), packed(entries))
+    return Rows(column(starts), column(entries))
 
 
 class Once(unittest.TestCase):
@@ -55,7 +60,7 @@ class Once(unittest.TestCase):
 
     def test_key_of_no_node(self):
         tree = Tree.build([[0.5], [7.5]], Box([4.0], 4.0), limit=1)
-        lists = Lists(tree, Rows(packed([0, 0, 1, 1]), packed([17])), Rows(packed([0] * 4), packed([])))
+        lists = Lists(tree, Rows(column([0, 0, 1, 1]), column([17])), Rows(column([0] * 4), column([])))
         with self.assertRaisesRegex(KeyError, "no node has the key 17"):
             lists.at_fault()
 
