@@ -24,6 +24,11 @@ fn numbered(map: &HashMap<u64, usize>) -> bool {
     numbers.len() == map.len() && numbers.iter().all(|n| *n < map.len()) && map[&0] == 0
 }
 
+/// How many keys the rows of a map have.
+fn keys_of(rows: &HashMap<u64, Vec<u64>>) -> usize {
+    rows.values().map(Vec::len).sum()
+}
+
 /// Where the sources are the targets too, the Rust's own grouping of them by leaf.
 fn targets(t: &mut Tally, s: &oracle::Survey, tree: &Tree, maps: &mut ferreus::TreeLists) {
     let looked_up = maps.set_targets(tree, &s.sources);
@@ -45,6 +50,13 @@ pub fn swapped(t: &mut Tally, r: &mut Random, _case: u64) {
     let Ok(mut ours) = ours else { return };
     t.same("depth", tree.depth(), depth, || show(&s));
     targets(t, &s, &tree, &mut ours);
+    let sizes = (keys_of(&theirs.u_lists), keys_of(&theirs.v_lists));
+    t.same(
+        "sizes of the lists",
+        tree.get_list_sizes(),
+        Ok(sizes),
+        || show(&s),
+    );
     let numbers = [&ours.key_to_index_map, &theirs.key_to_index_map];
     let right = [true, true];
     t.same("each node its number", numbers.map(numbered), right, || {
