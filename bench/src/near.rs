@@ -10,6 +10,8 @@ use lohandema::lent;
 use lohandema::trees::Tree;
 use std::collections::HashMap;
 
+const MOST_TARGETS: usize = 1_048_576;
+
 /// The sum over the targets of the sources in the U row of their leaf, by the rows and the lookup.
 fn by_rows(tree: &Tree, targets: &[f64]) -> u64 {
     let lists = tree.get_interaction_lists().expect("room enough");
@@ -80,6 +82,23 @@ fn coarse_leaf(words: &Words, report: &Report) {
     }
 }
 
+/// Sources that crowd towards a corner, and as many targets as there may be, all over the box.
+fn elsewhere(words: &Words, report: &Report) {
+    let mut r = Random::new();
+    let sources: Vec<f64> = (0..3 * POINTS)
+        .map(|_| 1999.0 * r.unit().powi(6) - 1000.0)
+        .collect();
+    let targets: Vec<f64> = (0..3 * MOST_TARGETS)
+        .map(|_| 1990.0 * (r.unit() - 0.5))
+        .collect();
+    for limit in [16, 1] {
+        let (shape, keep) = ("targets-elsewhere", true);
+        let named = Named { shape, limit, keep };
+        let tree = plain_build::build(shapes::asked(&sources, limit, keep));
+        beside(report, named, &tree, &targets, words.runs().min(9));
+    }
+}
+
 pub fn measure(words: &Words, report: &Report) {
     if !words.wants("near_work") {
         return;
@@ -89,5 +108,6 @@ pub fn measure(words: &Words, report: &Report) {
     }
     if words.limit.is_none() {
         coarse_leaf(words, report);
+        elsewhere(words, report);
     }
 }

@@ -130,6 +130,16 @@ fn all(t: &mut Tally, r: &mut Random, known: &Known) {
     known.compare(t, r, &first, "a gap before one outside");
     let second = [&good[..], &outside, &gap, &tail].concat();
     known.compare(t, r, &second, "one outside before a gap");
+    // the same where the failing ones stand about the end of a piece of 512, as targets are counted
+    if r.once_in(10) && !good.is_empty() {
+        let rows = 509 + r.index(6) + 512 * r.index(2);
+        let long: Vec<f64> = good.iter().copied().cycle().take(rows * b.axes).collect();
+        known.compare(t, r, &long, "many");
+        let first = [&long[..], &gap, &outside, &tail].concat();
+        known.compare(t, r, &first, "many, a gap, one outside");
+        let second = [&long[..], &outside, &gap, &tail].concat();
+        known.compare(t, r, &second, "many, one outside, a gap");
+    }
 }
 
 /// A tree that nobody built, in a box in which its middles and corners are points.
