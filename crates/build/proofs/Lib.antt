@@ -5,3 +5,4 @@ pub mod Columns
 pub mod Answers
 pub mod Returned
 pub mod OnGrid
+pub mod Listed

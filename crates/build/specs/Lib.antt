@@ -1,5 +1,6 @@
 pub mod Asked
 pub mod Outcomes
+pub mod Listed
 pub mod Summing
 pub mod Steps
 pub mod OnGrid
