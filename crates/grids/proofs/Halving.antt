@@ -53,23 +53,46 @@ module _ (f : Frame) (g : Grid) (a x : ℕ) where
     axis : Axis g a
     axis = axis-known g a (S .known)
 
-    module _ (lo n half : ℕ) (b : Between f g a x lo n) (some : 0 < n) (e : half ≡ n / 2) where
-      pub mid-within : lo + half < shapeOn g a
-      mid-within = omega (arith, b .within)
+    -- the index behind `skip` others is asked
+    module _ (lo n skip : ℕ) (b : Between f g a x lo n) (h : skip < n) where
+      pub asked-within : lo + skip < shapeOn g a
+      asked-within = omega (arith, b .within)
 
-      pub between-up : leb (stepOn f g a (lo + half)) x ≡ true → Between f g a x (lo + (n - half)) half
-      between-up h = go (lt-or-le (lo + half) (firstFrom f g a x))
+      pub between-past : leb (stepOn f g a (lo + skip)) x ≡ true → Between f g a x (lo + skip + 1) (n - skip - 1)
+      between-past e = go (lt-or-le (lo + skip) (firstFrom f g a x))
         where
-          go : (lo + half < firstFrom f g a x) ⊎ (firstFrom f g a x ≤ lo + half) → Between f g a x (lo + (n - half)) half
+          go : (lo + skip < firstFrom f g a x) ⊎ (firstFrom f g a x ≤ lo + skip) → Between f g a x (lo + skip + 1) (n - skip - 1)
           go (inl l) = record { low = omega arith; high = omega (arith, b .high); within = omega (arith, b .within) }
-          go (inr l) = absurd (omega (arith, from f g a framed axis x (lo + half) mid-within l, leb-true (stepOn f g a (lo + half)) x h))
+          go (inr l) = absurd (omega (arith, from f g a framed axis x (lo + skip) asked-within l, leb-true (stepOn f g a (lo + skip)) x e))
 
-      pub between-down : leb (stepOn f g a (lo + half)) x ≡ false → Between f g a x lo half
-      between-down h = go (lt-or-le (lo + half) (firstFrom f g a x))
+      pub between-short : leb (stepOn f g a (lo + skip)) x ≡ false → Between f g a x lo skip
+      between-short e = go (lt-or-le (lo + skip) (firstFrom f g a x))
         where
-          go : (lo + half < firstFrom f g a x) ⊎ (firstFrom f g a x ≤ lo + half) → Between f g a x lo half
-          go (inl l) = absurd (omega (arith, before f g a framed axis x (lo + half) l, leb-false (stepOn f g a (lo + half)) x h))
+          go : (lo + skip < firstFrom f g a x) ⊎ (firstFrom f g a x ≤ lo + skip) → Between f g a x lo skip
+          go (inl l) = absurd (omega (arith, before f g a framed axis x (lo + skip) l, leb-false (stepOn f g a (lo + skip)) x e))
           go (inr l) = record { low = b .low; high = l; within = omega (arith, b .within) }
+
+    -- the middle of a part that is not empty is asked
+    module _ (from to : ℕ) (s : Sought f g a from to x) (e : from ≡ to → ⊥) where
+      abbrev half : ℕ
+      half = (to - from) / 2
+
+      some : from < to
+      some = go (lt-or-le from to)
+        where
+          go : (from < to) ⊎ (to ≤ from) → from < to
+          go (inl l) = l
+          go (inr l) = absurd (e (omega (arith, s .low, s .high)))
+
+      pub sought-above : leb (stepOn f g a (from + (to - from) / 2)) x ≡ true → Sought f g a (from + (to - from) / 2 + 1) to x
+      sought-above t =
+          let b = between-past from (to - from) half (between-start from to s) (omega (arith, some)) t in
+          record { axis = S; wall = s .wall; low = b .low; high = s .high; within = s .within }
+
+      pub sought-below : leb (stepOn f g a (from + (to - from) / 2)) x ≡ false → Sought f g a from (from + (to - from) / 2) x
+      sought-below t =
+          let b = between-short from (to - from) half (between-start from to s) (omega (arith, some)) t in
+          record { axis = S; wall = s .wall; low = s .low; high = b .high; within = omega (arith, some, s .within) }
 
 -- one test
 pub before-is : (f : Frame) (g : Grid) (a i x : ℕ) (y : Float) → x ≤ 65536 → y ≡ coordinate g a i

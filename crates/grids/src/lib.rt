@@ -38,23 +38,59 @@ fn comes_before(f: Frame, g: Grid, a: usize, i: usize, x: u64) -> bool
     (coordinate(g, a, i) - f.displacement[a]) / f.side < (x as f64)
 }
 
-// How many indices of axis a come before level-16 cell x, where that is a number from `from` to `to`.
-// The answer is always from lo to lo + n, and each turn halves n.
-fn first_within(f: Frame, g: Grid, a: usize, from: usize, to: usize, x: u64) -> usize
+// How far from its end a part of n indices is asked next: at most to its middle.
+fn reached(n: usize, reach: usize) -> usize
+    requires { ⌜ 0 < n ⌝ }
+    ensures { λ r. ⌜ r < n ⌝ }
+{
+    let half = n >> 1;
+    if half < reach { half } else { reach }
+}
+
+// How many of n indices stand before the one that is k from the upper end, or from the lower.
+fn skipped(n: usize, k: usize, upper: bool) -> usize
+    requires { ⌜ k < n ⌝ }
+    ensures { λ r. ⌜ r < n ⌝ }
+{
+    if upper { n - 1 - k } else { k }
+}
+
+// How many indices of axis a come before level-16 cell x, where that is a number from `from` to `to`, and likely near to the upper end, or to the lower.
+// The answer is always from lo to lo + n. The index at that end is asked, then ones ever farther from it; once the answer is passed, each turn halves n.
+fn first_near(f: Frame, g: Grid, a: usize, from: usize, to: usize, x: u64, upper: bool) -> usize
     requires { ⌜ Sought f g a from to x ⌝ }
     ensures { λ r. ⌜ r ≡ firstFrom f g a x ⌝ }
 {
     let mut lo = from;
     let mut n = to - from;
+    let mut reach: usize = 0;
     while 0 < n {
-        let half = n >> 1;
-        let step = n - half;
-        n = half;
-        if comes_before(f, g, a, lo + half, x) {
-            lo += step;
+        let k = reached(n, reach);
+        let skip = skipped(n, k, upper);
+        reach = k + k + 1;
+        if comes_before(f, g, a, lo + skip, x) {
+            lo = lo + skip + 1;
+            n = n - skip - 1;
+        } else {
+            n = skip;
         }
     }
     lo
+}
+
+// The same, asked first at the middle, near to which a wall lies that halves the indices of a cell.
+fn first_within(f: Frame, g: Grid, a: usize, from: usize, to: usize, x: u64) -> usize
+    requires { ⌜ Sought f g a from to x ⌝ }
+    ensures { λ r. ⌜ r ≡ firstFrom f g a x ⌝ }
+{
+    if from == to {
+        return from;
+    }
+    let middle = from + ((to - from) >> 1);
+    if comes_before(f, g, a, middle, x) {
+        return first_near(f, g, a, middle + 1, to, x, false);
+    }
+    first_near(f, g, a, from, middle, x, true)
 }
 
 // The same, searched on the whole axis.
