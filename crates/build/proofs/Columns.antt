@@ -1,5 +1,6 @@
 -- All rows are put: the columns are those of the tree that was asked for; and what is then left in the lent slices, with 0 in the unused places.
 use mathlib.Core.Path.{_≡_, refl, sym, ap, ap₂, subst, _∙_}
+use mathlib.Core.Bool.{Bool, true, false, true≢false}
 use mathlib.Core.List.{List, _++_, map}
 use Prim.Native.Nat.{ℕ, _*_, _+_, _-_, _%_, _≤_, _<_}
 use native.Mathlib.Omega.{arith}
@@ -21,12 +22,12 @@ use Rattle.parting.specs.Parts.{sourceCodes, targetCodes, Coded}
 use Rattle.grow.specs.Rows.{sumMarked, ownMarked, Marked}
 use Rattle.grow.specs.Steps.{Grows}
 use Rattle.grow.proofs.Ending.{order-taken}
+use Rattle.filling.specs.Slices.{indices, Slices, RowsPut, Filled, Cleared}
 use Rattle.build.specs.Asked.{Asked, ruleOf, builtKeys, builtOwn, builtBegins, builtTotals, builtOrder}
 use Rattle.build.specs.declared.Built.{Built}
 use Rattle.build.specs.declared.Built.the-variants.{Tree, Refused as NotBuilt}
-use Rattle.build.specs.Outcomes.{Rooms, buildCheck, buildAnswer, orderLeft, keysLeft, ownLeft, beginsLeft, totalsLeft}
-use Rattle.build.specs.Summing.{indices}
-use Rattle.build.specs.Steps.{TreeStarted, BuiltSlices}
+use Rattle.build.specs.Outcomes.{Rooms, roomOf, buildOutcome, buildCheck, buildAnswer, orderLeft, keysLeft, ownLeft, beginsLeft, totalsLeft}
+use Rattle.build.specs.Steps.{TreeStarted, BuiltSlices, isDone, builtOr}
 use Rattle.build.proofs.Answers.{refusal-so, tree-so}
 
 module _ (a : Asked) (z : Setting) (work work′ : List ℕ) (s : Marked) (coded : Coded (ruleOf a) z work) (q : Grows (ruleOf a) z work work′ s)
@@ -97,54 +98,67 @@ own-begins : (a : Asked) → beginColumn (builtOwn a) ≡ builtBegins a
 unfolding builtBegins
 own-begins a = refl
 
-module _ (a : Asked) (room rows n : ℕ) (work order key mark : List ℕ) (q : TreeStarted a room rows n work order key mark) (r : Rooms) where
-  pub slices-built : (works orders keys owns begins totals : List ℕ) → length work ≡ r .work → works ≡ replicate (length work) 0
-      → length order ≡ r .order → orders ≡ indices (take rows work) ++ replicate (length order - rows) 0
-      → length key ≡ r .keys → n ≤ length key → keys ≡ take n key ++ replicate (length key - n) 0
-      → owns ≡ map ownMarked (take n mark) ++ replicate (r .own - n) 0
-      → begins ≡ beginColumn (map ownMarked (take n mark)) ++ replicate (r .begins - n) 0
-      → length mark ≡ r .totals → n ≤ length mark → totals ≡ map sumMarked (take n mark) ++ replicate (length mark - n) 0
-      → BuiltSlices a r works orders keys owns begins totals
-  slices-built works orders keys owns begins totals lw iw li io lk hk ik iown ib lt ht it = record {
-    worked = iw ∙ ap (λ (x : ℕ). replicate x 0) lw;
-    ordered = cut-filled rows (r .order) (indices (take rows work)) orders (builtOrder a) (q .ordered) (length-map (take rows work) (λ w. w % 1048576) ∙ length-take-le rows work (q .in-work)) (io ∙ ap (λ (x : ℕ). indices (take rows work) ++ replicate (x - rows) 0) li);
-    keyed = cut-filled n (r .keys) (take n key) keys (builtKeys a) (q .keys) (length-take-le n key hk) (ik ∙ ap (λ (x : ℕ). take n key ++ replicate (x - n) 0) lk);
-    owned = cut-filled n (r .own) (map ownMarked (take n mark)) owns (builtOwn a) (q .owns) (length-map (take n mark) ownMarked ∙ length-take-le n mark ht) iown;
-    begun = cut-filled n (r .begins) (beginColumn (map ownMarked (take n mark))) begins (builtBegins a) begun-is (ap length begun-is ∙ begins-long a ∙ sym (q .number)) ib;
-    summed = cut-filled n (r .totals) (map sumMarked (take n mark)) totals (builtTotals a) (q .totals) (length-map (take n mark) sumMarked ∙ length-take-le n mark ht) (it ∙ ap (λ (x : ℕ). map sumMarked (take n mark) ++ replicate (x - n) 0) lt);
+-- so long are the slices
+pub record Long (r : Rooms) (s : Slices) : Type 0 where
+  pub work : length (s .work) ≡ r .work
+  pub order : length (s .order) ≡ r .order
+  pub keys : length (s .key) ≡ r .keys
+  pub own : length (s .own) ≡ r .own
+  pub begins : length (s .begin) ≡ r .begins
+  pub totals : length (s .total) ≡ r .totals
+
+module _ (a : Asked) (room rows n : ℕ) (r : Rooms) (s : Slices) (long : Long r s) (e : room ≡ roomOf r) (q : TreeStarted a room rows n (s .work) (s .order) (s .key) (s .total)) where
+  pub rows-put : RowsPut rows n s
+  rows-put = record {
+    in-work = q .in-work;
+    in-order = q .in-order;
+    in-key = omega (arith, q .in-room, e, long .keys);
+    in-own = omega (arith, q .in-room, e, long .own);
+    in-begin = omega (arith, q .in-room, e, long .begins);
+    in-total = omega (arith, q .in-room, e, long .totals);
+    few = q .few;
+  }
+
+  slices-built : (depth : ℕ) (t : Slices) → Filled rows n depth s t → BuiltSlices a r (t .work) (t .order) (t .key) (t .own) (t .begin) (t .total)
+  slices-built depth t f = record {
+    worked = f .worked ∙ ap (λ (x : ℕ). replicate x 0) (long .work);
+    ordered = cut-filled rows (r .order) (indices (take rows (s .work))) (t .order) (builtOrder a) (q .ordered) (length-map (take rows (s .work)) (λ w. w % 1048576) ∙ length-take-le rows (s .work) (q .in-work)) (f .ordered ∙ ap (λ (x : ℕ). indices (take rows (s .work)) ++ replicate (x - rows) 0) (long .order));
+    keyed = cut-filled n (r .keys) (take n (s .key)) (t .key) (builtKeys a) (q .keys) (length-take-le n (s .key) (rows-put .in-key)) (f .keyed ∙ ap (λ (x : ℕ). take n (s .key) ++ replicate (x - n) 0) (long .keys));
+    owned = cut-filled n (r .own) (map ownMarked (take n (s .total))) (t .own) (builtOwn a) (q .owns) (length-map (take n (s .total)) ownMarked ∙ marks) (f .owned ∙ ap (λ (x : ℕ). map ownMarked (take n (s .total)) ++ replicate (x - n) 0) (long .own));
+    begun = cut-filled n (r .begins) (beginColumn (map ownMarked (take n (s .total)))) (t .begin) (builtBegins a) begun-is (ap length begun-is ∙ begins-long a ∙ sym (q .number)) (f .begun ∙ ap (λ (x : ℕ). beginColumn (map ownMarked (take n (s .total))) ++ replicate (x - n) 0) (long .begins));
+    summed = cut-filled n (r .totals) (map sumMarked (take n (s .total))) (t .total) (builtTotals a) (q .totals) (length-map (take n (s .total)) sumMarked ∙ marks) (f .summed ∙ ap (λ (x : ℕ). map sumMarked (take n (s .total)) ++ replicate (x - n) 0) (long .totals));
   }
     where
-      begun-is : beginColumn (map ownMarked (take n mark)) ≡ builtBegins a
+      begun-is : beginColumn (map ownMarked (take n (s .total))) ≡ builtBegins a
       begun-is = ap beginColumn (q .owns) ∙ own-begins a
 
--- ---- the answer and the slices of a build
-abbrev pub Ended : Asked → Rooms → Built → List ℕ → List ℕ → List ℕ → List ℕ → List ℕ → List ℕ → Type 0
-Ended a r answer works orders keys owns begins totals =
-    (answer ≡ buildAnswer a r)
-    × ((works ≡ replicate (r .work) 0) × ((orders ≡ orderLeft a r) × ((keys ≡ keysLeft a r) × ((owns ≡ ownLeft a r) × ((begins ≡ beginsLeft a r) × (totals ≡ totalsLeft a r))))))
+      marks : length (take n (s .total)) ≡ n
+      marks = length-take-le n (s .total) (rows-put .in-total)
 
-module _ (a : Asked) (r : Rooms) (works orders keys owns begins totals : List ℕ) where
+-- ---- the answer and the slices of a build
+abbrev pub Ended : Asked → Rooms → Built → Slices → Type 0
+Ended a r answer t =
+    (answer ≡ buildAnswer a r)
+    × ((t .work ≡ replicate (r .work) 0) × ((t .order ≡ orderLeft a r) × ((t .key ≡ keysLeft a r) × ((t .own ≡ ownLeft a r) × ((t .begin ≡ beginsLeft a r) × (t .total ≡ totalsLeft a r))))))
+
+module _ (a : Asked) (r : Rooms) (s t : Slices) (long : Long r s) where
   abbrev checked : Outcome
   checked = buildCheck a r
 
-  pub refused-all : (q : Refusal) → buildCheck a r ≡ Refused q → (work order key own begin total : List ℕ)
-      → length work ≡ r .work → works ≡ replicate (length work) 0 → length order ≡ r .order → orders ≡ replicate (length order) 0
-      → length key ≡ r .keys → keys ≡ replicate (length key) 0 → length own ≡ r .own → owns ≡ replicate (length own) 0
-      → length begin ≡ r .begins → begins ≡ replicate (length begin) 0 → length total ≡ r .totals → totals ≡ replicate (length total) 0
-      → Ended a r (NotBuilt q) works orders keys owns begins totals
-  refused-all q d work order key own begin total lw iw li io lk ik lo iown lb ib lt it = (
+  refused-all : (q : Refusal) → buildCheck a r ≡ Refused q → Cleared s t → Ended a r (NotBuilt q) t
+  refused-all q d z = (
     refusal-so checked (builtKeys a) q d,
     (
-      iw ∙ ap (λ (x : ℕ). replicate x 0) lw,
+      z .worked ∙ ap (λ (x : ℕ). replicate x 0) (long .work),
       (
-        left-refused checked (r .order) (builtOrder a) orders q (length order) d li io,
+        left-refused checked (r .order) (builtOrder a) (t .order) q (length (s .order)) d (long .order) (z .ordered),
         (
-          left-refused checked (r .keys) (builtKeys a) keys q (length key) d lk ik,
+          left-refused checked (r .keys) (builtKeys a) (t .key) q (length (s .key)) d (long .keys) (z .keyed),
           (
-            left-refused checked (r .own) (builtOwn a) owns q (length own) d lo iown,
+            left-refused checked (r .own) (builtOwn a) (t .own) q (length (s .own)) d (long .own) (z .owned),
             (
-              left-refused checked (r .begins) (builtBegins a) begins q (length begin) d lb ib,
-              left-refused checked (r .totals) (builtTotals a) totals q (length total) d lt it,
+              left-refused checked (r .begins) (builtBegins a) (t .begin) q (length (s .begin)) d (long .begins) (z .begun),
+              left-refused checked (r .totals) (builtTotals a) (t .total) q (length (s .total)) d (long .totals) (z .summed),
             ),
           ),
         ),
@@ -152,24 +166,39 @@ module _ (a : Asked) (r : Rooms) (works orders keys owns begins totals : List �
     ),
   )
 
-  pub built-all : buildCheck a r ≡ Done → (n depth : ℕ) (first : List ℕ) → n ≡ length (builtKeys a) → first ≡ builtKeys a → depth ≡ depthOf first → BuiltSlices a r works orders keys owns begins totals
-      → Ended a r (Tree n depth) works orders keys owns begins totals
-  built-all d n depth first e f g s = (
+  built-all : buildCheck a r ≡ Done → (n depth : ℕ) (first : List ℕ) → n ≡ length (builtKeys a) → first ≡ builtKeys a → depth ≡ depthOf first → BuiltSlices a r (t .work) (t .order) (t .key) (t .own) (t .begin) (t .total)
+      → Ended a r (Tree n depth) t
+  built-all d n depth first e f g z = (
     tree-so a checked n depth first d e f g,
     (
-      s .worked,
+      z .worked,
       (
-        left-done checked (r .order) (builtOrder a) orders d (s .ordered),
+        left-done checked (r .order) (builtOrder a) (t .order) d (z .ordered),
         (
-          left-done checked (r .keys) (builtKeys a) keys d (s .keyed),
+          left-done checked (r .keys) (builtKeys a) (t .key) d (z .keyed),
           (
-            left-done checked (r .own) (builtOwn a) owns d (s .owned),
+            left-done checked (r .own) (builtOwn a) (t .own) d (z .owned),
             (
-              left-done checked (r .begins) (builtBegins a) begins d (s .begun),
-              left-done checked (r .totals) (builtTotals a) totals d (s .summed),
+              left-done checked (r .begins) (builtBegins a) (t .begin) d (z .begun),
+              left-done checked (r .totals) (builtTotals a) (t .total) d (z .summed),
             ),
           ),
         ),
       ),
     ),
   )
+
+  -- where all rows are put the slices are filled, and else cleared
+  pub ended : (o : Outcome) (put : Bool) (room rows n depth : ℕ) → room ≡ roomOf r → o ≡ buildOutcome a (r .work) (r .order) room → put ≡ isDone o
+      → (o ≡ Done → TreeStarted a room rows n (s .work) (s .order) (s .key) (s .total))
+      → (put ≡ true → Filled rows n depth s t) → (put ≡ false → Cleared s t)
+      → Ended a r (builtOr o n depth) t
+  ended Done put room rows n depth m e p st f z =
+      let q = st refl in
+      let fill = f p in
+      built-all (sym (e ∙ ap (buildOutcome a (r .work) (r .order)) m)) n depth (take n (s .key)) (q .number) (q .keys) (fill .deep) (slices-built a room rows n r s long m q depth t fill)
+  ended (Refused q) put room rows n depth m e p st f z = refused-all q (sym (e ∙ ap (buildOutcome a (r .work) (r .order)) m)) (z p)
+
+pub done-is : (o : Outcome) → isDone o ≡ true → o ≡ Done
+done-is Done e = refl
+done-is (Refused r) e = absurd (true≢false (sym e))

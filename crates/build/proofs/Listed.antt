@@ -18,8 +18,9 @@ use Rattle.grids.specs.declared.Grid.{Grid}
 use Rattle.grids.specs.Grids.{listed, gridKnown}
 use Rattle.tree.specs.Columns.{Columns}
 use Rattle.laying.specs.Outcomes.{askedOutcome, insideOutcome, workNeed, workOutcome}
-use Rattle.build.specs.Asked.{Asked, used, asks, asksAt, asksFor, asksOnGrid, gridOutcome, builtKeys, builtOwn, builtBegins, builtTotals, builtColumns, builtOrder}
-use Rattle.build.specs.Outcomes.{Rooms, columnOutcome, buildOutcome, buildCheck, nodeRoom, treeOr}
+use Rattle.grid_laying.specs.Outcomes.{gridOutcome, gridChecks}
+use Rattle.build.specs.Asked.{Asked, used, asks, asksAt, asksFor, asksOnGrid, builtKeys, builtOwn, builtBegins, builtTotals, builtColumns, builtOrder}
+use Rattle.build.specs.Outcomes.{Rooms, columnOutcome, buildOutcome, buildCheck, roomOf, treeOr}
 use Rattle.build.specs.Listed.{SameBuild, withWork, Undecided}
 
 -- ---- the checks
@@ -68,13 +69,7 @@ module _ (b : Box) (sources : List Float) (g : Grid) (limit order : ℕ) (keep r
   same-room orders nodes = refl
 
   -- so is the outcome with both flags, with 16 put in after 1 and 2, and the targets out of the work's need
-  pub same-checks : (work orders nodes : ℕ) → (keep && refine) ≡ true
-      → buildOutcome onGrid work orders nodes
-      ≡ gridOutcome b g
-      then askedOutcome b sources (listed (b .axes) g) order
-      then insideOutcome b sources (listed (b .axes) g)
-      then workOutcome b sources [] work
-      then columnOutcome onList orders nodes
+  pub same-checks : (work orders nodes : ℕ) → (keep && refine) ≡ true → buildOutcome onGrid work orders nodes ≡ gridChecks b sources g order work then columnOutcome onList orders nodes
   same-checks work orders nodes e =
       ap (λ (u : Bool). cond u (gridOutcome b g) Done then askedOutcome b sources (t u) order then insideOutcome b sources (t u) then workOutcome b sources (cond u [] []) work then columnOutcome onGrid orders nodes) e
       ∙ ap (λ (o : Outcome). gridOutcome b g then askedOutcome b sources (t true) order then insideOutcome b sources (t true) then workOutcome b sources [] work then o) (same-room orders nodes)
@@ -102,7 +97,7 @@ module _ (b : Box) (sources : List Float) (g : Grid) (limit order : ℕ) (keep r
   }
     where
       checks : buildCheck onGrid r ≡ buildCheck onList (withWork long r)
-      checks = same-outcome (r .work) long (r .order) (nodeRoom (r .keys) (r .own) (r .begins) (r .totals)) h
+      checks = same-outcome (r .work) long (r .order) (roomOf r) h
 
       keys-same : builtKeys onGrid ≡ builtKeys onList
       keys-same = ap (λ (c : Columns). c .keys) same-columns

@@ -1,12 +1,10 @@
 -- Document 01, "How the tree grows": what a build is asked, and the tree that answers it.
 use mathlib.Core.Bool.{Bool, _&&_, cond}
-use Rattle.refusal.specs.declared.Refusal.the-variants.{Grid as GridRefused}
 use Rattle.refusal.specs.declared.Outcome.{Outcome}
 use Rattle.refusal.specs.declared.Outcome.the-variants.{Done}
-use Rattle.refusal.specs.Chain.{ask, _then_}
-use Rattle.space.specs.Domain.{boxOutcome}
 use Rattle.grids.specs.declared.Grid.{Grid}
-use Rattle.grids.specs.Grids.{listed, gridKnown}
+use Rattle.grids.specs.Grids.{listed}
+use Rattle.grid_laying.specs.Outcomes.{gridOutcome}
 use mathlib.Core.List.{List, []}
 use Prim.Native.Nat.{ℕ}
 use lib.Ieee.{Float}
@@ -37,10 +35,6 @@ pub record Asked : Type 0 where
 abbrev pub asks : Box → ℕ → ℕ → Bool → List Float → List Float → Asked
 asks b limit order keep sources targets =
     record { box = b; limit = limit; order = order; keep = keep; sources = sources; targets = targets; early = Done; held = targets }
-
--- 16 GRID, after 1 and 2
-abbrev pub gridOutcome : Box → Grid → Outcome
-gridOutcome b g = boxOutcome b then ask (gridKnown (b .axes) g) GridRefused
 
 -- a build whose targets are the listed points of a grid, where it is `sited`, and else these
 abbrev pub asksAt : Box → ℕ → ℕ → Bool → List Float → List Float → Bool → Grid → Asked

@@ -2,23 +2,12 @@
 use mathlib.Core.Path.{_≡_}
 use mathlib.Core.Bool.{true}
 use Prim.Native.Nat.{ℕ}
-use Rattle.refusal.specs.declared.Outcome.the-variants.{Done}
 use Rattle.space.specs.declared.Box.{Box}
-use Rattle.space.specs.declared.Rows.the-variants.{Inside}
-use Rattle.space.specs.Domain.{boxOutcome}
 use Rattle.space.specs.Cells.{frameOf}
 use Rattle.grids.specs.declared.Grid.{Grid}
-use Rattle.grids.specs.Grids.{gridKnown, fewPoints}
-use Rattle.grids.specs.Ranges.{Fitting}
 use Rattle.parting.specs.declared.Sizes.{Sizes}
 use Rattle.parting.specs.Setting.{Gridded}
 use Rattle.parting.specs.Spans.{SpanAt}
-
--- a known box, and a known grid of few points
-pub record Sited (b : Box) (g : Grid) : Type 0 where
-  pub box : boxOutcome b ≡ Done
-  pub known : gridKnown (b .axes) g ≡ true
-  pub few : fewPoints (b .axes) g ≡ true
 
 -- the sizes of a growth on the grid, all of whose points are inside: 1 stands for its targets, which are not in the work
 pub record OnGrid (b : Box) (g : Grid) (sources room depth : ℕ) (z : Sizes) : Type 0 where

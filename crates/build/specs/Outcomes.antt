@@ -49,10 +49,13 @@ abbrev pub rooms : (work order keys own begins totals : List ℕ) → Rooms
 rooms work order keys own begins totals =
     record { work = length work; order = length order; keys = length keys; own = length own; begins = length begins; totals = length totals }
 
+abbrev pub roomOf : Rooms → ℕ
+roomOf r = nodeRoom (r .keys) (r .own) (r .begins) (r .totals)
+
 -- ---- a build with so much room
 module _ (a : Asked) (r : Rooms) where
   abbrev pub buildCheck : Outcome
-  buildCheck = buildOutcome a (r .work) (r .order) (nodeRoom (r .keys) (r .own) (r .begins) (r .totals))
+  buildCheck = buildOutcome a (r .work) (r .order) (roomOf r)
 
   abbrev pub buildAnswer : Built
   buildAnswer = treeOr buildCheck (builtKeys a)

@@ -1,12 +1,13 @@
 -- The steps of a build: the points laid out, all rows put, and the lent slices at the end.
 use mathlib.Core.Path.{_≡_}
-use mathlib.Core.Bool.{false}
+use mathlib.Core.Bool.{Bool, true, false}
 use mathlib.Core.List.{List, map}
 use Prim.Native.Nat.{ℕ, _≤_}
 use lib.Dec.{leb}
 use lib.ListN.{length, take, replicate}
 use Rattle.refusal.specs.declared.Refusal.the-variants.{Room}
 use Rattle.refusal.specs.declared.Outcome.{Outcome}
+use Rattle.refusal.specs.declared.Outcome.the-variants.{Done, Refused}
 use Rattle.refusal.specs.Chain.{ask, _then_}
 use Rattle.slices.specs.Lists.{sum, filled}
 use Rattle.space.specs.Rows.{rowsOf}
@@ -18,9 +19,11 @@ use Rattle.parting.specs.Setting.{setting}
 use Rattle.parting.specs.Spans.{SpanAt}
 use Rattle.parting.specs.Parts.{sourceCodes, targetCodes, Coded}
 use Rattle.grow.specs.Rows.{sumMarked, ownMarked}
+use Rattle.filling.specs.Slices.{indices}
+use Rattle.build.specs.declared.Built.{Built}
+use Rattle.build.specs.declared.Built.the-variants.{Tree, Refused as NotBuilt}
 use Rattle.build.specs.Asked.{Asked, ruleOf, builtKeys, builtOwn, builtBegins, builtTotals, builtOrder}
 use Rattle.build.specs.Outcomes.{Rooms}
-use Rattle.build.specs.Summing.{indices}
 
 -- sizes without a grid
 pub record Plain (sources targets room depth : ℕ) (z : Sizes) : Type 0 where
@@ -59,6 +62,16 @@ pub record TreeStarted (a : Asked) (room rows n : ℕ) (work order key mark : Li
   pub totals : map sumMarked (take n mark) ≡ builtTotals a
   pub few : sum (map ownMarked (take n mark)) ≤ 1048576
   pub ordered : indices (take rows work) ≡ builtOrder a
+
+-- whether an outcome refuses nothing
+abbrev pub isDone : Outcome → Bool
+isDone Done = true
+isDone (Refused r) = false
+
+-- so many nodes and their depth, or the refusal
+abbrev pub builtOr : Outcome → ℕ → ℕ → Built
+builtOr Done n depth = Tree n depth
+builtOr (Refused r) n depth = NotBuilt r
 
 -- the slices after a build that is not refused
 pub record BuiltSlices (a : Asked) (r : Rooms) (works orders keys owns begins totals : List ℕ) : Type 0 where

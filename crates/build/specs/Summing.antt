@@ -1,7 +1,7 @@
--- The sources' codes in the work, their sums in the order column, and the indices of their words.
+-- The sources' codes in the work, and their sums in the order column.
 use mathlib.Core.Path.{_≡_}
-use mathlib.Core.List.{List, map}
-use Prim.Native.Nat.{ℕ, _+_, _*_, _%_, _^_, _≤_, _<_}
+use mathlib.Core.List.{List}
+use Prim.Native.Nat.{ℕ, _+_, _*_, _^_, _≤_, _<_}
 use lib.ListN.{length, getD}
 use lib.Seq.{slice}
 use Rattle.morton.specs.Depth.{referenceDepth}
@@ -19,7 +19,3 @@ pub record Sourced (d rows : ℕ) (work : List ℕ) (room : ℕ) : Type 0 where
 pub record SumsMade (d rows marks : ℕ) (work : List ℕ) (depth : ℕ) (sums : List ℕ) : Type 0 where
   pub deep : 0 < marks → depth ≡ referenceDepth d rows
   pub made : 0 < marks → Sums d depth (slice rows (2 * rows) work) sums
-
--- a word's last 20 bits are its source's index
-abbrev pub indices : List ℕ → List ℕ
-indices words = map (λ w. w % 1048576) words

@@ -1,5 +1,5 @@
 // The tree grown from points: `build_tree` of `linear_tree.rs`, without its lists.
-mod on_grid; // on_grid.rt: the checks of a build on a grid, and its sources laid out
+mod on_grid; // on_grid.rt: the sources of a build on a grid laid out, and the span of the root
 
 use grids::Grid;
 use grids::spans;
@@ -9,22 +9,18 @@ use refusal::Outcome;
 use refusal::Refusal;
 use space::Box;
 ghost use mathlib.Core.Path.{_≡_};
-ghost use mathlib.Core.Bool.{Bool, true, _&&_};
-ghost use mathlib.Core.List.{[], _∷_, _++_, map};
-ghost use Prim.Native.Nat.{ℕ, _-_, _≤_, min};
+ghost use mathlib.Core.Bool.{Bool, true, false, cond, _&&_};
+ghost use mathlib.Core.List.{[], _∷_};
+ghost use Prim.Native.Nat.{ℕ, _≤_, min};
 ghost use lib.Dec.{leb};
-ghost use lib.ListN.{length, take, replicate};
-ghost use Rattle.slices.specs.Lists.{sum};
+ghost use lib.ListN.{length, replicate};
 ghost use Rattle.refusal.specs.declared.Refusal.the-variants.{Room};
 ghost use Rattle.refusal.specs.declared.Outcome.the-variants.{Done, Refused};
 ghost use Rattle.refusal.specs.Chain.{ask};
-ghost use Rattle.tree.specs.Order.{depthOf};
-ghost use Rattle.growth.specs.Columns.{beginColumn};
-ghost use Rattle.grow.specs.Rows.{ownMarked, sumMarked};
-ghost use Rattle.build.specs.Asked.{used, asks, asksAt, asksFor, asksOnGrid};
+ghost use Rattle.build.specs.Asked.{asks, asksAt, asksFor, asksOnGrid};
 ghost use Rattle.build.specs.Outcomes.{nodeRoom, rooms, buildOutcome, buildAnswer, orderLeft, keysLeft, ownLeft, beginsLeft, totalsLeft};
-ghost use Rattle.build.specs.Summing.{Sourced, SumsMade, indices as indicesOf};
-ghost use Rattle.build.specs.Steps.{Plain, layOutcome, LaidOut, TreeStarted};
+ghost use Rattle.build.specs.Summing.{Sourced, SumsMade};
+ghost use Rattle.build.specs.Steps.{Plain, layOutcome, LaidOut, isDone, builtOr, TreeStarted};
 
 pub const MOST_NODES: usize = 1048576;
 
@@ -32,19 +28,6 @@ pub const MOST_NODES: usize = 1048576;
 pub enum Built {
     Tree(usize, u64),
     Refused(Refusal),
-}
-
-// The targets that are used: all with both flags, else none.
-fn used_targets<'a>(targets: &'a [f64], keep: bool, refine: bool) -> &'a [f64]
-    ensures { λ r. ⌜ now r ≡ used keep refine (now (targets .entry)) ⌝ }
-{
-    if !keep {
-        return &targets[..0];
-    }
-    if !refine {
-        return &targets[..0];
-    }
-    targets
 }
 
 // Whether both flags are set: only then are targets used.
@@ -55,6 +38,16 @@ fn both(keep: bool, refine: bool) -> bool
         return refine;
     }
     false
+}
+
+// How many entries of the targets are used: all with both flags, else none.
+fn used_entries(targets: usize, keep: bool, refine: bool) -> usize
+    ensures { λ r. ⌜ r ≡ cond (keep && refine) targets 0 ⌝ }
+{
+    if both(keep, refine) {
+        return targets;
+    }
+    0
 }
 
 // The smaller of two numbers.
@@ -86,35 +79,6 @@ fn sum_sources(axes: usize, rows: usize, marks: usize, work: &[u64], indices: &m
     let twice = rows + rows;
     refine::add_sums(axes, depth, &work[rows..twice], indices);
     depth
-}
-
-// Writes the order column from the words in the work, clears what is unused, and answers the depth of the first n nodes.
-fn finish(rows: usize, n: usize, work: &mut [u64], indices: &mut [usize], key: &mut [u64]) -> u64
-    requires { ⌜ (rows ≤ length (now work)) × (rows ≤ length (now indices)) × (n ≤ length (now key)) ⌝ }
-    ensures { λ r. ⌜ r ≡ depthOf (take n (now (key .entry))) ⌝ }
-    ensures { λ _. ⌜ now (work .exit) ≡ replicate (length (now (work .entry))) 0 ⌝ }
-    ensures { λ _. ⌜ now (indices .exit) ≡ indicesOf (take rows (now (work .entry))) ++ replicate (length (now (indices .entry)) - rows) 0 ⌝ }
-    ensures { λ _. ⌜ now (key .exit) ≡ take n (now (key .entry)) ++ replicate (length (now (key .entry)) - n) 0 ⌝ }
-{
-    let depth = tree::depth_of(&key[..n]);
-    grow::take_indices(work, rows, indices);
-    slices::clear_from_usize(indices, rows);
-    slices::clear(work);
-    slices::clear_from(key, n);
-    depth
-}
-
-// Spreads the first n marks out, which stand in `total`, and clears what is unused behind them.
-fn fill_columns(n: usize, own: &mut [usize], begin: &mut [usize], total: &mut [usize])
-    requires { ⌜ (n ≤ length (now own)) × (n ≤ length (now begin)) × (n ≤ length (now total)) × (sum (map ownMarked (take n (now total))) ≤ 1048576) ⌝ }
-    ensures { λ _. ⌜ now (own .exit) ≡ map ownMarked (take n (now (total .entry))) ++ replicate (length (now (own .entry)) - n) 0 ⌝ }
-    ensures { λ _. ⌜ now (begin .exit) ≡ beginColumn (map ownMarked (take n (now (total .entry)))) ++ replicate (length (now (begin .entry)) - n) 0 ⌝ }
-    ensures { λ _. ⌜ now (total .exit) ≡ map sumMarked (take n (now (total .entry))) ++ replicate (length (now (total .entry)) - n) 0 ⌝ }
-{
-    grow::spread_marks(n, own, begin, total);
-    slices::clear_from_usize(own, n);
-    slices::clear_from_usize(begin, n);
-    slices::clear_from_usize(total, n);
 }
 
 // Whether the points are laid out, and the sizes of the growth.
@@ -175,7 +139,8 @@ fn lay_out(
     indices: &mut [usize],
 ) -> Laid
     ensures { λ r. ⌜ r .outcome ≡ layOutcome (asks b 0 order true (now (sources .entry)) (now (targets .entry))) (length (now (work .entry))) (length (now (indices .entry))) ⌝ }
-    ensures { λ r. ⌜ (r .outcome ≡ Done → (limit : ℕ) (keep : Bool) → LaidOut (asks b limit order keep (now (sources .entry)) (now (targets .entry))) room (r .sizes) (now (work .exit)) (now (indices .exit))) ⌝ }
+    ensures { λ r. ⌜ (r .outcome ≡ Done → (limit : ℕ) (keep : Bool)
+        → LaidOut (asks b limit order keep (now (sources .entry)) (now (targets .entry))) room (r .sizes) (now (work .exit)) (now (indices .exit))) ⌝ }
 {
     let prepared = laying::prepare(b, sources, targets, order, work);
     if let Outcome::Refused(refusal) = prepared {
@@ -195,19 +160,21 @@ fn lay_out(
     }
 }
 
-// Whether all rows are put; then how many sources and nodes there are.
+// Whether all rows are put, and if not, why; then how many sources and nodes there are.
 struct Started {
     outcome: Outcome,
+    put: bool,
     rows: usize,
     nodes: usize,
 }
 
 // A refusal: nothing is counted.
 fn unstarted(refusal: Refusal) -> Started
-    ensures { λ r. ⌜ r .outcome ≡ Refused refusal ⌝ }
+    ensures { λ r. ⌜ (r .outcome ≡ Refused refusal) × (r .put ≡ false) ⌝ }
 {
     Started {
         outcome: Outcome::Refused(refusal),
+        put: false,
         rows: 0,
         nodes: 0,
     }
@@ -215,7 +182,7 @@ fn unstarted(refusal: Refusal) -> Started
 
 // Whether n nodes have room.
 fn settle(room: usize, rows: usize, n: usize) -> Started
-    ensures { λ r. ⌜ r .outcome ≡ ask (leb n room) (Room 3) ⌝ }
+    ensures { λ r. ⌜ (r .outcome ≡ ask (leb n room) (Room 3)) × (r .put ≡ isDone (r .outcome)) ⌝ }
     ensures { λ r. ⌜ (r .outcome ≡ Done → (r .rows ≡ rows) × (r .nodes ≡ n)) ⌝ }
 {
     if room < n {
@@ -223,6 +190,7 @@ fn settle(room: usize, rows: usize, n: usize) -> Started
     }
     Started {
         outcome: Outcome::Done,
+        put: true,
         rows,
         nodes: n,
     }
@@ -267,9 +235,12 @@ fn start(
     mark: &mut [usize],
 ) -> Started
     requires { ⌜ (room ≤ length (now key)) × (room ≤ length (now mark)) ⌝ }
-    ensures { λ r. ⌜ r .outcome ≡ buildOutcome (asksAt b limit order keep (now (sources .entry)) (now (targets .entry)) sited grid) (length (now (work .entry))) (length (now (indices .entry))) room ⌝ }
+    ensures { λ r. ⌜ r .outcome ≡ buildOutcome (asksAt b limit order keep (now (sources .entry)) (now (targets .entry)) sited grid)
+        (length (now (work .entry))) (length (now (indices .entry))) room ⌝ }
+    ensures { λ r. ⌜ r .put ≡ isDone (r .outcome) ⌝ }
     ensures { λ r. ⌜ (r .outcome ≡ Done
-        → TreeStarted (asksAt b limit order keep (now (sources .entry)) (now (targets .entry)) sited grid) room (r .rows) (r .nodes) (now (work .exit)) (now (indices .exit)) (now (key .exit)) (now (mark .exit))) ⌝ }
+        → TreeStarted (asksAt b limit order keep (now (sources .entry)) (now (targets .entry)) sited grid)
+        room (r .rows) (r .nodes) (now (work .exit)) (now (indices .exit)) (now (key .exit)) (now (mark .exit))) ⌝ }
 {
     let laid = lay(b, sources, targets, sited, grid, order, room, work, indices);
     let outcome = laid.outcome;
@@ -287,26 +258,15 @@ fn start(
     settle(z.room, z.sources, n)
 }
 
-// Clears the work, the order column and the keys.
-fn clear_keys(work: &mut [u64], indices: &mut [usize], key: &mut [u64])
-    ensures { λ _. ⌜ now (work .exit) ≡ replicate (length (now (work .entry))) 0 ⌝ }
-    ensures { λ _. ⌜ now (indices .exit) ≡ replicate (length (now (indices .entry))) 0 ⌝ }
-    ensures { λ _. ⌜ now (key .exit) ≡ replicate (length (now (key .entry))) 0 ⌝ }
+// The number of nodes and the depth, or the refusal.
+fn answer_of(started: Started, depth: u64) -> Built
+    ensures { λ r. ⌜ r ≡ builtOr (started .outcome) (started .nodes) depth ⌝ }
 {
-    slices::clear(work);
-    slices::clear_usize(indices);
-    slices::clear(key);
-}
-
-// Clears the columns beside the keys.
-fn clear_columns(own: &mut [usize], begin: &mut [usize], total: &mut [usize])
-    ensures { λ _. ⌜ now (own .exit) ≡ replicate (length (now (own .entry))) 0 ⌝ }
-    ensures { λ _. ⌜ now (begin .exit) ≡ replicate (length (now (begin .entry))) 0 ⌝ }
-    ensures { λ _. ⌜ now (total .exit) ≡ replicate (length (now (total .entry))) 0 ⌝ }
-{
-    slices::clear_usize(own);
-    slices::clear_usize(begin);
-    slices::clear_usize(total);
+    let outcome = started.outcome;
+    if let Outcome::Refused(refusal) = outcome {
+        return Built::Refused(refusal);
+    }
+    Built::Tree(started.nodes, depth)
 }
 
 // Builds the tree with these targets, or, where it is `sited`, with those of the grid.
@@ -356,15 +316,18 @@ fn raise(
         key,
         total,
     );
-    let outcome = started.outcome;
-    if let Outcome::Refused(refusal) = outcome {
-        clear_keys(work, indices, key);
-        clear_columns(own, begin, total);
-        return Built::Refused(refusal);
-    }
-    let depth = finish(started.rows, started.nodes, work, indices, key);
-    fill_columns(started.nodes, own, begin, total);
-    Built::Tree(started.nodes, depth)
+    let depth = filling::fill_or_clear(
+        started.put,
+        started.rows,
+        started.nodes,
+        work,
+        indices,
+        key,
+        own,
+        begin,
+        total,
+    );
+    answer_of(started, depth)
 }
 
 // The tree of the sources: its keys, own sources, begins and totals, and the order column in `indices`.
@@ -398,12 +361,12 @@ pub fn build_tree(
     ensures { λ _. ⌜ now (total .exit) ≡ totalsLeft (asksFor b (now (sources .entry)) (now (targets .entry)) limit order keep refine)
         (rooms (now (work .entry)) (now (indices .entry)) (now (key .entry)) (now (own .entry)) (now (begin .entry)) (now (total .entry))) ⌝ }
 {
-    let marked = used_targets(targets, keep, refine);
+    let entries = used_entries(targets.len(), keep, refine);
     let grid = no_grid();
     raise(
         b,
         sources,
-        marked,
+        &targets[..entries],
         false,
         grid,
         limit,

@@ -125,22 +125,30 @@ pub extern "C" fn lohandema_build_tree_on_grid(
     nodes: &mut usize,
     depth: &mut u64,
 ) -> Ended
-    ensures ended { λ r. ⌜ r ≡ told (builtEnd (buildAnswer (asksOnGrid (boxAt (now (centre .entry)) radius axes) (now (sources .entry)) (gridAt (now (origin .entry)) (now (spacing .entry)) (now (shape .entry))) limit order keep refine)
+    ensures ended { λ r. ⌜ r ≡ told (builtEnd (buildAnswer
+        (asksOnGrid (boxAt (now (centre .entry)) radius axes) (now (sources .entry)) (gridAt (now (origin .entry)) (now (spacing .entry)) (now (shape .entry))) limit order keep refine)
         (rooms (now (work .entry)) (now (indices .entry)) (now (key .entry)) (now (own .entry)) (now (begin .entry)) (now (total .entry))))) ⌝ }
     ensures work { λ _. ⌜ now (work .exit) ≡ replicate (length (now (work .entry))) 0 ⌝ }
-    ensures indices { λ _. ⌜ now (indices .exit) ≡ orderLeft (asksOnGrid (boxAt (now (centre .entry)) radius axes) (now (sources .entry)) (gridAt (now (origin .entry)) (now (spacing .entry)) (now (shape .entry))) limit order keep refine)
+    ensures indices { λ _. ⌜ now (indices .exit) ≡ orderLeft
+        (asksOnGrid (boxAt (now (centre .entry)) radius axes) (now (sources .entry)) (gridAt (now (origin .entry)) (now (spacing .entry)) (now (shape .entry))) limit order keep refine)
         (rooms (now (work .entry)) (now (indices .entry)) (now (key .entry)) (now (own .entry)) (now (begin .entry)) (now (total .entry))) ⌝ }
-    ensures key { λ _. ⌜ now (key .exit) ≡ keysLeft (asksOnGrid (boxAt (now (centre .entry)) radius axes) (now (sources .entry)) (gridAt (now (origin .entry)) (now (spacing .entry)) (now (shape .entry))) limit order keep refine)
+    ensures key { λ _. ⌜ now (key .exit) ≡ keysLeft
+        (asksOnGrid (boxAt (now (centre .entry)) radius axes) (now (sources .entry)) (gridAt (now (origin .entry)) (now (spacing .entry)) (now (shape .entry))) limit order keep refine)
         (rooms (now (work .entry)) (now (indices .entry)) (now (key .entry)) (now (own .entry)) (now (begin .entry)) (now (total .entry))) ⌝ }
-    ensures own { λ _. ⌜ now (own .exit) ≡ ownLeft (asksOnGrid (boxAt (now (centre .entry)) radius axes) (now (sources .entry)) (gridAt (now (origin .entry)) (now (spacing .entry)) (now (shape .entry))) limit order keep refine)
+    ensures own { λ _. ⌜ now (own .exit) ≡ ownLeft
+        (asksOnGrid (boxAt (now (centre .entry)) radius axes) (now (sources .entry)) (gridAt (now (origin .entry)) (now (spacing .entry)) (now (shape .entry))) limit order keep refine)
         (rooms (now (work .entry)) (now (indices .entry)) (now (key .entry)) (now (own .entry)) (now (begin .entry)) (now (total .entry))) ⌝ }
-    ensures begin { λ _. ⌜ now (begin .exit) ≡ beginsLeft (asksOnGrid (boxAt (now (centre .entry)) radius axes) (now (sources .entry)) (gridAt (now (origin .entry)) (now (spacing .entry)) (now (shape .entry))) limit order keep refine)
+    ensures begin { λ _. ⌜ now (begin .exit) ≡ beginsLeft
+        (asksOnGrid (boxAt (now (centre .entry)) radius axes) (now (sources .entry)) (gridAt (now (origin .entry)) (now (spacing .entry)) (now (shape .entry))) limit order keep refine)
         (rooms (now (work .entry)) (now (indices .entry)) (now (key .entry)) (now (own .entry)) (now (begin .entry)) (now (total .entry))) ⌝ }
-    ensures total { λ _. ⌜ now (total .exit) ≡ totalsLeft (asksOnGrid (boxAt (now (centre .entry)) radius axes) (now (sources .entry)) (gridAt (now (origin .entry)) (now (spacing .entry)) (now (shape .entry))) limit order keep refine)
+    ensures total { λ _. ⌜ now (total .exit) ≡ totalsLeft
+        (asksOnGrid (boxAt (now (centre .entry)) radius axes) (now (sources .entry)) (gridAt (now (origin .entry)) (now (spacing .entry)) (now (shape .entry))) limit order keep refine)
         (rooms (now (work .entry)) (now (indices .entry)) (now (key .entry)) (now (own .entry)) (now (begin .entry)) (now (total .entry))) ⌝ }
-    ensures nodes { λ _. ⌜ now (nodes .exit) ≡ nodesIn (buildAnswer (asksOnGrid (boxAt (now (centre .entry)) radius axes) (now (sources .entry)) (gridAt (now (origin .entry)) (now (spacing .entry)) (now (shape .entry))) limit order keep refine)
+    ensures nodes { λ _. ⌜ now (nodes .exit) ≡ nodesIn (buildAnswer
+        (asksOnGrid (boxAt (now (centre .entry)) radius axes) (now (sources .entry)) (gridAt (now (origin .entry)) (now (spacing .entry)) (now (shape .entry))) limit order keep refine)
         (rooms (now (work .entry)) (now (indices .entry)) (now (key .entry)) (now (own .entry)) (now (begin .entry)) (now (total .entry)))) ⌝ }
-    ensures depth { λ _. ⌜ now (depth .exit) ≡ depthIn (buildAnswer (asksOnGrid (boxAt (now (centre .entry)) radius axes) (now (sources .entry)) (gridAt (now (origin .entry)) (now (spacing .entry)) (now (shape .entry))) limit order keep refine)
+    ensures depth { λ _. ⌜ now (depth .exit) ≡ depthIn (buildAnswer
+        (asksOnGrid (boxAt (now (centre .entry)) radius axes) (now (sources .entry)) (gridAt (now (origin .entry)) (now (spacing .entry)) (now (shape .entry))) limit order keep refine)
         (rooms (now (work .entry)) (now (indices .entry)) (now (key .entry)) (now (own .entry)) (now (begin .entry)) (now (total .entry)))) ⌝ }
 {
     let b = exports_points::box_at(centre, radius, axes);

@@ -221,8 +221,8 @@ module _ (d : ℕ) (s : Span) (C : Counts d s) where
     pub multiplying-fits : n * lengthOn s a ≤ 1048576
     multiplying-fits = omega (arith, more-is, C .few (a + 1) (omega arith))
 
-    pub multiplying-more : Multiplying d s (n * lengthOn s a) (a + 1)
-    multiplying-more = record { within = omega arith; is = more-is }
+    pub multiplying-more : (r : ℕ) → r ≡ n * lengthOn s a → Multiplying d s r (a + 1)
+    multiplying-more r e = record { within = omega arith; is = e ∙ more-is }
 
   pub multiplying-done : (n a : ℕ) → Multiplying d s n a → d ≤ a → n ≡ product (lengthOn s) 0 d
   multiplying-done n a m h = let e : a ≡ d = omega (arith, m .within) in m .is ∙ ap (product (lengthOn s) 0) e

@@ -27,7 +27,9 @@ fn coordinate(g: Grid, a: usize, i: usize) -> f64
     requires { ⌜ (a < 3) × (i ≤ 1048576) ⌝ }
     ensures { λ r. ⌜ r ≡ coordinateOf g a i ⌝ }
 {
-    g.origin[a] + (i as f64) * g.spacing[a]
+    let origin = g.origin[a];
+    let spacing = g.spacing[a];
+    origin + (i as f64) * spacing
 }
 
 // Whether index i of axis a comes before level-16 cell x: a whole number is above its quotient exactly if it is above the floor.

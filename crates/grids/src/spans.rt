@@ -80,6 +80,13 @@ pub fn half_of(axes: usize, s: Span, c: u64) -> Span
     Span { from, middle, to }
 }
 
+fn times(n: usize, m: usize) -> usize
+    requires { ⌜ n * m ≤ 1048576 ⌝ }
+    ensures { λ r. ⌜ r ≡ n * m ⌝ }
+{
+    n * m
+}
+
 // How many points a span has: the product of its lengths.
 pub fn count(axes: usize, s: Span) -> usize
     requires { ⌜ Counts axes s ⌝ }
@@ -88,7 +95,7 @@ pub fn count(axes: usize, s: Span) -> usize
     let mut n: usize = 1;
     let mut a: usize = 0;
     while a < axes {
-        n *= s.to[a] - s.from[a];
+        n = times(n, s.to[a] - s.from[a]);
         a += 1;
     }
     n

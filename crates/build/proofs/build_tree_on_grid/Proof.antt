@@ -3,6 +3,7 @@ use mathlib.Core.Path.{subst}
 use mathlib.Core.Bool.{Bool}
 use mathlib.Core.List.{[]}
 use denote.Ref.{now}
+use Rattle.filling.specs.Slices.{slices}
 use Rattle.build.specs.Asked.{asksAt}
 use Rattle.build.specs.Outcomes.{rooms}
 use Rattle.build.proofs.Columns.{Ended}
@@ -42,7 +43,7 @@ same-length-6 : tie.Need-same-length-6
 same-length-6 c = c .before .before .before .before .before .before .before .before .before .before .before .before .raise .kept .1 .1 .1 .1 .1 .1 .1 .1 .1 .1 .1 .1 .1 .0
 
 returns : tie.Need-returns
-returns c = let a = c .before .before .before .before .before .before .before .before .before .before .before .before .before .before .before .before .before .before .before .before .before .before .before .before .before .before .before .before .args in subst (λ (u : Bool). Ended (asksAt (a .b) (a .limit) (a .order) (a .keep) (now (a .sources)) [] u (a .grid)) (rooms (now (a .work)) (now (a .indices)) (now (a .key)) (now (a .own)) (now (a .begin)) (now (a .total))) (c .before .before .before .before .before .before .before .before .before .before .before .before .raise .result) (c .before .before .before .before .before .before .before .before .before .before .before .before .raise .last .1 .1 .1 .1 .1 .1 .1 .1 .0) (c .before .before .before .before .before .before .before .before .before .before .before .before .raise .last .1 .1 .1 .1 .1 .1 .1 .1 .1 .0) (c .before .before .before .before .before .before .before .before .before .before .before .before .raise .last .1 .1 .1 .1 .1 .1 .1 .1 .1 .1 .0) (c .before .before .before .before .before .before .before .before .before .before .before .before .raise .last .1 .1 .1 .1 .1 .1 .1 .1 .1 .1 .1 .0) (c .before .before .before .before .before .before .before .before .before .before .before .before .raise .last .1 .1 .1 .1 .1 .1 .1 .1 .1 .1 .1 .1 .0) (c .before .before .before .before .before .before .before .before .before .before .before .before .raise .last .1 .1 .1 .1 .1 .1 .1 .1 .1 .1 .1 .1 .1 .0)) (c .before .before .before .before .before .before .before .before .before .before .before .before .before .before .before .before .before .before .before .both .ensures) (c .before .before .before .before .before .before .before .before .before .before .before .before .raise .ensures)
+returns c = let a = c .before .before .before .before .before .before .before .before .before .before .before .before .before .before .before .before .before .before .before .before .before .before .before .before .before .before .before .before .args in subst (λ (u : Bool). Ended (asksAt (a .b) (a .limit) (a .order) (a .keep) (now (a .sources)) [] u (a .grid)) (rooms (now (a .work)) (now (a .indices)) (now (a .key)) (now (a .own)) (now (a .begin)) (now (a .total))) (c .before .before .before .before .before .before .before .before .before .before .before .before .raise .result) (slices (c .before .before .before .before .before .before .before .before .before .before .before .before .raise .last .1 .1 .1 .1 .1 .1 .1 .1 .0) (c .before .before .before .before .before .before .before .before .before .before .before .before .raise .last .1 .1 .1 .1 .1 .1 .1 .1 .1 .0) (c .before .before .before .before .before .before .before .before .before .before .before .before .raise .last .1 .1 .1 .1 .1 .1 .1 .1 .1 .1 .0) (c .before .before .before .before .before .before .before .before .before .before .before .before .raise .last .1 .1 .1 .1 .1 .1 .1 .1 .1 .1 .1 .0) (c .before .before .before .before .before .before .before .before .before .before .before .before .raise .last .1 .1 .1 .1 .1 .1 .1 .1 .1 .1 .1 .1 .0) (c .before .before .before .before .before .before .before .before .before .before .before .before .raise .last .1 .1 .1 .1 .1 .1 .1 .1 .1 .1 .1 .1 .1 .0))) (c .before .before .before .before .before .before .before .before .before .before .before .before .before .before .before .before .before .before .before .both .ensures) (c .before .before .before .before .before .before .before .before .before .before .before .before .raise .ensures)
 
 pub build-tree-on-grid-spec : {M : Type 1} → statement M
 build-tree-on-grid-spec =

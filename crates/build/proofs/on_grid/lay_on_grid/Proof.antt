@@ -1,88 +1,85 @@
 -- `build::on_grid::lay_on_grid` meets its contract.
-use mathlib.Core.Path.{refl, sym, ap, _∙_}
+use mathlib.Core.Path.{refl, sym, _∙_}
 use mathlib.Core.Bool.{true}
 use mathlib.Core.List.{[]}
 use native.Mathlib.Omega.{arith}
 use lib.ListN.{length}
 use denote.Ref.{now}
 use Rattle.refusal.specs.declared.Refusal.the-variants.{Room}
-use Rattle.refusal.proofs.Chain.{never, both-done}
-use Rattle.laying.specs.Outcomes.{insideOutcome, workOutcome}
-use Rattle.grids.specs.Grids.{listed}
+use Rattle.refusal.proofs.Chain.{never}
 use Rattle.build.specs.Asked.{asksAt}
 use Rattle.build.proofs.Answers.{refused-so, short-so, laid-so}
-use Rattle.build.proofs.OnGrid.{sited-of, sited-box, points-passed, work-room, grid-sourced, grid-laid, checks-early, checks-of}
+use Rattle.build.proofs.OnGrid.{box, grid-sourced, grid-laid}
 use borrow.Author.Needs.{needs}
 use Rattle.build.proofs.on_grid.lay_on_grid.Statement.{statement}
 use Rattle.build.proofs.on_grid.lay_on_grid.Tie as tie
 use Rattle.build.proofs.on_grid.lay_on_grid.Reads as reads
 use Rattle.build.proofs.on_grid.lay_on_grid.Lts as lts
-use Rattle.build.proofs.on_grid.call_outcome.Reads as call-outcome-reads
-use Rattle.build.proofs.on_grid.code_sources.Reads as code-sources-reads
 use Rattle.build.proofs.on_grid.sizes_on_grid.Reads as sizes-on-grid-reads
 use Rattle.build.proofs.sum_sources.Reads as sum-sources-reads
 use Rattle.build.proofs.unlaid.Reads as unlaid-reads
+use Rattle.grid_laying.proofs.prepare.Reads as prepare-reads
 
-call-outcome-requires : tie.Need-call-outcome-requires
-call-outcome-requires c κs = search needs
+-- src/on_grid.rt:55:9
+prepare-requires : tie.Need-prepare-requires
+prepare-requires c κs = search needs
 
-enum-known-called : tie.Need-enum-known-called
-enum-known-called c = search needs
+-- src/on_grid.rt:56:29
+enum-known-prepared : tie.Need-enum-known-prepared
+enum-known-prepared c = search needs
 
+-- src/on_grid.rt:57:9
 unlaid-requires : tie.Need-unlaid-requires
 unlaid-requires c κs = search needs
 
+-- src/on_grid.rt:57:9
+same-length : tie.Need-same-length
+same-length c = c .before .before .before .before .before .before .prepare .kept .1 .1 .1 .1 .0
+
+-- src/on_grid.rt:57:9
 returns : tie.Need-returns
-returns c = let a = c .before .before .before .before .before .before .before .before .args in let r = c .before .before .called .given .0 .0 in (refused-so (asksAt (a .b) 0 (a .order) true (now (a .sources)) [] true (a .grid)) (length (now (a .work))) (length (now (a .indices))) r (c .unlaid .result .outcome) (c .unlaid .ensures) (checks-early (a .b) (now (a .sources)) (a .grid) (a .order) (length (now (a .work))) r (sym (c .before .before .before .before .call-outcome .ensures) ∙ c .before .before .called .given .1)), λ d. absurd (never r (sym (c .unlaid .ensures) ∙ d)))
+returns c = let a = c .before .before .before .before .before .before .before .before .before .before .before .args in let r = c .before .before .prepared .given .0 .0 in (refused-so (asksAt (a .b) 0 (a .order) true (now (a .sources)) [] true (a .grid)) (length (now (a .work))) (length (now (a .indices))) r (c .unlaid .result .outcome) (c .unlaid .ensures) (sym (c .before .before .before .before .before .before .prepare .ensures .0) ∙ c .before .before .prepared .given .1), λ d. absurd (never r (sym (c .unlaid .ensures) ∙ d)))
 
 enum-told : tie.Need-enum-told
 enum-told c = search needs
 
-code-sources-requires : tie.Need-code-sources-requires
-code-sources-requires c κs = let a = c .before .before .before .before .before .before .before .args in let sited = sited-of (a .b) (now (a .sources)) (a .grid) (a .order) (sym (c .before .before .before .call-outcome .ensures) ∙ c .before .enum-told .given .1) in (sited .0, sited .1)
+-- src/on_grid.rt:60:16
+div-rows : tie.Need-div-rows
+div-rows c = let a = c .before .before .before .before .before .before .before .before .before .args in omega (arith, box (a .b) (now (a .sources)) (a .grid) (a .order) (c .before .before .before .before .prepare .last .1 .1 .1 .1 .0) (c .before .before .before .before .prepare .ensures .1 (c .enum-told .given .1)) .least)
 
-enum-known-coded : tie.Need-enum-known-coded
-enum-known-coded c = search needs
-
+-- src/on_grid.rt:62:9
 unlaid-requires-2 : tie.Need-unlaid-requires-2
 unlaid-requires-2 c κs = search needs
 
-same-length : tie.Need-same-length
-same-length c = c .before .before .before .before .before .before .code-sources .kept .1 .1 .1 .0
-
-returns-2 : tie.Need-returns-2
-returns-2 c = let a = c .before .before .before .before .before .before .before .before .before .before .before .before .before .before .args in let r = c .before .before .coded .given .0 .0 in (refused-so (asksAt (a .b) 0 (a .order) true (now (a .sources)) [] true (a .grid)) (length (now (a .work))) (length (now (a .indices))) r (c .unlaid2 .result .outcome) (c .unlaid2 .ensures) (checks-of (a .b) (now (a .sources)) (a .grid) (a .order) (length (now (a .work))) (sym (c .before .before .before .before .before .before .before .before .before .before .call-outcome .ensures) ∙ c .before .before .before .before .before .before .before .before .enum-told .given .1) ∙ sym (c .before .before .before .before .before .before .code-sources .ensures .0) ∙ c .before .before .coded .given .1), λ d. absurd (never r (sym (c .unlaid2 .ensures) ∙ d)))
-
-enum-told-2 : tie.Need-enum-told-2
-enum-told-2 c = search needs
-
-div-rows : tie.Need-div-rows
-div-rows c = let a = c .before .before .before .before .before .before .before .before .before .before .before .before .args in let sited = sited-of (a .b) (now (a .sources)) (a .grid) (a .order) (sym (c .before .before .before .before .before .before .before .before .call-outcome .ensures) ∙ c .before .before .before .before .before .before .enum-told .given .1) in omega (arith, sited-box (a .b) (a .grid) (sited .0) .least)
-
-unlaid-requires-3 : tie.Need-unlaid-requires-3
-unlaid-requires-3 c κs = search needs
-
+-- src/on_grid.rt:62:9
 same-length-2 : tie.Need-same-length-2
-same-length-2 c = c .before .before .before .before .before .before .code-sources .kept .1 .1 .1 .0
+same-length-2 c = c .before .before .before .before .before .before .prepare .kept .1 .1 .1 .1 .0
 
-returns-3 : tie.Need-returns-3
-returns-3 c = let a = c .before .before .before .before .before .before .before .before .before .before .before .before .before .before .args in (short-so (asksAt (a .b) 0 (a .order) true (now (a .sources)) [] true (a .grid)) (length (now (a .work))) (length (now (a .indices))) (c .unlaid3 .result .outcome) (c .unlaid3 .ensures) (checks-of (a .b) (now (a .sources)) (a .grid) (a .order) (length (now (a .work))) (sym (c .before .before .before .before .before .before .before .before .before .before .call-outcome .ensures) ∙ c .before .before .before .before .before .before .before .before .enum-told .given .1) ∙ (sym (c .before .before .before .before .before .before .code-sources .ensures .0) ∙ c .before .before .enum-told2 .given .1)) (c .before .if1 .taken), λ d. absurd (never (Room 2) (sym (c .unlaid3 .ensures) ∙ d)))
+-- src/on_grid.rt:62:9
+returns-2 : tie.Need-returns-2
+returns-2 c = let a = c .before .before .before .before .before .before .before .before .before .before .before .args in (short-so (asksAt (a .b) 0 (a .order) true (now (a .sources)) [] true (a .grid)) (length (now (a .work))) (length (now (a .indices))) (c .unlaid2 .result .outcome) (c .unlaid2 .ensures) (sym (c .before .before .before .before .before .before .prepare .ensures .0) ∙ c .before .before .enum-told .given .1) (c .before .if1 .taken), λ d. absurd (never (Room 2) (sym (c .unlaid2 .ensures) ∙ d)))
 
+-- src/on_grid.rt:64:9
 sum-sources-requires : tie.Need-sum-sources-requires
-sum-sources-requires c κs = let a = c .before .before .before .before .before .before .before .before .before .before .before .before .before .before .before .args in let sited = sited-of (a .b) (now (a .sources)) (a .grid) (a .order) (sym (c .before .before .before .before .before .before .before .before .before .before .before .call-outcome .ensures) ∙ c .before .before .before .before .before .before .before .before .before .enum-told .given .1) in grid-sourced (a .b) (now (a .sources)) (a .grid) (a .order) (c .before .before .before .before .before .before .before .code-sources .last .1 .1 .1 .0) (c .before .before .before .before .before .before .before .code-sources .ensures .1 (c .before .before .before .enum-told2 .given .1)) (sited .0) (sited .1) (omega (arith, c .before .before .before .before .before .before .before .code-sources .kept .1 .1 .1 .0, work-room (a .b) (now (a .sources)) (listed (a .b .axes) (a .grid)) (length (now (a .work))) (sym (c .before .before .before .before .before .before .before .code-sources .ensures .0) ∙ c .before .before .before .enum-told2 .given .1))) (length (now (a .indices))) (omega (arith, c .before .before .if1 .left))
+sum-sources-requires c κs = let a = c .before .before .before .before .before .before .before .before .before .before .before .before .args in grid-sourced (a .b) (now (a .sources)) (a .grid) (a .order) (c .before .before .before .before .before .before .before .prepare .last .1 .1 .1 .1 .0) (c .before .before .before .before .before .before .before .prepare .ensures .1 (c .before .before .before .enum-told .given .1)) (length (now (a .indices))) (omega (arith, c .before .before .if1 .left))
 
+-- src/on_grid.rt:65:9
 sizes-on-grid-requires : tie.Need-sizes-on-grid-requires
-sizes-on-grid-requires c κs = let a = c .before .before .before .before .before .before .before .before .before .before .before .before .before .before .before .before .before .before .args in let sited = sited-of (a .b) (now (a .sources)) (a .grid) (a .order) (sym (c .before .before .before .before .before .before .before .before .before .before .before .before .before .before .call-outcome .ensures) ∙ c .before .before .before .before .before .before .before .before .before .before .before .before .enum-told .given .1) in (sited .0, points-passed (a .b) (now (a .sources)) (listed (a .b .axes) (a .grid)) (both-done (insideOutcome (a .b) (now (a .sources)) (listed (a .b .axes) (a .grid))) (workOutcome (a .b) (now (a .sources)) [] (length (now (a .work)))) (sym (c .before .before .before .before .before .before .before .before .before .before .code-sources .ensures .0) ∙ c .before .before .before .before .before .before .enum-told2 .given .1) .0))
+sizes-on-grid-requires c κs = let g = c .before .before .before .before .before .before .before .before .before .before .prepare .ensures .1 (c .before .before .before .before .before .before .enum-told .given .1) in (g .sited, g .inside)
 
+-- src/on_grid.rt:43:1
 same-length-3 : tie.Need-same-length-3
-same-length-3 c = c .before .before .before .before .before .before .before .before .before .before .before .code-sources .kept .1 .1 .1 .0
+same-length-3 c = c .before .before .before .before .before .before .before .before .before .before .before .prepare .kept .1 .1 .1 .1 .0
 
+-- src/on_grid.rt:43:1
 same-length-4 : tie.Need-same-length-4
 same-length-4 c = c .before .before .before .sum-sources .kept .1 .1 .1 .1 .0
 
-returns-4 : tie.Need-returns-4
-returns-4 c = let a = c .before .before .before .before .before .before .before .before .before .before .before .before .before .before .before .before .before .before .before .args in let sited = sited-of (a .b) (now (a .sources)) (a .grid) (a .order) (sym (c .before .before .before .before .before .before .before .before .before .before .before .before .before .before .before .call-outcome .ensures) ∙ c .before .before .before .before .before .before .before .before .before .before .before .before .before .enum-told .given .1) in (laid-so (asksAt (a .b) 0 (a .order) true (now (a .sources)) [] true (a .grid)) (length (now (a .work))) (length (now (a .indices))) (checks-of (a .b) (now (a .sources)) (a .grid) (a .order) (length (now (a .work))) (sym (c .before .before .before .before .before .before .before .before .before .before .before .before .before .before .before .call-outcome .ensures) ∙ c .before .before .before .before .before .before .before .before .before .before .before .before .before .enum-told .given .1) ∙ (sym (c .before .before .before .before .before .before .before .before .before .before .before .code-sources .ensures .0) ∙ c .before .before .before .before .before .before .before .enum-told2 .given .1)) (omega (arith, c .before .before .before .before .before .before .if1 .left)), λ d limit keep. grid-laid (a .b) (now (a .sources)) (a .grid) (a .order) (c .before .before .before .before .before .before .before .before .before .before .before .code-sources .last .1 .1 .1 .0) (c .before .before .before .before .before .before .before .before .before .before .before .code-sources .ensures .1 (c .before .before .before .before .before .before .before .enum-told2 .given .1)) (sited .0) (sited .1) (omega (arith, c .before .before .before .before .before .before .before .before .before .before .before .code-sources .kept .1 .1 .1 .0, work-room (a .b) (now (a .sources)) (listed (a .b .axes) (a .grid)) (length (now (a .work))) (sym (c .before .before .before .before .before .before .before .before .before .before .before .code-sources .ensures .0) ∙ c .before .before .before .before .before .before .before .enum-told2 .given .1))) (asksAt (a .b) limit (a .order) keep (now (a .sources)) [] true (a .grid)) refl refl refl (sited .2) (c .before .before .before .sum-sources .result) (a .room) (c .before .before .before .sum-sources .last .1 .1 .1 .1 .0) (c .sizes-on-grid .result) (c .sizes-on-grid .ensures) (omega (arith, c .before .before .before .before .before .before .if1 .left, c .before .before .before .sum-sources .kept .1 .1 .1 .1 .0)) (c .before .before .before .sum-sources .ensures))
+-- src/on_grid.rt:43:1
+returns-3 : tie.Need-returns-3
+returns-3 c = let a = c .before .before .before .before .before .before .before .before .before .before .before .before .before .before .before .before .args in let s = c .before .before .before .sum-sources in
+    (laid-so (asksAt (a .b) 0 (a .order) true (now (a .sources)) [] true (a .grid)) (length (now (a .work))) (length (now (a .indices))) (sym (c .before .before .before .before .before .before .before .before .before .before .before .prepare .ensures .0) ∙ c .before .before .before .before .before .before .before .enum-told .given .1) (omega (arith, c .before .before .before .before .before .before .if1 .left)), λ d limit keep. grid-laid (a .b) (now (a .sources)) (a .grid) (a .order) (c .before .before .before .before .before .before .before .before .before .before .before .prepare .last .1 .1 .1 .1 .0) (c .before .before .before .before .before .before .before .before .before .before .before .prepare .ensures .1 (c .before .before .before .before .before .before .before .enum-told .given .1)) (asksAt (a .b) limit (a .order) keep (now (a .sources)) [] true (a .grid)) refl refl refl refl (s .result) (a .room) (s .last .1 .1 .1 .1 .0) (c .sizes-on-grid .result) (c .sizes-on-grid .ensures) (omega (arith, c .before .before .before .before .before .before .if1 .left, s .kept .1 .1 .1 .1 .0)) (s .ensures))
 
 pub lay-on-grid-spec : {M : Type 1} → statement M
 lay-on-grid-spec =
-    tie.close (tie.spec call-outcome-requires enum-known-called unlaid-requires returns enum-told code-sources-requires enum-known-coded unlaid-requires-2 same-length returns-2 enum-told-2 div-rows unlaid-requires-3 same-length-2 returns-3 sum-sources-requires sizes-on-grid-requires same-length-3 same-length-4 returns-4)
+    tie.close (tie.spec prepare-requires enum-known-prepared unlaid-requires same-length returns enum-told div-rows unlaid-requires-2 same-length-2 returns-2 sum-sources-requires sizes-on-grid-requires same-length-3 same-length-4 returns-3)

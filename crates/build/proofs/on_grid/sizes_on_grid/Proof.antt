@@ -13,7 +13,7 @@ use Rattle.grids.specs.Ranges.{Fitting}
 use Rattle.grids.specs.Spans.{Spanned}
 use Rattle.grids.proofs.Halves.{whole-spanned}
 use Rattle.parting.specs.Setting.{Gridded}
-use Rattle.build.proofs.OnGrid.{sited-box, sited-fits, sited-inside}
+use Rattle.grid_laying.proofs.Chains.{sited-box, sited-fits, sited-inside}
 use borrow.Author.Needs.{needs}
 use Rattle.build.proofs.on_grid.sizes_on_grid.Statement.{statement}
 use Rattle.build.proofs.on_grid.sizes_on_grid.Tie as tie

@@ -1,16 +1,16 @@
--- `build::on_grid::points_outcome` meets its contract.
+-- `grid_laying::points_outcome` meets its contract.
 use mathlib.Core.Path.{sym, subst, _∙_}
 use mathlib.Core.List.{[]}
 use Rattle.space.specs.declared.Frame.{Frame}
 use Rattle.laying.proofs.Inside.{target-outside, none-outside}
 use Rattle.grids.specs.Grids.{listed}
 use Rattle.grids.specs.Ranges.{Fitting}
-use Rattle.build.proofs.OnGrid.{none-outside-rows, sited-box, sited-fits, points-out}
+use Rattle.grid_laying.proofs.Chains.{none-outside-rows, sited-box, sited-fits, points-out}
 use borrow.Author.Needs.{needs}
-use Rattle.build.proofs.on_grid.points_outcome.Statement.{statement}
-use Rattle.build.proofs.on_grid.points_outcome.Tie as tie
-use Rattle.build.proofs.on_grid.points_outcome.Reads as reads
-use Rattle.build.proofs.on_grid.points_outcome.Lts as lts
+use Rattle.grid_laying.proofs.points_outcome.Statement.{statement}
+use Rattle.grid_laying.proofs.points_outcome.Tie as tie
+use Rattle.grid_laying.proofs.points_outcome.Reads as reads
+use Rattle.grid_laying.proofs.points_outcome.Lts as lts
 use Rattle.grids.proofs.first_outside.Reads as first-outside-reads
 use Rattle.space.proofs.frame_of.Reads as frame-of-reads
 

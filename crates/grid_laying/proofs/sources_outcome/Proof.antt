@@ -1,16 +1,16 @@
--- `build::on_grid::sources_outcome` meets its contract.
+-- `grid_laying::sources_outcome` meets its contract.
 use mathlib.Core.Path.{sym, _∙_}
 use mathlib.Core.List.{[]}
 use native.Mathlib.Omega.{arith}
 use denote.Ref.{now}
 use Rattle.space.proofs.Refusals.{fine}
 use Rattle.laying.proofs.Inside.{source-outside, none-outside}
-use Rattle.build.proofs.OnGrid.{none-outside-rows}
+use Rattle.grid_laying.proofs.Chains.{none-outside-rows}
 use borrow.Author.Needs.{needs}
-use Rattle.build.proofs.on_grid.sources_outcome.Statement.{statement}
-use Rattle.build.proofs.on_grid.sources_outcome.Tie as tie
-use Rattle.build.proofs.on_grid.sources_outcome.Reads as reads
-use Rattle.build.proofs.on_grid.sources_outcome.Lts as lts
+use Rattle.grid_laying.proofs.sources_outcome.Statement.{statement}
+use Rattle.grid_laying.proofs.sources_outcome.Tie as tie
+use Rattle.grid_laying.proofs.sources_outcome.Reads as reads
+use Rattle.grid_laying.proofs.sources_outcome.Lts as lts
 use Rattle.laying.proofs.first_outside.Reads as first-outside-reads
 
 first-outside-requires : tie.Need-first-outside-requires

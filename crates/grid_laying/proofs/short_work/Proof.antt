@@ -1,4 +1,4 @@
--- `build::on_grid::short_work` meets its contract.
+-- `grid_laying::short_work` meets its contract.
 use mathlib.Core.Path.{sym, ap, _∙_}
 use denote.Ref.{now}
 use Rattle.refusal.specs.declared.Refusal.the-variants.{Room}
@@ -6,14 +6,14 @@ use Rattle.refusal.specs.declared.Outcome.{Outcome}
 use Rattle.refusal.specs.declared.Outcome.the-variants.{Refused}
 use Rattle.refusal.specs.Chain.{_then_}
 use Rattle.grids.specs.Grids.{listed}
-use Rattle.build.proofs.OnGrid.{sources-first, points-then}
+use Rattle.grid_laying.proofs.Chains.{sources-first, points-then}
 use borrow.Author.Needs.{needs}
-use Rattle.build.proofs.on_grid.short_work.Statement.{statement}
-use Rattle.build.proofs.on_grid.short_work.Tie as tie
-use Rattle.build.proofs.on_grid.short_work.Reads as reads
-use Rattle.build.proofs.on_grid.short_work.Lts as lts
-use Rattle.build.proofs.on_grid.points_outcome.Reads as points-outcome-reads
-use Rattle.build.proofs.on_grid.sources_outcome.Reads as sources-outcome-reads
+use Rattle.grid_laying.proofs.short_work.Statement.{statement}
+use Rattle.grid_laying.proofs.short_work.Tie as tie
+use Rattle.grid_laying.proofs.short_work.Reads as reads
+use Rattle.grid_laying.proofs.short_work.Lts as lts
+use Rattle.grid_laying.proofs.points_outcome.Reads as points-outcome-reads
+use Rattle.grid_laying.proofs.sources_outcome.Reads as sources-outcome-reads
 
 sources-outcome-requires : tie.Need-sources-outcome-requires
 sources-outcome-requires c κs = c .before .pre .box

@@ -1,4 +1,4 @@
--- `build::finish` meets its contract.
+-- `filling::finish` meets its contract.
 use mathlib.Core.Path.{sym, ap, ap₂, _∙_}
 use mathlib.Core.List.{List, _++_}
 use Prim.Native.Nat.{ℕ, _-_}
@@ -6,10 +6,10 @@ use lib.ListN.{replicate}
 use lib.Seq.{length-take-le}
 use denote.Ref.{now}
 use borrow.Author.Needs.{needs}
-use Rattle.build.proofs.finish.Statement.{statement}
-use Rattle.build.proofs.finish.Tie as tie
-use Rattle.build.proofs.finish.Reads as reads
-use Rattle.build.proofs.finish.Lts as lts
+use Rattle.filling.proofs.finish.Statement.{statement}
+use Rattle.filling.proofs.finish.Tie as tie
+use Rattle.filling.proofs.finish.Reads as reads
+use Rattle.filling.proofs.finish.Lts as lts
 use Rattle.slices.proofs.clear.Reads as clear-reads
 use Rattle.slices.proofs.clear_from.Reads as clear-from-reads
 use Rattle.slices.proofs.clear_from_usize.Reads as clear-from-usize-reads

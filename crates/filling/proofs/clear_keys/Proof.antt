@@ -1,9 +1,9 @@
--- `build::clear_keys` meets its contract.
+-- `filling::clear_keys` meets its contract.
 use borrow.Author.Needs.{needs}
-use Rattle.build.proofs.clear_keys.Statement.{statement}
-use Rattle.build.proofs.clear_keys.Tie as tie
-use Rattle.build.proofs.clear_keys.Reads as reads
-use Rattle.build.proofs.clear_keys.Lts as lts
+use Rattle.filling.proofs.clear_keys.Statement.{statement}
+use Rattle.filling.proofs.clear_keys.Tie as tie
+use Rattle.filling.proofs.clear_keys.Reads as reads
+use Rattle.filling.proofs.clear_keys.Lts as lts
 use Rattle.slices.proofs.clear.Reads as clear-reads
 use Rattle.slices.proofs.clear_usize.Reads as clear-usize-reads
 

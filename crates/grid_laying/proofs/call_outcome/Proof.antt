@@ -1,4 +1,4 @@
--- `build::on_grid::call_outcome` meets its contract.
+-- `grid_laying::call_outcome` meets its contract.
 use mathlib.Core.Path.{sym, _∙_}
 use native.Mathlib.Omega.{arith}
 use denote.Ref.{now}
@@ -6,12 +6,12 @@ use borrow.Author.Tests.{not-true, not-false}
 use Rattle.space.proofs.Refusals.{fine}
 use Rattle.laying.specs.Outcomes.{askedOutcome}
 use Rattle.grids.specs.Grids.{listed}
-use Rattle.build.proofs.OnGrid.{call-split, many-points, order-none, order-large, order-known, box-first, grid-first, grid-passed, listed-some}
+use Rattle.grid_laying.proofs.Chains.{call-split, many-points, order-none, order-large, order-known, box-first, grid-first, grid-passed, listed-some}
 use borrow.Author.Needs.{needs}
-use Rattle.build.proofs.on_grid.call_outcome.Statement.{statement}
-use Rattle.build.proofs.on_grid.call_outcome.Tie as tie
-use Rattle.build.proofs.on_grid.call_outcome.Reads as reads
-use Rattle.build.proofs.on_grid.call_outcome.Lts as lts
+use Rattle.grid_laying.proofs.call_outcome.Statement.{statement}
+use Rattle.grid_laying.proofs.call_outcome.Tie as tie
+use Rattle.grid_laying.proofs.call_outcome.Reads as reads
+use Rattle.grid_laying.proofs.call_outcome.Lts as lts
 use Rattle.grids.proofs.few_points.Reads as few-points-reads
 use Rattle.grids.proofs.grid_known.Reads as grid-known-reads
 use Rattle.laying.proofs.call_outcome.Reads as call-outcome-reads

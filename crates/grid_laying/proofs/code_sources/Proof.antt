@@ -1,4 +1,4 @@
--- `build::on_grid::code_sources` meets its contract.
+-- `grid_laying::code_sources` meets its contract.
 use mathlib.Core.Path.{sym, ap, ap₂, _∙_}
 use mathlib.Core.List.{[]}
 use native.Mathlib.Omega.{arith}
@@ -11,14 +11,14 @@ use Rattle.refusal.specs.Chain.{_then_}
 use Rattle.refusal.proofs.Chain.{never, both-done}
 use Rattle.laying.specs.Outcomes.{insideOutcome, workOutcome}
 use Rattle.grids.specs.Grids.{listed}
-use Rattle.build.proofs.OnGrid.{then-done, none-needed, sited-box, sources-first, points-then, work-short, work-passed}
+use Rattle.grid_laying.proofs.Chains.{then-done, none-needed, sited-box, sources-first, points-then, work-short, work-passed}
 use borrow.Author.Needs.{needs}
-use Rattle.build.proofs.on_grid.code_sources.Statement.{statement}
-use Rattle.build.proofs.on_grid.code_sources.Tie as tie
-use Rattle.build.proofs.on_grid.code_sources.Reads as reads
-use Rattle.build.proofs.on_grid.code_sources.Lts as lts
-use Rattle.build.proofs.on_grid.points_outcome.Reads as points-outcome-reads
-use Rattle.build.proofs.on_grid.short_work.Reads as short-work-reads
+use Rattle.grid_laying.proofs.code_sources.Statement.{statement}
+use Rattle.grid_laying.proofs.code_sources.Tie as tie
+use Rattle.grid_laying.proofs.code_sources.Reads as reads
+use Rattle.grid_laying.proofs.code_sources.Lts as lts
+use Rattle.grid_laying.proofs.points_outcome.Reads as points-outcome-reads
+use Rattle.grid_laying.proofs.short_work.Reads as short-work-reads
 use Rattle.laying.proofs.code_points.Reads as code-points-reads
 
 div-rows : tie.Need-div-rows

@@ -1,9 +1,9 @@
--- `build::clear_columns` meets its contract.
+-- `filling::clear_columns` meets its contract.
 use borrow.Author.Needs.{needs}
-use Rattle.build.proofs.clear_columns.Statement.{statement}
-use Rattle.build.proofs.clear_columns.Tie as tie
-use Rattle.build.proofs.clear_columns.Reads as reads
-use Rattle.build.proofs.clear_columns.Lts as lts
+use Rattle.filling.proofs.clear_columns.Statement.{statement}
+use Rattle.filling.proofs.clear_columns.Tie as tie
+use Rattle.filling.proofs.clear_columns.Reads as reads
+use Rattle.filling.proofs.clear_columns.Lts as lts
 use Rattle.slices.proofs.clear_usize.Reads as clear-usize-reads
 
 clear-usize-requires : tie.Need-clear-usize-requires

@@ -1,13 +1,13 @@
--- `build::fill_columns` meets its contract.
+-- `filling::fill_columns` meets its contract.
 use mathlib.Core.Path.{ap, ap₂, _∙_}
 use mathlib.Core.List.{List, _++_}
 use Prim.Native.Nat.{ℕ, _-_}
 use lib.ListN.{replicate}
 use borrow.Author.Needs.{needs}
-use Rattle.build.proofs.fill_columns.Statement.{statement}
-use Rattle.build.proofs.fill_columns.Tie as tie
-use Rattle.build.proofs.fill_columns.Reads as reads
-use Rattle.build.proofs.fill_columns.Lts as lts
+use Rattle.filling.proofs.fill_columns.Statement.{statement}
+use Rattle.filling.proofs.fill_columns.Tie as tie
+use Rattle.filling.proofs.fill_columns.Reads as reads
+use Rattle.filling.proofs.fill_columns.Lts as lts
 use Rattle.slices.proofs.clear_from_usize.Reads as clear-from-usize-reads
 use Rattle.grow.proofs.spread_marks.Reads as spread-marks-reads
 
