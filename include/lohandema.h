@@ -25,7 +25,7 @@
  * not promises. pthread_attr_setstacksize takes no less than PTHREAD_STACK_MIN, which is 131,072 bytes on some
  * systems, and fails below it: pass the larger of the two.
  *   points_to_keys, get_interaction_lists, get_list_sizes, get_near_work                    128 KiB
- *   sum_check, check_sums, lists_right                                                       96 KiB
+ *   sum_check, check_sums, lists_right, write_tree                                           96 KiB
  *   build_tree, build_tree_on_grid                                                           48 KiB
  *   get_sourced_cells, is_arrangement                                                        32 KiB
  *   every other call                                                                          8 KiB
@@ -478,6 +478,20 @@ lohandema_ended lohandema_check_sums(size_t axes, const uint64_t *key, size_t ke
                                      const uint64_t *u_keys, size_t u_keys_len, const size_t *v_starts,
                                      size_t v_starts_len, const uint64_t *v_keys, size_t v_keys_len, uint64_t *sums,
                                      size_t sums_len, size_t *leaves, size_t *additions);
+
+/* The file of a tree with its order column and its lists, for another unit to read: nine sections without gaps (1 keys, 2 own,
+ * 3 begin, 4 total, 5 indices, 6 and 7 starts and keys of U, 8 and 9 of V; little-endian, a key in eight bytes and any other
+ * number in four), then an entry of three u32 for each (code, bytes from the trailer's start back to it, length in bytes), u32
+ * axes and u32 9. written: its length, 8 bytes a key, 4 each other number and 116; 0 after a refusal. The rest of file becomes
+ * 0, all of it after a refusal. indices as long as there are sources; the lists as the list call wrote them, without what is
+ * lent over. Refused 1, 4 (over 1,048,576 nodes, 16,777,216 keys in a list, or sections of 2^32 bytes or more), 13, 17
+ * (indices is no arrangement, or the lists are not the tree's), 8 with value 11. */
+lohandema_ended lohandema_write_tree(size_t axes, const uint64_t *key, size_t key_len, const size_t *own, size_t own_len,
+                                     const size_t *begin, size_t begin_len, const size_t *total, size_t total_len,
+                                     const size_t *indices, size_t indices_len, const size_t *u_starts,
+                                     size_t u_starts_len, const uint64_t *u_keys, size_t u_keys_len,
+                                     const size_t *v_starts, size_t v_starts_len, const uint64_t *v_keys,
+                                     size_t v_keys_len, uint8_t *file, size_t file_len, size_t *written);
 
 #ifdef __cplusplus
 }

@@ -440,6 +440,50 @@ pub fn check_sums(
     answered(ended, checked)
 }
 
+/// Writes the file of a tree and its lists, and answers its length; the rest of `file` becomes 0. The file is as long as
+/// [`Tree::to_file`](crate::Tree::to_file)'s.
+///
+/// # Errors
+/// [`DIMS`](Refusal::DIMS); [`COUNT`](Refusal::COUNT) where there are more than 1,048,576 nodes or 16,777,216 keys in a
+/// list, or the sections have 2^32 bytes or more; [`TREE`](Refusal::TREE); [`SECTION`](Refusal::SECTION) where the order
+/// column is no arrangement or the lists are not the tree's; [`ROOM`](Refusal::ROOM) 11.
+pub fn write_tree(
+    tree: Columns<'_>,
+    order: &[usize],
+    lists: &Lists,
+    file: &mut [u8],
+) -> Result<usize, Refusal> {
+    let mut written = 0;
+    // SAFETY: columns, order and lists are read with their own lengths, and the file is written within its length.
+    let ended = unsafe {
+        raw::lohandema_write_tree(
+            tree.axes,
+            tree.key.as_ptr(),
+            tree.key.len(),
+            tree.own.as_ptr(),
+            tree.own.len(),
+            tree.begin.as_ptr(),
+            tree.begin.len(),
+            tree.total.as_ptr(),
+            tree.total.len(),
+            order.as_ptr(),
+            order.len(),
+            lists.u.starts.as_ptr(),
+            lists.u.starts.len(),
+            lists.u.keys.as_ptr(),
+            lists.u.keys.len(),
+            lists.v.starts.as_ptr(),
+            lists.v.starts.len(),
+            lists.v.keys.as_ptr(),
+            lists.v.keys.len(),
+            file.as_mut_ptr(),
+            file.len(),
+            &mut written,
+        )
+    };
+    answered(ended, written)
+}
+
 /// What a build is asked.
 ///
 /// ```

@@ -5,6 +5,7 @@ use crate::Refusal;
 use crate::lent::{Asked, Grid};
 use crate::limits::{DEEPEST, MOST_KEYS, MOST_NODES, MOST_POINTS, V_ROW};
 use crate::points::reference_depth;
+use crate::rows::Lists;
 use crate::trees::Tree;
 
 /// The rows in so many coordinates, as far as a call counts them: more rows are refused before room is looked at.
@@ -125,6 +126,21 @@ fn families(axes: usize, keys: &[u64]) -> (usize, f64) {
 /// So many keys, as far as they count.
 fn capped(keys: f64) -> usize {
     (keys.ceil() as usize).min(MOST_KEYS)
+}
+
+/// The bytes of a tree's file: eight a key, four for each other number, and the trailer of nine entries.
+pub(crate) fn file(tree: &Tree, lists: &Lists) -> usize {
+    let keys = [&tree.key, &lists.u.keys, &lists.v.keys].map(|keys| keys.len());
+    let numbers = [
+        &tree.own,
+        &tree.begin,
+        &tree.total,
+        &tree.order,
+        &lists.u.starts,
+        &lists.v.starts,
+    ]
+    .map(|numbers| numbers.len());
+    8 * keys.iter().sum::<usize>() + 4 * numbers.iter().sum::<usize>() + 9 * 12 + 8
 }
 
 /// What says that the U keys were short, and the V keys.

@@ -402,6 +402,26 @@ impl Tree {
         lent::get_list_sizes(self.columns(), &mut work, &mut row)
     }
 
+    /// The tree and its lists as a file: nine sections, then the trailer that says where they are.
+    ///
+    /// ```
+    /// use lohandema::{Asked, Bounds, Tree};
+    /// let bounds = Bounds::new(&[4.0], 4.0);
+    /// let tree = Tree::build(Asked::new(&bounds, &[], 1))?;
+    /// let lists = tree.get_interaction_lists()?;
+    /// assert_eq!(tree.to_file(&lists)?.len(), 152);
+    /// # Ok::<(), lohandema::Refusal>(())
+    /// ```
+    ///
+    /// # Errors
+    /// As [`lent::write_tree`]; never [`ROOM`](Refusal::ROOM).
+    pub fn to_file(&self, lists: &Lists) -> Result<Vec<u8>, Refusal> {
+        let mut file = vec![0; room::file(self, lists)];
+        let written = lent::write_tree(self.columns(), &self.order, lists, &mut file)?;
+        file.truncate(written);
+        Ok(file)
+    }
+
     /// The near and far rows.
     ///
     /// # Errors
