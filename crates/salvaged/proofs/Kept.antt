@@ -1,22 +1,22 @@
 -- The keys that are kept and added: those that hold a valid key of the input, and the root; a tree's keys.
 use mathlib.Core.Path.{_≡_, refl, sym, ap, _∙_, subst}
-use mathlib.Core.Bool.{Bool, true, false, _&&_}
+use mathlib.Core.Bool.{true}
 use mathlib.Core.List.{List, [], _∷_}
 use mathlib.Core.Logic.{_⊎_, inl, inr}
 use Prim.Native.Nat.{ℕ, zero, suc, _+_, _*_, _-_, _^_, _≤_, _<_}
 use native.Mathlib.Omega.{arith}
 use native.Mathlib.Nat.{not-suc-le-zero, zero-mul}
-use lib.Dec.{leb, ltb}
 use lib.Pow.{pow-pos}
 use lib.ListN.{length, getD}
-use borrow.Author.Tests.{leb-true, ltb-true, le-leb, lt-ltb}
+use borrow.Author.Tests.{le-leb, lt-ltb}
 use Rattle.slices.specs.Lists.{filter, concatMap, Mem}
-use Rattle.slices.proofs.Tests.{and-l, and-r, both}
+use Rattle.slices.proofs.Tests.{both}
 use Rattle.slices.proofs.Counts.{here, there}
 use Rattle.slices.proofs.Members.{mem-cases, filter-mem, mem-filter}
 use Rattle.morton.specs.Keys.{levelOf, codeOf, axesKnown, ValidKey, valid, parent, upwards, ancestors, under}
 use Rattle.morton.proofs.Cells.{level-parent}
 use Rattle.morton.proofs.Arithmetic.{parent-valid}
+use Rattle.morton.proofs.Checks.{valid-facts}
 use Rattle.tree.specs.Order.{first, size}
 use Rattle.tree.specs.Nodes.{stored}
 use Rattle.tree.proofs.Members.{mem-stored}
@@ -140,12 +140,7 @@ module _ (d : ℕ) (key : List ℕ) where
 
   module _ (known : axesKnown d ≡ true) where
     good : (k : ℕ) → valid d k ≡ true → ValidKey d k
-    good k v = record {
-      some = leb-true 1 d (and-l _ _ known);
-      most = leb-true d 3 (and-r (leb 1 d) _ known);
-      level = leb-true (levelOf k) 16 (and-l _ _ v);
-      code = ltb-true (codeOf k) (2 ^ (d * levelOf k)) (and-r (leb (levelOf k) 16) _ v);
-    }
+    good k v = valid-facts d k known v
 
     root-good : ValidKey d 0
     root-good = good 0 (both (le-leb (levelOf 0) 16 (omega arith)) (lt-ltb (codeOf 0) (2 ^ (d * levelOf 0)) (pow-pos (d * levelOf 0))))
