@@ -1,2 +1,3 @@
 pub mod Fewer
 pub mod Gathering
+pub mod Ordering

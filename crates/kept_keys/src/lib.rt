@@ -5,7 +5,7 @@ ghost use Prim.Native.Nat.{ℕ, _≤_, _<_};
 ghost use lib.ListN.{length, getD};
 ghost use Rattle.morton.specs.Keys.{axesKnown, valid};
 ghost use Rattle.gathering.specs.Links.{Linked, Roomy};
-ghost use Rattle.kept_keys.specs.Gathered.{Rooted, Gathered};
+ghost use Rattle.kept_keys.specs.Gathered.{Rooted, Gathered, Ordered};
 
 // Whether a key is valid.
 pub fn is_valid(axes: usize, k: u64) -> bool
@@ -60,5 +60,25 @@ fn gather(
             i += 1;
         }
     }
+    n
+}
+
+// The keys of a salvage in the first places of `key`, in order: how many there are, one more than the room where there is none for all.
+pub fn keep_keys(
+    axes: usize,
+    rows: &[u64],
+    key: &mut [u64],
+    child: &mut [usize],
+    next: &mut [usize],
+    room: usize,
+) -> usize
+    requires { ⌜ (axesKnown axes ≡ true) × Roomy room 1 (now key) (now child) (now next) ⌝ }
+    ensures { λ r. ⌜ Ordered axes (now (rows .entry)) room (now (key .exit)) r ⌝ }
+{
+    let n = gather(axes, rows, key, child, next, room);
+    if room < n {
+        return n;
+    }
+    ranking::sort_keys(axes, &mut key[..n]);
     n
 }
