@@ -24,16 +24,13 @@ use Rattle.balance.proofs.Holding.{held-once}
 use Rattle.balance.proofs.Ordered.{keys-depth-first}
 use Rattle.balance.proofs.Balance.{tree-of, balances-depth-first}
 
--- of any tree in Z order that stores all children or none, whose root is split if there are points
-module _ (d : ℕ) (keys s : List ℕ) (k : TreeKeys d keys) (full : AllOrNone d keys) (top : 0 < length s → split d keys 0 ≡ true) (codes : Codes d s) where
-  pub each-once : HeldOnce d keys s
-  each-once i l = held-once d keys (tree-of d keys k) full (top (omega arith)) (getD s i 0) (codes i l) (distinct d keys (T.tree-of d keys k .ascending))
-
+-- of any tree in Z order each of whose points is held by one leaf
+module _ (d : ℕ) (keys s : List ℕ) (k : TreeKeys d keys) (once : HeldOnce d keys s) where
   pub order-arranged : ascending (orderColumn d keys s) ≡ range 0 (length s)
-  order-arranged = once-arranged d keys s each-once
+  order-arranged = once-arranged d keys s once
 
   pub own-total : sum (ownColumn d keys s) ≡ length s
-  own-total = own-order d keys s ∙ once-length d keys s each-once
+  own-total = own-order d keys s ∙ once-length d keys s once
 
   module _ (few : length s ≤ mostSources) where
     pub formed : Formed d keys (ownColumn d keys s) (beginColumn (ownColumn d keys s)) (totalColumn d keys (ownColumn d keys s))
@@ -54,6 +51,10 @@ module _ (d : ℕ) (keys s : List ℕ) (k : TreeKeys d keys) (full : AllOrNone d
     pub well-formed : wellFormed d keys (ownColumn d keys s) (beginColumn (ownColumn d keys s)) (totalColumn d keys (ownColumn d keys s)) ≡ true
     well-formed = all-tested d keys (ownColumn d keys s) (beginColumn (ownColumn d keys s)) (totalColumn d keys (ownColumn d keys s)) formed
 
+-- so is each in a tree that stores all children or none, whose root is split if there are points
+pub each-once : (d : ℕ) (keys s : List ℕ) → TreeKeys d keys → AllOrNone d keys → (0 < length s → split d keys 0 ≡ true) → Codes d s → HeldOnce d keys s
+each-once d keys s k full top codes i l = held-once d keys (tree-of d keys k) full (top (omega arith)) (getD s i 0) (codes i l) (distinct d keys (T.tree-of d keys k .ascending))
+
 -- of the wanted tree: its root is split where the given one's is
 pub root-split : (d : ℕ) (keys result : List ℕ) → Balances d keys result → split d keys 0 ≡ true → split d result 0 ≡ true
 root-split d keys result r h = let s = split-facts d keys 0 h in rw (s .parent-is) at (splits d result (s .cell) (r .contains (s .cell) (s .mem)) (s .deep))
@@ -66,6 +67,4 @@ module _ (d : ℕ) (keys s : List ℕ) (t : Tree d keys) (top : 0 < length s →
 
   pub balanced-formed : length s ≤ mostSources
       → wellFormed d (balancedCells d keys) (ownColumn d (balancedCells d keys) s) (beginColumn (ownColumn d (balancedCells d keys) s)) (totalColumn d (balancedCells d keys) (ownColumn d (balancedCells d keys) s)) ≡ true
-  balanced-formed few =
-      let b = balances-depth-first d keys t in
-      well-formed d (balancedCells d keys) s (keys-depth-first d keys t) (b .balanced .all-or-none) (λ l. root-split d keys (balancedCells d keys) b (top l)) codes few
+  balanced-formed few = well-formed d (balancedCells d keys) s (keys-depth-first d keys t) balanced-once few

@@ -1,0 +1,4 @@
+pub mod Spreading
+pub mod Totals
+pub mod Points
+pub mod Settling
