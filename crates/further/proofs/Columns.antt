@@ -284,7 +284,7 @@ module _ (d : ℕ) (s keys : List ℕ) where
 -- ---- both
 
 -- the order column, once the other two are known
-orders-are : (d : ℕ) (s keys order : List ℕ) → Tree d keys → Distinct keys → SourcesRight d s keys (ownColumn d keys s) (beginColumn (ownColumn d keys s)) order → order ≡ orderColumn d keys s
+pub orders-are : (d : ℕ) (s keys order : List ℕ) → Tree d keys → Distinct keys → SourcesRight d s keys (ownColumn d keys s) (beginColumn (ownColumn d keys s)) order → order ≡ orderColumn d keys s
 orders-are d s keys order t dist r =
     let whole : sum (ownColumn d keys s) ≡ length order = r .whole ∙ sym (r .many) in
     ext-getD 0 order (orderColumn d keys s) (sym whole ∙ own-order d keys s) (λ p l.
