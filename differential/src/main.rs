@@ -14,6 +14,7 @@ mod random;
 mod refusals;
 mod renumbered;
 mod runs;
+mod sums;
 mod swapped;
 mod tally;
 mod totals;
@@ -81,6 +82,7 @@ const KINDS: &[Kind] = &[
     ("lists", 20_000, trees::lists),
     ("lists-odd", 30_000, trees::odd_lists),
     ("near-work", 3_000, near_work::near_work),
+    ("sums", 2_000, sums::sums),
     ("well-formed", 20_000, refusals::trees_handed_in),
     ("refusals", 4_000, refusals::tree_calls),
     ("large", 1, refusals::large),

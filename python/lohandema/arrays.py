@@ -211,6 +211,17 @@ def whole(number, name, most=MOST_WHOLE):
     return found
 
 
+def signed(number, name):
+    """A whole number of either sign that 64 bits hold."""
+    try:
+        found = operator.index(None if isinstance(number, bool) else number)
+    except TypeError:
+        raise TypeError("%s is %.60r, of type %s: pass a whole number" % (name, number, type(number).__name__)) from None
+    if not -(2 ** 63) <= found < 2 ** 63:
+        raise ValueError("%s is %d: pass a whole number that 64 bits hold" % (name, found))
+    return found
+
+
 def flag(value, name):
     """A flag; what is neither True nor False is not guessed."""
     if value is True or value is False or (numpy and isinstance(value, numpy.bool_)):
@@ -226,6 +237,19 @@ def wholes(given, name):
         "pass a list of ints, or array.array('q', %s)" % name)
     view = seen(given, name, cure)
     check_kind(view, given, name, "lLqQ", "int64 or uint64", cure)
+    if view.ndim != 1:
+        raise ValueError("%s has %d dimensions, and one is taken: pass %s.reshape(-1)" % (name, view.ndim, name))
+    return lent(view, name)
+
+
+def signed_wholes(given, name):
+    """Whole numbers of either sign, lent: an int64 array of one dimension, or a list of ints."""
+    if isinstance(given, (list, tuple)):
+        return Lent(memoryview(array.array("q", [signed(x, "%s[%d]" % (name, i)) for i, x in enumerate(given)])))
+    cure = "pass numpy.ascontiguousarray(%s, dtype=numpy.int64)" % name if numpy else (
+        "pass a list of ints, or array.array('q', %s)" % name)
+    view = seen(given, name, cure)
+    check_kind(view, given, name, "lq", "int64", cure)
     if view.ndim != 1:
         raise ValueError("%s has %d dimensions, and one is taken: pass %s.reshape(-1)" % (name, view.ndim, name))
     return lent(view, name)

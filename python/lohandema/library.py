@@ -63,6 +63,10 @@ lohandema_ended lohandema_get_list_sizes(size_t axes, TREE, size_t *work, size_t
     size_t *u, size_t *v);
 lohandema_ended lohandema_get_near_work(BOX, TREE, const double *targets, size_t targets_len, size_t *counts,
     size_t counts_len, uint64_t *work);
+lohandema_ended lohandema_check_sums(size_t axes, TREE, const size_t *indices, size_t indices_len, const int64_t *readings,
+    size_t readings_len, const size_t *u_starts, size_t u_starts_len, const uint64_t *u_keys, size_t u_keys_len,
+    const size_t *v_starts, size_t v_starts_len, const uint64_t *v_keys, size_t v_keys_len, uint64_t *sums, size_t sums_len,
+    size_t *leaves, size_t *additions);
 """
 
 # What the shared library has beside them (c/library.c)

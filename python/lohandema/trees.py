@@ -3,7 +3,7 @@
 import ctypes
 
 from . import room
-from .arrays import Lent, Points, column, cut, flag, numpy, packed, shown, three, whole, wholes
+from .arrays import Lent, Points, column, cut, flag, numpy, packed, shown, signed_wholes, three, whole, wholes
 from .boxes import Box
 from .grids import Grid
 from .keys import children as children_of
@@ -402,6 +402,26 @@ class Tree:
         with telling(progress, "the sizes of the lists of %d nodes" % len(self)):
             call("get_list_sizes", self.box.axes, *self._words(), *_words(lent), ctypes.byref(u), ctypes.byref(v))
         return u.value, v.value
+
+    def check_sums(self, readings, lists=None, *, progress=False):
+        """Whether no reading is lost: each leaf's near readings, and those of its far cells, are added up and compared with the
+        sum of all. Returns how many leaves agree, which is all of them, and how many additions were made. A reading is a whole
+        number, at most 2^40 in size, for each source by its index: an int64 array or a list of ints. Lists that are at hand
+        are given as lists=; they, the tree and the order are checked. Raises Refused 3 SHAPE, 20 READING or 18 NOTBUILT.
+
+        >>> tree = Tree.build([[0.5], [1.5], [6.5], [7.5]], Box([4.0], 4.0), limit=1)
+        >>> tree.check_sums([1, 2, 3, -4])
+        (4, 12)
+        """
+        numbers = signed_wholes(readings, "readings")
+        lists = self.lists(progress=progress) if lists is None else lists
+        columns = [lists.u.starts, lists.u.entries, lists.v.starts, lists.v.entries]
+        given = [Lent(memoryview(one)) for one in columns]
+        sums, leaves, additions = Lent(memoryview(column(numbers.entries + 1))), ctypes.c_size_t(), ctypes.c_size_t()
+        with telling(progress, "the sums of %d leaves" % len(self.leaves())):
+            call("check_sums", self.box.axes, *self._words(), *self._words("order"), *_words([numbers] + given + [sums]),
+                 ctypes.byref(leaves), ctypes.byref(additions))
+        return leaves.value, additions.value
 
     def _listed(self, near, far):
         """The lists with room for so many keys."""

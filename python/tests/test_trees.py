@@ -80,6 +80,23 @@ class Recorded(unittest.TestCase):
             with self.assertRaises((TypeError, ValueError)):
                 tree.near_work(targets)
 
+    def test_check_sums(self):
+        """The example with readings, what is refused, and what is no list of readings."""
+        tree = Tree.build([[0.5], [1.5], [6.5], [7.5]], Box([4.0], 4.0), limit=1)
+        lists = tree.lists()
+        for readings in ([1, 2, 3, 4], [2 ** 40, -2 ** 40, 0, 2 ** 40], (0, 0, 0, 0)):
+            self.assertEqual(tree.check_sums(readings), (4, 12))
+            self.assertEqual(tree.check_sums(readings, lists), (4, 12))
+        other = Tree.build([[0.5], [1.5], [2.5], [7.5]], Box([4.0], 4.0), limit=1).lists()
+        refused = [([1, 2, 3], lists, (3, 0)), ([1, 2, 2 ** 40 + 1, -2 ** 63], lists, (20, 2)), ([1, 2, 3, 4], other, (18, 0))]
+        for readings, of, told in refused:
+            with self.assertRaises(Refused) as caught:
+                tree.check_sums(readings, of)
+            self.assertEqual((caught.exception.number, caught.exception.value), told)
+        for readings in ([1, 2, 3, 2 ** 63], [1, 2, 3, 0.5], "1234", [True, 1, 2, 3], None):
+            with self.assertRaises((TypeError, ValueError)):
+                tree.check_sums(readings)
+
 
 class ByTheRules(unittest.TestCase):
     def test_random(self):
