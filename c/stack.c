@@ -285,7 +285,7 @@ static struct {
     {"get_near_work", get_near_work, LOHANDEMA_STACK, 0},
     {"lists_right", lists_right, 96 * KIB, 0},
     {"sum_check", sum_check, 96 * KIB, 0},
-    {"check_sums", check_sums, 96 * KIB, 0},
+    {"check_sums", check_sums, LOHANDEMA_STACK, 0},
     {"is_arrangement", is_arrangement, 32 * KIB, 0},
     {"get_neighbours", get_neighbours, 8 * KIB, 0},
     {"get_children", get_children, 8 * KIB, 0},

@@ -24,8 +24,8 @@
  * of the compiled code, measured on x86-64 and on Arm (c/stack.c; docs/BENCHMARKS.md, "Stack") and rounded up well; they are
  * not promises. pthread_attr_setstacksize takes no less than PTHREAD_STACK_MIN, which is 131,072 bytes on some
  * systems, and fails below it: pass the larger of the two.
- *   points_to_keys, get_interaction_lists, get_list_sizes, get_near_work                    128 KiB
- *   sum_check, check_sums, lists_right, write_tree                                           96 KiB
+ *   points_to_keys, get_interaction_lists, get_list_sizes, get_near_work, check_sums        128 KiB
+ *   sum_check, lists_right, write_tree                                                       96 KiB
  *   build_tree, build_tree_on_grid                                                           48 KiB
  *   get_sourced_cells, is_arrangement                                                        32 KiB
  *   every other call                                                                          8 KiB
