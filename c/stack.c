@@ -151,6 +151,17 @@ static void check_sums(void)
     last = lohandema_check_sums(axes, COLUMNS, order, points, readings, points, LISTS, work, points + 1, &leaves, &additions);
 }
 
+/* Eight bytes a key, four each other number, and the trailer. */
+static void write_tree(void)
+{
+    size_t bytes = 8 * (nodes + u_starts[nodes] + v_starts[nodes]) + 4 * (5 * nodes + points + 2) + 116, written;
+    uint8_t *file = malloc(bytes);
+    last = lohandema_write_tree(axes, COLUMNS, order, points, LISTS, file, bytes, &written);
+    if (last.number == 0 && written != bytes)
+        last.number = 99;
+    free(file);
+}
+
 static void is_arrangement(void)
 {
     last.number = lohandema_is_arrangement(order, points, points) ? 0 : 99;
@@ -286,6 +297,7 @@ static struct {
     {"lists_right", lists_right, 96 * KIB, 0},
     {"sum_check", sum_check, 96 * KIB, 0},
     {"check_sums", check_sums, LOHANDEMA_STACK, 0},
+    {"write_tree", write_tree, 96 * KIB, 0},
     {"is_arrangement", is_arrangement, 32 * KIB, 0},
     {"get_neighbours", get_neighbours, 8 * KIB, 0},
     {"get_children", get_children, 8 * KIB, 0},

@@ -3,6 +3,7 @@ mod apart;
 mod builds;
 mod differences;
 mod face;
+mod files;
 mod grids;
 mod inputs;
 mod keys;
@@ -81,6 +82,7 @@ const KINDS: &[Kind] = &[
     ("sourced", 2_000, trees::sourced),
     ("lists", 20_000, trees::lists),
     ("lists-odd", 30_000, trees::odd_lists),
+    ("tree-file", 4_000, files::tree_file),
     ("near-work", 3_000, near_work::near_work),
     ("sums", 2_000, sums::sums),
     ("well-formed", 20_000, refusals::trees_handed_in),

@@ -1,7 +1,7 @@
 -- The file of the tree that is its root alone, and small changes of it with the refusal of each: a wrong definition fails here first.
 use mathlib.Core.Path.{_≡_, refl}
 use mathlib.Core.List.{List, [], _∷_, _++_, map}
-use Prim.Native.Nat.{ℕ}
+use Prim.Native.Nat.{ℕ, _+_, _*_}
 use lib.ListN.{length, set}
 use Rattle.slices.specs.Every.{every}
 use Rattle.slices.specs.Lists.{any, filter, sum, range, concatMap}
@@ -79,3 +79,17 @@ pub trailers : map (λ file. outcomeNumber (readable file))
     ≡ 17 ∷ 17 ∷ 1 ∷ 17 ∷ 17 ∷ []
 unfolding numberAt columnIn sectionsGood wellFormed inOrder leaf any sum totalIn ownOf arranges ascending range listsAre same startsFrom concatMap uRow vRow inU inV sourced filter near every upwards
 trailers = refl
+
+-- the same file with more entries in front of the nine, at the trailer's start, where these sections end: code, back, length of each
+abbrev with : ℕ → List ℕ → List ℕ
+with n more = set (sections₀ ++ more ++ trailer₀) (148 + 12 * n) (9 + n)
+
+-- codes 10 and 31 are skipped, whatever their section holds; 32, code 10 twice and a section that reaches into the trailer are 17
+pub later : map (λ file. outcomeNumber (readable file))
+    (with 1 (10 ∷ 0 ∷ 0 ∷ 0 ∷ 36 ∷ 0 ∷ 0 ∷ 0 ∷ 7 ∷ 0 ∷ 0 ∷ 0 ∷ []) ∷ with 1 (31 ∷ 0 ∷ 0 ∷ 0 ∷ 0 ∷ 0 ∷ 0 ∷ 0 ∷ 0 ∷ 0 ∷ 0 ∷ 0 ∷ [])
+    ∷ with 1 (32 ∷ 0 ∷ 0 ∷ 0 ∷ 0 ∷ 0 ∷ 0 ∷ 0 ∷ 0 ∷ 0 ∷ 0 ∷ 0 ∷ [])
+    ∷ with 2 (10 ∷ 0 ∷ 0 ∷ 0 ∷ 0 ∷ 0 ∷ 0 ∷ 0 ∷ 0 ∷ 0 ∷ 0 ∷ 0 ∷ 10 ∷ 0 ∷ 0 ∷ 0 ∷ 0 ∷ 0 ∷ 0 ∷ 0 ∷ 0 ∷ 0 ∷ 0 ∷ 0 ∷ [])
+    ∷ with 1 (10 ∷ 0 ∷ 0 ∷ 0 ∷ 4 ∷ 0 ∷ 0 ∷ 0 ∷ 5 ∷ 0 ∷ 0 ∷ 0 ∷ []) ∷ [])
+    ≡ 0 ∷ 0 ∷ 17 ∷ 17 ∷ 17 ∷ []
+unfolding numberAt columnIn sectionsGood wellFormed inOrder leaf any sum totalIn ownOf arranges ascending range listsAre same startsFrom concatMap uRow vRow inU inV sourced filter near every upwards
+later = refl
