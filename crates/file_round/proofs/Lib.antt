@@ -1,3 +1,4 @@
 pub mod Bytes
 pub mod Entries
 pub mod Round
+pub mod Taken

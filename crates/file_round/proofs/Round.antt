@@ -60,7 +60,7 @@ module _ (t : Contents) (f : Fits t) where
   pub trailer-read : trailer file ≡ start
   trailer-read = omega (arith, nine, size)
 
-  trailer-fits : trailerFits file ≡ true
+  pub trailer-fits : trailerFits file ≡ true
   trailer-fits = both (le-leb 8 (length file) (omega (arith, size))) (le-leb (trailerBytes file) (length file) (omega (arith, nine, size)))
 
   entry-says : (i : ℕ) → i < 9 → Says file start 1 ss i
