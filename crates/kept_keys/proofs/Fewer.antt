@@ -1,6 +1,6 @@
 -- Different numbers of a list are no more than its entries.
 use mathlib.Core.Path.{_≡_, refl, sym, ap, _∙_, subst}
-use mathlib.Core.Bool.{Bool, true, _&&_}
+use mathlib.Core.Bool.{true, _&&_}
 use mathlib.Core.List.{List, map}
 use Prim.Native.Nat.{ℕ, suc, _≤_, _<_}
 use native.Mathlib.Omega.{arith}
@@ -22,9 +22,6 @@ module _ (xs ys : List ℕ) (dx : Distinct xs) (dy : Distinct ys) (in-ys : (x : 
       let (i, l, e) = in-ys x m in
       let n : nodeNumber ys x ≡ i = ap (nodeNumber ys) (sym e) ∙ place-is ys dy i l in
       (omega arith, ap (λ j. getD ys j 0) n ∙ e)
-
-  place : ℕ → ℕ → Bool
-  place v x = true && eqb (nodeNumber ys x) v
 
   one : (v : ℕ) → count (λ x. true && eqb (nodeNumber ys x) v) xs ≤ 1
   one v = count-few (λ x. true && eqb (nodeNumber ys x) v) xs dx (λ x y mx my hx hy.

@@ -100,9 +100,6 @@ module _ (d : ℕ) (rows : List ℕ) (room : ℕ) (key child next : List ℕ) (n
         lk : Linked d room key' child' next'
         lk = t .short h .2
 
-        all-of : List ℕ
-        all-of = take room key'
-
         at : (q : ℕ) → q < length (take room key') → (q < room) × (getD (take room key') q 0 ≡ getD key' q 0)
         at q g = let f : q < room = omega (arith, length-take-le room key' (lk .keys)) in (f, getD-take room key' q 0 f)
 
@@ -134,9 +131,6 @@ module _ (d : ℕ) (rows : List ℕ) (room : ℕ) (key child next : List ℕ) (n
     short = λ h. absurd (omega (arith, s .fits .within));
   }
     where
-      nodes : List ℕ
-      nodes = take n key
-
       node-at : (q : ℕ) → q < n → Mem (getD key q 0) (take n key)
       node-at q l = (q, omega (arith, length-take-le n key (s .linked .keys)), getD-take n key q 0 l)
 
