@@ -1,3 +1,4 @@
 pub mod Tests
 pub mod Verdict
 pub mod Finish
+pub mod Promised
