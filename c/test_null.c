@@ -188,6 +188,32 @@ static void near_work(void)
 }
 
 /* The extents of lohandema_calculate_tree_center_and_radius are tried with the points. */
+static void sums(void)
+{
+    const size_t starts[2] = {0, 0};
+    int64_t near = 7, far = 7;
+    size_t leaves = 7, additions = 7;
+    uint64_t work[1] = {7};
+    bool right = false;
+    ENDED(lohandema_lists_right(1, ROOT, starts, 2, NULL, 0, starts, 2, NULL, 0, &right), 0, 0);
+    EXPECT(right);
+    ENDED(lohandema_lists_right(1, ROOT, NULL, 0, NULL, 0, NULL, 0, NULL, 0, &right), 0, 0);
+    EXPECT(!right);
+    ENDED(lohandema_sum_check(1, ROOT, NULL, 0, NULL, 0, starts, 2, NULL, 0, starts, 2, NULL, 0, 0, &near, &far, &additions),
+          LOHANDEMA_NOTLEAF, 0);
+    EXPECT(near == 0 && far == 0 && additions == 0);
+    ENDED(lohandema_check_sums(1, ROOT, NULL, 0, NULL, 0, starts, 2, NULL, 0, starts, 2, NULL, 0, work, 1, &leaves, &additions),
+          0, 0);
+    EXPECT(leaves == 0 && additions == 0 && work[0] == 0);
+    ENDED(lohandema_check_sums(1, ROOT, NULL, 0, NULL, 0, starts, 2, NULL, 0, starts, 2, NULL, 0, NULL, 0, &leaves, &additions),
+          LOHANDEMA_ROOM, LOHANDEMA_ROOM_WORK);
+    ENDED(lohandema_check_sums(1, ROOT, NULL, 0, NULL, 0, NULL, 0, NULL, 0, NULL, 0, NULL, 0, NULL, 0, &leaves, &additions),
+          LOHANDEMA_NOTBUILT, 0);
+    ENDED(lohandema_check_sums(1, NO_COLUMNS, NULL, 0, NULL, 0, NULL, 0, NULL, 0, NULL, 0, NULL, 0, NULL, 0, &leaves, &additions),
+          LOHANDEMA_TREE, 0);
+    EXPECT(leaves == 0 && additions == 0);
+}
+
 void test_null(void)
 {
     builds();
@@ -197,4 +223,5 @@ void test_null(void)
     groups_and_cells();
     lists();
     near_work();
+    sums();
 }

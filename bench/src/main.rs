@@ -11,6 +11,7 @@ mod plain_build;
 mod report;
 mod shapes;
 mod slices;
+mod sums;
 mod survey;
 mod words;
 mod worst;
@@ -70,6 +71,7 @@ fn main() {
         }
     }
     near::measure(&words, &report);
+    sums::measure(&words, &report);
     if words.limit.is_none() {
         worst::measure(&words, &report);
     }

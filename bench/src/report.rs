@@ -10,7 +10,7 @@ fn to_reach(call: &str) -> f64 {
         "build" => 0.08,
         "listed" => 0.2,
         "lookup" => 0.35,
-        "near_work" => 1.0,
+        "near_work" | "check_sums" => 1.0,
         _ => panic!("{call}"),
     }
 }

@@ -3,11 +3,12 @@ use std::env;
 use std::process::exit;
 use std::slice;
 
-const CALLS: [&str; 7] = [
+const CALLS: [&str; 8] = [
     "build",
     "lookup",
     "lists",
     "near_work",
+    "check_sums",
     "coding",
     "growth",
     "clearing",

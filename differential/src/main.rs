@@ -84,7 +84,7 @@ const KINDS: &[Kind] = &[
     ("lists-odd", 30_000, trees::odd_lists),
     ("tree-file", 4_000, files::tree_file),
     ("near-work", 3_000, near_work::near_work),
-    ("sums", 2_000, sums::sums),
+    ("sums", 800, sums::sums),
     ("well-formed", 20_000, refusals::trees_handed_in),
     ("refusals", 4_000, refusals::tree_calls),
     ("large", 1, refusals::large),
