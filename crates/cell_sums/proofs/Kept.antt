@@ -38,16 +38,16 @@ module _ (keys total begin order : List ℕ) (readings : List ℤ) where
     pub count-is : n + sum (map (ownOf keys total) (drop i row)) ≡ sourcesIn keys total row
 
   -- ---- the table
-  pub kept-start : (k : ℕ) → stored keys k ≡ false → Kept keys total begin order readings (replicate 2048 k) (replicate 2048 0) (replicate 2048 0)
+  pub kept-start : (k : ℕ) → stored keys k ≡ false → Kept keys total begin order readings (replicate 1536 k) (replicate 1536 0) (replicate 1536 0)
   kept-start k e = record {
-    names-size = length-replicate {A = ℕ} 2048 k;
-    held-size = length-replicate {A = ℕ} 2048 0;
-    counts-size = length-replicate {A = ℕ} 2048 0;
-    sums = λ s h. getD-replicate {A = ℕ} 2048 s 0 0 h ∙ none-lifted k e ∙ ap cell (sym (getD-replicate {A = ℕ} 2048 s k 0 h));
-    sources = λ s h. getD-replicate {A = ℕ} 2048 s 0 0 h ∙ sym (own-none keys total k e) ∙ ap (ownOf keys total) (sym (getD-replicate {A = ℕ} 2048 s k 0 h));
+    names-size = length-replicate {A = ℕ} 1536 k;
+    held-size = length-replicate {A = ℕ} 1536 0;
+    counts-size = length-replicate {A = ℕ} 1536 0;
+    sums = λ s h. getD-replicate {A = ℕ} 1536 s 0 0 h ∙ none-lifted k e ∙ ap cell (sym (getD-replicate {A = ℕ} 1536 s k 0 h));
+    sources = λ s h. getD-replicate {A = ℕ} 1536 s 0 0 h ∙ sym (own-none keys total k e) ∙ ap (ownOf keys total) (sym (getD-replicate {A = ℕ} 1536 s k 0 h));
   }
 
-  module _ (names held counts : List ℕ) (t : Kept keys total begin order readings names held counts) (s k : ℕ) (h : s < 2048) where
+  module _ (names held counts : List ℕ) (t : Kept keys total begin order readings names held counts) (s k : ℕ) (h : s < 1536) where
     pub kept-in : (s < length names) × (s < length held) × (s < length counts)
     kept-in = (omega (arith, t .names-size), omega (arith, t .held-size), omega (arith, t .counts-size))
 
@@ -63,7 +63,7 @@ module _ (keys total begin order : List ℕ) (readings : List ℤ) where
       sources = λ r l. column counts n (ownOf keys total) (kept-in .2) q (t .sources) r l;
     }
       where
-        column : (xs : List ℕ) (x : ℕ) (f : ℕ → ℕ) → s < length xs → x ≡ f k → ((r : ℕ) → r < 2048 → getD xs r 0 ≡ f (getD names r 0)) → (r : ℕ) → r < 2048 → getD (set xs s x) r 0 ≡ f (getD (set names s k) r 0)
+        column : (xs : List ℕ) (x : ℕ) (f : ℕ → ℕ) → s < length xs → x ≡ f k → ((r : ℕ) → r < 1536 → getD xs r 0 ≡ f (getD names r 0)) → (r : ℕ) → r < 1536 → getD (set xs s x) r 0 ≡ f (getD (set names s k) r 0)
         column xs x f m e was r l = ⊎-elim
             (λ (same : r ≡ s). subst (λ y. getD (set xs s x) y 0 ≡ f (getD (set names s k) y 0)) (sym same) (getD-set-same xs s x 0 m ∙ e ∙ ap f (sym (getD-set-same names s k 0 (kept-in .0)))))
             (λ (other : r ≢ s). getD-set-other xs s r x 0 other ∙ was r l ∙ ap f (sym (getD-set-other names s r k 0 other)))

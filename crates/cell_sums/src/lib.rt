@@ -48,11 +48,11 @@ fn run_sum(indices: &[usize], readings: &[i64], sums: &[u64], from: usize, count
     sums[from + count] - sums[from]
 }
 
-// Where the table has what was found of a cell: by its code, and apart for each level.
+// Where the table has what was found of a cell.
 fn slot_of(k: u64) -> usize
-    ensures { λ r. ⌜ r < 2048 ⌝ }
+    ensures { λ r. ⌜ r < 1536 ⌝ }
 {
-    ((k / 32768 + k % 32768 * 1365) % 2048) as usize
+    (k / 32768 % 1536) as usize
 }
 
 // What the cell with key k has; nothing if no node has it. What was found last for its slot is tried first.

@@ -216,8 +216,8 @@ fn rows_right(
     if v_starts[1] != 0 {
         return false;
     }
-    let mut nodes = [0usize; 2048];
-    let mut spots = [0u64; 2048];
+    let mut nodes = [0usize; 4096];
+    let mut spots = [0u64; 4096];
     let mut far = [0usize; 17];
     let mut node: usize = 1;
     while node < key.len() {

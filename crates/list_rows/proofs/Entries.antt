@@ -50,15 +50,15 @@ module _ (d : ℕ) (keys own : List ℕ) (t : SoundTree d keys own) where
 
 -- ---- the table
 module _ (d : ℕ) (keys : List ℕ) where
-  pub table-start : getD keys 0 0 ≡ 0 → Table d keys (replicate 2048 0) (replicate 2048 0)
+  pub table-start : getD keys 0 0 ≡ 0 → Table d keys (replicate 4096 0) (replicate 4096 0)
   unfolding placeAt
   table-start root = record {
-    nodes-size = length-replicate {A = ℕ} 2048 0;
-    spots-size = length-replicate {A = ℕ} 2048 0;
-    right = λ s h l. rw (getD-replicate {A = ℕ} 2048 s 0 0 h, root) refl;
+    nodes-size = length-replicate {A = ℕ} 4096 0;
+    spots-size = length-replicate {A = ℕ} 4096 0;
+    right = λ s h l. rw (getD-replicate {A = ℕ} 4096 s 0 0 h, root) refl;
   }
 
-  pub table-more : (nodes spots : List ℕ) → Table d keys nodes spots → (s node k p : ℕ) → s < 2048 → getD keys node 0 ≡ k → p ≡ placeOf d k → Table d keys (set nodes s node) (set spots s p)
+  pub table-more : (nodes spots : List ℕ) → Table d keys nodes spots → (s node k p : ℕ) → s < 4096 → getD keys node 0 ≡ k → p ≡ placeOf d k → Table d keys (set nodes s node) (set spots s p)
   table-more nodes spots t s node k p h e q = record {
     nodes-size = length-set nodes s node ∙ t .nodes-size;
     spots-size = length-set spots s p ∙ t .spots-size;
@@ -75,7 +75,7 @@ module _ (d : ℕ) (keys : List ℕ) where
       at r l same = subst (λ x. getD (set spots s p) x 0 ≡ placeOf d (getD keys (getD (set nodes s node) x 0) 0)) (sym same)
           (getD-set-same spots s p 0 ls ∙ q ∙ ap (placeOf d) (sym e) ∙ ap (λ n. placeOf d (getD keys n 0)) (sym (getD-set-same nodes s node 0 ln)))
 
-      past : (r : ℕ) → r < 2048 → getD (set nodes s node) r 0 < length keys → r ≢ s → getD (set spots s p) r 0 ≡ placeOf d (getD keys (getD (set nodes s node) r 0) 0)
+      past : (r : ℕ) → r < 4096 → getD (set nodes s node) r 0 < length keys → r ≢ s → getD (set spots s p) r 0 ≡ placeOf d (getD keys (getD (set nodes s node) r 0) 0)
       past r g l other =
           let e = getD-set-other nodes s r node 0 other in
           getD-set-other spots s r p 0 other ∙ t .right r g (subst (λ n. n < length keys) e l) ∙ ap (λ n. placeOf d (getD keys n 0)) (sym e)
@@ -223,7 +223,7 @@ module _ (d : ℕ) (keys own total : List ℕ) (row : Row) (node place : ℕ) (p
   cell-level = vb .level
 
 -- ---- the search
-module _ (d : ℕ) (keys own nodes spots : List ℕ) (pre : SoundTree d keys own × Table d keys nodes spots) (k slot : ℕ) (s : slot < 2048) where
+module _ (d : ℕ) (keys own nodes spots : List ℕ) (pre : SoundTree d keys own × Table d keys nodes spots) (k slot : ℕ) (s : slot < 4096) where
   pub slot-in : (slot < length nodes) × (slot < length spots)
   slot-in = (omega (arith, pre .1 .nodes-size), omega (arith, pre .1 .spots-size))
 

@@ -22,9 +22,9 @@ pub record Counted (d : ℕ) (keys own total : List ℕ) : Type 0 where
 
 -- what was found before: in each slot a number and, if it is a node's, the node's place
 pub record Table (d : ℕ) (keys nodes spots : List ℕ) : Type 0 where
-  pub nodes-size : length nodes ≡ 2048
-  pub spots-size : length spots ≡ 2048
-  pub right : (s : ℕ) → s < 2048 → getD nodes s 0 < length keys → getD spots s 0 ≡ placeOf d (getD keys (getD nodes s 0) 0)
+  pub nodes-size : length nodes ≡ 4096
+  pub spots-size : length spots ≡ 4096
+  pub right : (s : ℕ) → s < 4096 → getD nodes s 0 < length keys → getD spots s 0 ≡ placeOf d (getD keys (getD nodes s 0) 0)
 
 -- the node with key k is found by its number and its place, and nothing is found only if none has it
 abbrev pub Sought : ℕ → List ℕ → ℕ → Spot → Type 0

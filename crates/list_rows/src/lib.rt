@@ -22,11 +22,11 @@ pub struct Row {
     pub above: u64,
 }
 
-// Where the table has what was found of a cell: by its code, and apart for each level.
+// Where the table has what was found of a cell.
 fn slot_of(k: u64) -> usize
-    ensures { λ r. ⌜ r < 2048 ⌝ }
+    ensures { λ r. ⌜ r < 4096 ⌝ }
 {
-    ((k / 32768 + k % 32768 * 1365) % 2048) as usize
+    (k / 32768 % 4096) as usize
 }
 
 // The node with key k and its place. What was found last for its slot is tried first; a wrong number there costs time alone.

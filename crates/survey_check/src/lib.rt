@@ -179,9 +179,9 @@ fn all_leaves(
     ensures additions { λ r. ⌜ r .additions ≡ min (allAdditions axes (columns (now (key .entry)) (now (own .entry)) (now (begin .entry)) (now (total .entry)))
         (now (indices .entry)) (now (readings .entry))) mostAdditions ⌝ }
 {
-    let mut names = [32767u64; 2048];
-    let mut held = [0u64; 2048];
-    let mut counts = [0usize; 2048];
+    let mut names = [32767u64; 1536];
+    let mut held = [0u64; 1536];
+    let mut counts = [0usize; 1536];
     let mut far = [0u64; 17];
     let mut cells = [0usize; 17];
     let mut leaves: usize = 0;
