@@ -50,10 +50,10 @@ extern "C" {
 #endif
 
 /* The version of this header and of the archive that was made with it. */
-#define LOHANDEMA_VERSION "0.5.0"
+#define LOHANDEMA_VERSION "0.5.1"
 #define LOHANDEMA_VERSION_MAJOR 0
 #define LOHANDEMA_VERSION_MINOR 5
-#define LOHANDEMA_VERSION_PATCH 0
+#define LOHANDEMA_VERSION_PATCH 1
 
 /* Limits. */
 #define LOHANDEMA_MOST_AXES 3               /* 1 to 3 axes, else refused 1 */

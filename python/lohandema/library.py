@@ -5,7 +5,7 @@ import os
 import re
 import sys
 
-VERSION = "0.5.0"
+VERSION = "0.5.1"
 FILE = "liblohandema.so"
 
 # The columns of a tree, as every call on one takes them
