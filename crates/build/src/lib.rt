@@ -58,7 +58,7 @@ fn smaller(a: usize, b: usize) -> usize
 }
 
 // How many entries of the node columns count.
-fn node_room(key: usize, own: usize, begin: usize, total: usize) -> usize
+pub fn node_room(key: usize, own: usize, begin: usize, total: usize) -> usize
     ensures { λ r. ⌜ r ≡ nodeRoom key own begin total ⌝ }
 {
     smaller(
@@ -99,7 +99,7 @@ fn no_grid() -> Grid
 }
 
 // Sizes without a grid.
-fn sizes_of(b: Box, sources: usize, targets: usize, room: usize, depth: u64) -> Sizes
+pub fn sizes_of(b: Box, sources: usize, targets: usize, room: usize, depth: u64) -> Sizes
     ensures { λ r. ⌜ Plain sources targets room depth r ⌝ }
 {
     let frame = space::frame_of(b);
@@ -161,15 +161,15 @@ fn lay_out(
 }
 
 // Whether all rows are put, and if not, why; then how many sources and nodes there are.
-struct Started {
-    outcome: Outcome,
-    put: bool,
-    rows: usize,
-    nodes: usize,
+pub struct Started {
+    pub outcome: Outcome,
+    pub put: bool,
+    pub rows: usize,
+    pub nodes: usize,
 }
 
 // A refusal: nothing is counted.
-fn unstarted(refusal: Refusal) -> Started
+pub fn unstarted(refusal: Refusal) -> Started
     ensures { λ r. ⌜ (r .outcome ≡ Refused refusal) × (r .put ≡ false) ⌝ }
 {
     Started {
@@ -181,7 +181,7 @@ fn unstarted(refusal: Refusal) -> Started
 }
 
 // Whether n nodes have room.
-fn settle(room: usize, rows: usize, n: usize) -> Started
+pub fn settle(room: usize, rows: usize, n: usize) -> Started
     ensures { λ r. ⌜ (r .outcome ≡ ask (leb n room) (Room 3)) × (r .put ≡ isDone (r .outcome)) ⌝ }
     ensures { λ r. ⌜ (r .outcome ≡ Done → (r .rows ≡ rows) × (r .nodes ≡ n)) ⌝ }
 {
@@ -259,7 +259,7 @@ fn start(
 }
 
 // The number of nodes and the depth, or the refusal.
-fn answer_of(started: Started, depth: u64) -> Built
+pub fn answer_of(started: Started, depth: u64) -> Built
     ensures { λ r. ⌜ r ≡ builtOr (started .outcome) (started .nodes) depth ⌝ }
 {
     let outcome = started.outcome;

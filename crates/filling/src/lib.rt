@@ -40,7 +40,7 @@ fn fill_columns(n: usize, own: &mut [usize], begin: &mut [usize], total: &mut [u
 }
 
 // Clears the work, the order column and the keys.
-fn clear_keys(work: &mut [u64], indices: &mut [usize], key: &mut [u64])
+pub fn clear_keys(work: &mut [u64], indices: &mut [usize], key: &mut [u64])
     ensures { λ _. ⌜ now (work .exit) ≡ replicate (length (now (work .entry))) 0 ⌝ }
     ensures { λ _. ⌜ now (indices .exit) ≡ replicate (length (now (indices .entry))) 0 ⌝ }
     ensures { λ _. ⌜ now (key .exit) ≡ replicate (length (now (key .entry))) 0 ⌝ }
@@ -51,7 +51,7 @@ fn clear_keys(work: &mut [u64], indices: &mut [usize], key: &mut [u64])
 }
 
 // Clears the columns beside the keys.
-fn clear_columns(own: &mut [usize], begin: &mut [usize], total: &mut [usize])
+pub fn clear_columns(own: &mut [usize], begin: &mut [usize], total: &mut [usize])
     ensures { λ _. ⌜ now (own .exit) ≡ replicate (length (now (own .entry))) 0 ⌝ }
     ensures { λ _. ⌜ now (begin .exit) ≡ replicate (length (now (begin .entry))) 0 ⌝ }
     ensures { λ _. ⌜ now (total .exit) ≡ replicate (length (now (total .entry))) 0 ⌝ }

@@ -1,0 +1,5 @@
+pub mod Longer
+pub mod Laid
+pub mod Judging
+pub mod Starting
+pub mod Ending
