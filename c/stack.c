@@ -19,6 +19,7 @@ static double sources[3 * POINTS], targets[3 * POINTS];
 static uint64_t work[3 * POINTS], key[NODES], u_keys[KEYS], v_keys[KEYS], output[POINTS], cells[NODES];
 static size_t order[POINTS], own[NODES], begin[NODES], total[NODES], u_starts[NODES + 1], v_starts[NODES + 1];
 static size_t starts[NODES + 1], indices[POINTS], nodes;
+static size_t new_own[KEYS], new_begin[KEYS], new_total[KEYS];
 static size_t points, limit;
 static int64_t readings[POINTS];
 static lohandema_ended last;
@@ -167,6 +168,15 @@ static void is_arrangement(void)
     last.number = lohandema_is_arrangement(order, points, points) ? 0 : 99;
 }
 
+/* With empty cells, which the tree has that build_tree has just built; u_starts to v_keys are free by now. */
+static void balance_tree(void)
+{
+    size_t count;
+    uint64_t depth;
+    last = lohandema_balance_tree(BOX, sources, axes * points, COLUMNS, order, points, work, 2 * POINTS, indices, points,
+                                  u_keys, KEYS, new_own, KEYS, new_begin, KEYS, new_total, KEYS, &count, &depth);
+}
+
 static void keys_of_one(lohandema_ended (*call)(size_t, uint64_t, uint64_t *, size_t *), uint64_t of)
 {
     uint64_t keys[LOHANDEMA_MOST_KEYS];
@@ -299,6 +309,7 @@ static struct {
     {"check_sums", check_sums, LOHANDEMA_STACK, 0},
     {"write_tree", write_tree, 96 * KIB, 0},
     {"is_arrangement", is_arrangement, 32 * KIB, 0},
+    {"balance_tree", balance_tree, LOHANDEMA_STACK, 0},
     {"get_neighbours", get_neighbours, 8 * KIB, 0},
     {"get_children", get_children, 8 * KIB, 0},
     {"get_siblings", get_siblings, 8 * KIB, 0},

@@ -24,7 +24,8 @@
  * of the compiled code, measured on x86-64 and on Arm (c/stack.c; docs/BENCHMARKS.md, "Stack") and rounded up well; they are
  * not promises. pthread_attr_setstacksize takes no less than PTHREAD_STACK_MIN, which is 131,072 bytes on some
  * systems, and fails below it: pass the larger of the two.
- *   points_to_keys, get_interaction_lists, get_list_sizes, get_near_work, check_sums        128 KiB
+ *   points_to_keys, get_interaction_lists, get_list_sizes, get_near_work, check_sums,
+ *   balance_tree                                                                            128 KiB
  *   sum_check, lists_right, write_tree                                                       96 KiB
  *   build_tree, build_tree_on_grid                                                           48 KiB
  *   get_sourced_cells, is_arrangement                                                        32 KiB
@@ -85,8 +86,7 @@ typedef struct {
     size_t value;
 } lohandema_ended;
 
-/* The numbers. No call of this header refuses 15, 17 or 19: 15 is for the listing program, which reads files, 17 is kept for
- * tree files and 19 for balanced trees. */
+/* The numbers. No call of this header refuses 15, which is for the listing program, as that reads files. */
 enum {
     LOHANDEMA_DONE = 0,
     LOHANDEMA_DIMS = 1,
@@ -169,7 +169,7 @@ static inline const char *lohandema_refusal_sentence(uint64_t number)
         "files): write it anew from what the build and the list call wrote",
         "the tree, its order or its lists are not those that the points give: pass them as the build and the list call wrote "
         "them, with the points and the box of that build",
-        "a cell that is split lacks a child (kept for the call that balances a tree): build with keep_empty",
+        "a cell that is split lacks a child: build with keep_empty",
         "a reading is over 1099511627776 in size, and the value is its index: mend it, or pass all readings in a larger unit"};
     return number < 21 ? sentences[number] : "this version knows no refusal with this number";
 }
@@ -348,6 +348,28 @@ lohandema_ended lohandema_build_tree_on_grid(const double centre[3], double radi
                                              uint64_t *key, size_t key_len, size_t *own, size_t own_len, size_t *begin,
                                              size_t begin_len, size_t *total, size_t total_len, size_t *nodes,
                                              uint64_t *depth);
+
+/* The balanced tree of a tree that has all children or none of each cell, as a build with keep_empty has: the one with the fewest
+ * cells that contains all of its cells, has all children or none of each cell, and has no two leaves more than one level apart
+ * whose cells touch, at a corner too (the cells with their walls share a point). It has the same depth; a balanced tree comes
+ * back the same. The sources move down to the new leaves.
+ *   points            the coordinates of the tree's sources; points_len counts coordinates
+ *   key to indices    the tree and its order column, which are read
+ *   work              two entries a source
+ *   new_indices       the new order column: one entry a source
+ *   new_key, new_own, one entry a node of the new tree each. The shortest of the four counts, at most 1,048,576 of its entries.
+ *   new_begin,        How many it has is not known before: on 8 with value 3 lend longer ones and call again.
+ *   new_total
+ * nodes and depth: those of the new tree. Refused 1, 2, 3, 4, 13, 19 (a cell has some of its children and not all), 6, 18 (a
+ * point is in no leaf, or own and indices are not those that the points give), 8 (1 work, 2 new_indices, 3 new columns). */
+lohandema_ended lohandema_balance_tree(const double centre[3], double radius, size_t axes, const double *points,
+                                       size_t points_len, const uint64_t *key, size_t key_len, const size_t *own,
+                                       size_t own_len, const size_t *begin, size_t begin_len, const size_t *total,
+                                       size_t total_len, const size_t *indices, size_t indices_len, uint64_t *work,
+                                       size_t work_len, size_t *new_indices, size_t new_indices_len, uint64_t *new_key,
+                                       size_t new_key_len, size_t *new_own, size_t new_own_len, size_t *new_begin,
+                                       size_t new_begin_len, size_t *new_total, size_t new_total_len, size_t *nodes,
+                                       uint64_t *depth);
 
 /* Whether the columns are a well-formed tree (docs/RULES.md); false for axes other than 1 to 3. Never refused. */
 bool lohandema_is_well_formed(size_t axes, const uint64_t *key, size_t key_len, const size_t *own, size_t own_len,
