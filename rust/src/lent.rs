@@ -690,3 +690,73 @@ pub fn build_tree_on_grid(
     };
     answered(ended, (nodes, depth))
 }
+
+/// The balanced tree of a tree that has all children or none of each cell: the one with the fewest cells that contains all of
+/// its cells, has all children or none of each cell, and no two touching leaves more than one level apart. `order` is the
+/// tree's order column, and `points` are its sources. `work` has two entries for each source and `indices`, the new order
+/// column, one; the four columns one for each new node. Answers the number of nodes and the depth.
+///
+/// # Errors
+/// [`DIMS`](Refusal::DIMS), also if box and tree differ in their axes; [`BOX`](Refusal::BOX); [`SHAPE`](Refusal::SHAPE) if
+/// the rows are not whole; [`COUNT`](Refusal::COUNT); [`TREE`](Refusal::TREE); [`PARTIAL`](Refusal::PARTIAL) if a cell has
+/// some of its children and not all; [`SOURCE`](Refusal::SOURCE) if a point is outside the box;
+/// [`NOTBUILT`](Refusal::NOTBUILT) if a point is in no leaf, or `own` and `order` are not those that the points give;
+/// [`ROOM`](Refusal::ROOM) 1 to 3.
+#[allow(clippy::too_many_arguments)] // a tree that is read, and one that is written
+pub fn balance_tree(
+    bounds: &Bounds,
+    points: &[f64],
+    tree: Columns<'_>,
+    order: &[usize],
+    work: &mut [u64],
+    indices: &mut [usize],
+    key: &mut [u64],
+    own: &mut [usize],
+    begin: &mut [usize],
+    total: &mut [usize],
+) -> Result<(usize, u64), Refusal> {
+    tree.same_axes(bounds).inspect_err(|_| {
+        work.fill(0);
+        indices.fill(0);
+        key.fill(0);
+        own.fill(0);
+        begin.fill(0);
+        total.fill(0);
+    })?;
+    let (mut nodes, mut depth) = (0, 0);
+    // SAFETY: points, columns and order are read with their own lengths; the six slices, lent to us alone, are written within theirs.
+    let ended = unsafe {
+        raw::lohandema_balance_tree(
+            &bounds.centre,
+            bounds.radius,
+            bounds.axes,
+            points.as_ptr(),
+            points.len(),
+            tree.key.as_ptr(),
+            tree.key.len(),
+            tree.own.as_ptr(),
+            tree.own.len(),
+            tree.begin.as_ptr(),
+            tree.begin.len(),
+            tree.total.as_ptr(),
+            tree.total.len(),
+            order.as_ptr(),
+            order.len(),
+            work.as_mut_ptr(),
+            work.len(),
+            indices.as_mut_ptr(),
+            indices.len(),
+            key.as_mut_ptr(),
+            key.len(),
+            own.as_mut_ptr(),
+            own.len(),
+            begin.as_mut_ptr(),
+            begin.len(),
+            total.as_mut_ptr(),
+            total.len(),
+            &mut nodes,
+            &mut depth,
+        )
+    };
+    answered(ended, (nodes, depth))
+}

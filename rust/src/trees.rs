@@ -2,7 +2,7 @@
 
 use crate::keys;
 use crate::lent::{self, Asked, Columns, Grid};
-use crate::limits::MOST_KEYS;
+use crate::limits::{MOST_KEYS, MOST_NODES};
 use crate::points::Bounds;
 use crate::refusal::Refusal;
 use crate::{raw, room};
@@ -114,6 +114,59 @@ impl Tree {
         let (begin, total) = (room::cut(begin, nodes), room::cut(total, nodes));
         let bounds = *asked.bounds;
         Ok(Tree::from_columns(bounds, key, own, begin, total, order))
+    }
+
+    /// The balanced tree of this one, which has all children or none of each cell, as a build with `keep_empty` has; `points` are
+    /// its sources. It is the tree with the fewest cells that contains all of these, has all children or none of each cell, and
+    /// no two leaves more than one level apart whose cells touch, at a corner too. The sources move down to the new leaves.
+    ///
+    /// ```
+    /// use lohandema::{Asked, Bounds, Tree};
+    /// let (bounds, points) = (Bounds::new(&[4.0], 4.0), [3.3, 3.8, 6.5]);
+    /// let mut asked = Asked::new(&bounds, &points, 1);
+    /// asked.keep_empty = true;
+    /// let tree = Tree::build(asked)?;
+    /// // a leaf of level 1 beside one of level 4
+    /// assert_eq!(tree.key, [0, 1, 2, 32770, 65539, 98307, 196612, 229380, 32769]);
+    /// let balanced = tree.balanced(&points)?;
+    /// assert_eq!(balanced.key[9..], [65538, 131075, 163843, 98306]);
+    /// assert_eq!(balanced.leaf_sources(12), [2]);
+    /// assert_eq!(balanced.balanced(&points)?, balanced);
+    /// # Ok::<(), lohandema::Refusal>(())
+    /// ```
+    ///
+    /// # Errors
+    /// As [`lent::balance_tree`]; [`ROOM`](Refusal::ROOM) only, with 3, if the tree has more than 1,048,576 nodes.
+    pub fn balanced(&self, points: &[f64]) -> Result<Tree, Refusal> {
+        let rows = room::rows(self.axes(), points.len());
+        let (mut work, mut order) = (vec![0; 2 * rows], vec![0; rows]);
+        let mut room = room::balanced(self.key.len());
+        loop {
+            let (mut key, mut own) = (vec![0; room], vec![0; room]);
+            let (mut begin, mut total) = (vec![0; room], vec![0; room]);
+            let written = lent::balance_tree(
+                &self.bounds,
+                points,
+                self.columns(),
+                &self.order,
+                &mut work,
+                &mut order,
+                &mut key,
+                &mut own,
+                &mut begin,
+                &mut total,
+            );
+            match written {
+                Ok((nodes, _)) => {
+                    let (key, own) = (room::cut(key, nodes), room::cut(own, nodes));
+                    let (begin, total) = (room::cut(begin, nodes), room::cut(total, nodes));
+                    let bounds = self.bounds;
+                    return Ok(Tree::from_columns(bounds, key, own, begin, total, order));
+                }
+                Err(room::NODES_SHORT) if room < MOST_NODES => room = room::more_nodes(room),
+                Err(refusal) => return Err(refusal),
+            }
+        }
     }
 
     /// The tree of these columns, as they are.
