@@ -76,3 +76,13 @@ def capped(keys):
 def more(room):
     """Four times the room, for a guess that was short."""
     return min(4 * max(room, 16), MOST_KEYS)
+
+
+def balanced(nodes):
+    """How many nodes the balanced tree of one of so many nodes may have: a first guess."""
+    return min(2 * nodes + 64, MOST_NODES)
+
+
+def more_nodes(room):
+    """Four times the room for nodes, for a guess that was short."""
+    return min(4 * room, MOST_NODES)

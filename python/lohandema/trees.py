@@ -97,6 +97,44 @@ class Tree:
         del lent
         return cls._of(box, [cut(one, count.value) for one in columns] + [cut(indices, rows)])
 
+    def balanced(self, points, *, progress=False):
+        """The balanced tree of this one, which has all children or none of each cell, as a build with keep_empty has: the one
+        with the fewest cells that contains all of these, has all children or none of each cell, and no two leaves more than one
+        level apart whose cells touch, at a corner too. The sources, which are given again, move down to the new leaves.
+
+        Raises Refused with 4, 13, 19 where a cell has some of its children and not all, 6, 18 where own and order are not those
+        that the points give, or 8 where the tree has more than 1,048,576 nodes.
+
+        >>> points = [[3.3], [3.8], [6.5]]
+        >>> tree = Tree.build(points, Box([4.0], 4.0), limit=1, keep_empty=True)
+        >>> tree.key.tolist()
+        [0, 1, 2, 32770, 65539, 98307, 196612, 229380, 32769]
+        >>> tree.balanced(points).key.tolist()[9:]
+        [65538, 131075, 163843, 98306]
+        """
+        sources = Points(points, self.box.axes)
+        with telling(progress, "the balanced tree of %d points" % sources.rows):
+            nodes = room.balanced(len(self))
+            while True:
+                try:
+                    return self._balanced(sources, nodes)
+                except Refused as refused:
+                    if (refused.number, refused.value) != (8, 3) or nodes == room.MOST_NODES:
+                        raise
+                nodes = room.more_nodes(nodes)
+
+    def _balanced(self, sources, nodes):
+        """With room for so many nodes."""
+        rows = min(sources.rows, room.MOST_POINTS)
+        work, indices = Lent(memoryview(column(2 * rows))), column(rows)
+        columns = [column(nodes) for _ in range(4)]
+        lent = [Lent(memoryview(one)) for one in [indices] + columns]
+        count, depth = ctypes.c_size_t(), ctypes.c_uint64()
+        call("balance_tree", *self.box._words(), *_words([sources.lent]), *self._words(*COLUMNS), *_words([work] + lent),
+             ctypes.byref(count), ctypes.byref(depth))
+        del lent
+        return self._of(self.box, [cut(one, count.value) for one in columns] + [cut(indices, rows)])
+
     @classmethod
     def from_columns(cls, box, key, own, begin, total, order):
         """The tree of columns that were kept: int64 or uint64 arrays, passed on as they are, or lists of ints. They may hold
