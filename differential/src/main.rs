@@ -1,5 +1,6 @@
 //! Compares Lohandema with the customer's Rust, call by call, on the same inputs. `run` beside this folder starts it.
 mod apart;
+mod balance;
 mod builds;
 mod differences;
 mod face;
@@ -85,6 +86,7 @@ const KINDS: &[Kind] = &[
     ("tree-file", 4_000, files::tree_file),
     ("near-work", 3_000, near_work::near_work),
     ("sums", 800, sums::sums),
+    ("balance", 6_000, balance::balance),
     ("well-formed", 20_000, refusals::trees_handed_in),
     ("refusals", 4_000, refusals::tree_calls),
     ("large", 1, refusals::large),

@@ -161,7 +161,7 @@ pub fn totals(axes: usize, leaves: impl Iterator<Item = (u64, usize)>) -> HashMa
 
 /// Columns of these keys in the order in which they stand, with the sources of each leaf. The totals, which the Rust does not
 /// have, are sums over the sources of its leaves.
-fn columns_of(bounds: &Bounds, key: Vec<u64>, leaves: &HashMap<u64, Vec<usize>>) -> Tree {
+pub fn columns_of(bounds: &Bounds, key: Vec<u64>, leaves: &HashMap<u64, Vec<usize>>) -> Tree {
     let (mut own, mut begin, mut order) = (vec![], vec![], vec![]);
     for k in &key {
         begin.push(order.len());
