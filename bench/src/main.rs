@@ -1,5 +1,6 @@
 //! Lohandema beside the customer's Rust and beside plain Rust with sorted vectors: one process, one thread, identical trees.
 //! `run` beside this folder starts it. For each measure the least of several times counts.
+mod balance;
 mod clock;
 mod coding;
 mod customer;
@@ -72,6 +73,7 @@ fn main() {
     }
     near::measure(&words, &report);
     sums::measure(&words, &report);
+    balance::measure(&words, &report);
     if words.limit.is_none() {
         worst::measure(&words, &report);
     }

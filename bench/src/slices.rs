@@ -61,6 +61,23 @@ impl Room {
         .expect("room enough")
     }
 
+    /// The balanced tree of a tree of these points.
+    pub fn balance(&mut self, tree: &Tree, points: &[f64]) -> (usize, u64) {
+        lent::balance_tree(
+            &tree.bounds,
+            points,
+            tree.columns(),
+            &tree.order,
+            &mut self.work,
+            &mut self.order,
+            &mut self.key,
+            &mut self.own,
+            &mut self.begin,
+            &mut self.total,
+        )
+        .expect("room enough")
+    }
+
     /// Whether these are the columns of a tree, and no more.
     pub fn holds(&self, tree: &Tree) -> bool {
         self.key == tree.key

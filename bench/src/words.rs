@@ -3,12 +3,13 @@ use std::env;
 use std::process::exit;
 use std::slice;
 
-const CALLS: [&str; 8] = [
+const CALLS: [&str; 9] = [
     "build",
     "lookup",
     "lists",
     "near_work",
     "check_sums",
+    "balance",
     "coding",
     "growth",
     "clearing",
