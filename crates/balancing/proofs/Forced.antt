@@ -34,7 +34,7 @@ use Rattle.balance.specs.Splitting.{inside, split, forcedBy, mustSplit}
 use Rattle.balance.proofs.Around as A
 use Rattle.balance.proofs.Balance.{tree-of}
 use Rattle.balancing.specs.Walk.{splitAmong}
-use Rattle.balancing.proofs.Splits.{split-none, not-stored}
+use Rattle.balancing.proofs.Splits.{split-none, split-found, not-stored}
 
 any-yes : (p : ℕ → Bool) (x : ℕ) (xs : List ℕ) → p x ≡ true → any p (x ∷ xs) ≡ true
 unfolding any
@@ -125,6 +125,10 @@ module _ (d : ℕ) (keys : List ℕ) (k : TreeKeys d keys) (r : ℕ) where
     forced-found node q e h b s =
         let (l, w) = found-at d keys c f g node q in
         s ∙ ap (λ (x : ℕ). splitAmong d keys r node (x - node)) h ∙ forced-run node l ∙ ap (forcedBy d keys r) w
+
+    -- nothing is split under a cell that is not
+    pub forced-leaf : (node : ℕ) → f ≡ At node → (b : Bool) → b ≡ split d keys (getD keys node 0) → b ≡ false → false ≡ forcedBy d keys r c
+    forced-leaf node q b s h = sym (A.forced-none d keys (tree-of d keys k) r c (sym (split-found d keys k c f g node q b s) ∙ h))
 
     pub forced-nowhere : f ≡ Nothing → false ≡ forcedBy d keys r c
     forced-nowhere q = forced-not c (not-stored d keys k c f g q)

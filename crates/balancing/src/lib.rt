@@ -84,6 +84,9 @@ fn is_forced_by(axes: usize, key: &[u64], r: u64, from: [u64; 3], c: u64) -> boo
     let found = tree::find_node(axes, key, c);
     match found {
         Found::At(node) => {
+            if !is_split(axes, key, node) {
+                return false;
+            }
             let end = tree::end_of(axes, key, node);
             split_among(axes, key, r, from, node, end)
         }
