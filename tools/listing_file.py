@@ -43,6 +43,8 @@ class Listing:
     # the level-16 key of each source, and how many sources lie in a cell
     source_keys: list
     held: Counter
+    # the keys before the tree was balanced, if it was
+    before = None
 
     def leaf_at(self, key):
         """The leaf that holds a level-16 key, or None."""

@@ -15,9 +15,11 @@ PAGE_WIDTH = LEGEND + 400
 # from reading to reading
 MARK, OUTLINED_MARK, LEAST_MARK, MARK_PART = 3.6, 1.4, 0.9, 0.42
 
-# Orange and yellow against blues of different lightness, which the usual kinds of colour blindness leave apart
+# Orange and yellow against blues of different lightness, which the usual kinds of colour blindness leave apart; what the
+# balancing adds is pale green
 UNSTORED, PLAIN, LINE = "url(#hatch)", "#ffffff", "#8c8c8c"
 CHOSEN, NEAR, FAULT = "#f0e442", "#e69f00", "#cc0066"
+ADDED = "#dcefcf"
 FAR_DARK, FAR_LIGHT = (0x2b, 0x6c, 0xb0), (0xb9, 0xd6, 0xf0)
 GRID_LINE = "#b03000"
 HATCH = ('<defs><pattern id="hatch" width="7" height="7" patternUnits="userSpaceOnUse" patternTransform="rotate(45)">'

@@ -5,7 +5,7 @@ from collections import Counter
 
 import survey_file as house
 from grid_points import Grid
-from page import (CHOSEN, HATCH, LEFT, LEGEND, LINE, MARK, NEAR, PAGE_WIDTH, PLAIN, PLOT, ROW, TOP, UNSTORED, across_tick,
+from page import (ADDED, CHOSEN, HATCH, LEFT, LEGEND, LINE, MARK, NEAR, PAGE_WIDTH, PLAIN, PLOT, ROW, TOP, UNSTORED, across_tick,
                   along, box, far_colour, frame, ink_on, line_width, mark, mark_radii, sample_frame, sample_mark, swatch, tag,
                   ticks, up_tick, words)
 
@@ -56,7 +56,7 @@ class Picture:
         elif self.cell:
             title = "The readings in cell %d" % self.cell.key
         else:
-            title = "Cells and readings"
+            title = "Cells and readings" if self.listing.before is None else "Cells and readings, balanced"
         figures = "%s: axes %d, nodes %d, depth %d, readings %d, near work %d" % (
             os.path.basename(self.names.survey), self.listing.axes, len(self.listing.nodes), self.listing.depth,
             len(self.survey.sources), self.listing.near_work)
@@ -78,16 +78,25 @@ class Picture:
         return shapes
 
     def cells(self):
-        """The ground, and every cell of the view: in plain white, or coloured if it lies in the chosen cell."""
+        """The ground, and every cell of the view: in plain white, or coloured if it lies in the chosen cell or came by the
+        balancing."""
         shapes = [box((LEFT, TOP, PLOT, self.view.ground), class_="ground", fill=UNSTORED)]
         for node in self.listing.nodes:
             rect = self.view.rect(node.key) if self.view.shows(node) else None
             if rect:
                 hint = "node %d, key %d, level %d: %s" % (
                     node.number, node.key, house.level_of(node.key), some(self.listing.held[node.key], "reading"))
-                kind, fill = ("inner", CHOSEN) if self.in_cell(node.key) else ("cell", PLAIN)
+                kind, fill = ("inner", CHOSEN) if self.in_cell(node.key) else self.plain(node)
                 shapes.append(box(rect, class_=kind, fill=fill, stroke=LINE, stroke_width=line_width(rect, 0.8), hint=hint))
         return shapes
+
+    def plain(self, node):
+        """A cell's kind and colour where nothing is chosen."""
+        return ("added", ADDED) if self.is_added(node) else ("cell", PLAIN)
+
+    def is_added(self, node):
+        """Whether the balancing has brought a cell."""
+        return self.listing.before is not None and node.key not in self.listing.before
 
     def listed_cells(self):
         """The cells of the rows, coloured, with the name of the row where there is room, and the leaves in them."""
@@ -223,8 +232,12 @@ class Picture:
         listed |= {self.cell.key} if self.cell else set()
         plain = "cell in none of these lists" if self.leaf else "other cell" if self.cell else "cell"
         entries = []
-        if any(listed.isdisjoint(house.ancestors(self.listing.axes, node.key)) for node in shown):
+        free = [node for node in shown if listed.isdisjoint(house.ancestors(self.listing.axes, node.key))]
+        if not all(map(self.is_added, free)):
             entries.append((swatch(PLAIN), [plain]))
+        if any(map(self.is_added, free)):
+            before = "before: %s in all" % some(len(self.listing.before), "node")
+            entries.append((swatch(ADDED), ["cell that the balancing has added", before]))
         covered = sum(width * height for _, _, width, height in (self.view.rect(node.key) for node in shown))
         if covered < PLOT * self.view.ground * (1 - 1e-9):
             entries.append((swatch(UNSTORED), ["no cell stored"]))

@@ -16,7 +16,7 @@ from table_file import GRID, agreed_axes, grid_table, read_table
 
 # options of a CSV alone, with what they are where nothing is said
 OF_CSV = {"columns": None, "target_columns": None, "centre": None, "radius": None, "limit": 64, "order": 1,
-          "grid": None, "keep_empty": False}
+          "grid": None, "keep_empty": False, "balance": False}
 
 
 # Options
@@ -32,6 +32,8 @@ def add_csv_options(parser):
     add("--order", type=whole, metavar="N", help="CSV: order of the expansions, 1 to 64 (1)")
     add_grid(parser, "CSV: ")
     add("--keep-empty", action="store_true", help="CSV: store cells without sources too")
+    add("--balance", action="store_true", help="CSV: split cells until no two leaves that touch are more than one level "
+        "apart; cells without sources are stored too")
 
 
 def check_csv_options(parser, options):
@@ -47,6 +49,7 @@ def check_csv_options(parser, options):
     if options.target_columns and not options.targets:
         parser.error("--target-columns goes with TARGETS.csv; give that file or leave the option out")
     check_grid(parser, options)
+    options.keep_empty = options.keep_empty or options.balance
     for name, usual in OF_CSV.items():
         if getattr(options, name) is None:
             setattr(options, name, usual)
@@ -64,6 +67,8 @@ class Survey(house.Survey):
     tree says of the targets."""
 
     lines, target_lines, told, name, targets_name, near_work, aims = None, None, (), None, None, 0, ()
+    # whether the tree is to be balanced, and then the keys that it had before
+    balance, before = False, None
 
 
 def read(options):
@@ -96,10 +101,13 @@ def read_csv(options):
     survey = Survey(axes, options.keep_empty, options.limit, options.order, options.centre, options.radius, sources.rows,
                     targets.rows)
     survey.lines, survey.target_lines = sources.lines, None if options.grid else targets.lines
+    survey.balance = options.balance
     tables = [sources, targets] if options.targets else [sources]
     survey.told = told(survey, tables, "as given" if options.centre else "from the extents")
     if options.grid:
         survey.told.insert(-2, "--grid: %s; the last axis is the fastest" % options.grid.text())
+    if options.balance:
+        survey.told.append("balanced: no two leaves that touch are more than one level apart")
     return survey
 
 
@@ -132,6 +140,9 @@ def lists_of(survey):
     try:
         box = lohandema.Box(survey.centre, survey.radius) if survey.centre else lohandema.Box.around(sources, ends)
         tree = lohandema.Tree.build(sources, box, limit=survey.limit, keep_empty=survey.keep_empty, progress=True, **used)
+        if survey.balance:
+            survey.before = frozenset(tree.key.tolist())
+            tree = tree.balanced(sources, progress=True)
         lists = tree.lists(progress=True)
         survey.near_work, survey.aims = tree.near_work(targets, with_counts=True, progress=True)
         at_fault = lists.at_fault(progress=True).tolist()
@@ -164,7 +175,7 @@ def listing_of(survey, lists, at_fault):
     listing = Made(axes=survey.axes, depth=tree.depth, near_work=survey.near_work, nodes=nodes,
                    by_key={node.key: node for node in nodes}, source_keys=source_keys(survey),
                    held=Counter(dict(zip(tree.key.tolist(), tree.total.tolist()))))
-    listing.at_fault = at_fault
+    listing.at_fault, listing.before = at_fault, survey.before
     if listing.near_work != listing.near_work_of_rows():
         raise Refused("%s: near work is %d, but the U rows give %d; please report it with the file"
                       % (survey.name, listing.near_work, listing.near_work_of_rows()))

@@ -4,6 +4,7 @@ their lines."""
 import json
 import os
 import random
+import re
 import subprocess
 import sys
 import tempfile
@@ -134,6 +135,23 @@ class Inspect(unittest.TestCase):
         self.assertIn("61 readings, 960 targets\n", told.stdout)
         self.assertIn("--grid: origin 36.0,36.0, spacing 0.5,0.5, shape 40,24; the last axis is the fastest\n", told.stdout)
         self.assertIn("near work: 20032, the targets of each leaf", told.stdout)
+
+    def test_draw_balanced(self):
+        """The cells of the balanced tree, those that it has added in a colour of their own; the sample is one."""
+        sample = os.path.join(ROOT, "samples", "three-lines")
+        box = ["--columns=x,y", "--centre=32,32", "--radius=32", "--limit", "2"]
+        before = self.run_tool("draw", sample + ".csv", *box, "--keep-empty", "-o", "a.svg")
+        made = self.run_tool("draw", sample + ".csv", *box, "--balance", "-o", "b.svg")
+        self.assertEqual((before.returncode, made.returncode), (0, 0), before.stderr + made.stderr)
+        self.assertEqual(self.read_out("b.svg"), read("samples", "three-lines-balanced.svg"))
+        cells = [re.findall(r'class="(?:cell|added)"[^>]*><title>node \d+, key (\d+)', self.read_out(name))
+                 for name in ("a.svg", "b.svg")]
+        added = re.findall(r'class="added"[^>]*><title>node \d+, key (\d+)', self.read_out("b.svg"))
+        self.assertTrue(added and set(added).isdisjoint(cells[0]))
+        self.assertEqual(len(cells[1]) - len(added), len(set(cells[0]) & set(cells[1])))
+        told = self.inspect(sample + ".csv", *box, "--balance")
+        self.assertIn("balanced: no two leaves that touch are more than one level apart\n", told.stdout)
+        self.assertIn("leave out --balance, or give readings", self.inspect(sample + ".survey", "--balance").stderr)
 
     def test_bad_grid(self):
         sample = os.path.join(ROOT, "samples", "three-lines")
