@@ -1,3 +1,4 @@
+pub mod Deepest
 pub mod Inside
 pub mod Splits
 pub mod Forced

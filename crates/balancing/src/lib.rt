@@ -8,6 +8,7 @@ ghost use lib.ListN.{length, getD};
 ghost use Rattle.slices.specs.Lists.{filled};
 ghost use Rattle.morton.specs.Keys.{levelOf, codeOf, ValidKey};
 ghost use Rattle.morton.specs.Anchors.{anchors as anchorsOf};
+ghost use Rattle.tree.specs.Order.{depthOf};
 ghost use Rattle.tree.specs.Finding.{TreeKeys};
 ghost use Rattle.balance.specs.Splitting.{off, inside, split, forcedBy, mustSplit};
 ghost use Rattle.balancing.specs.Walk.{splitAmong, nextAfter, nextCell, Put};
@@ -128,6 +129,17 @@ fn must_split(axes: usize, key: &[u64], r: u64) -> bool
     false
 }
 
+// The same, with the greatest level of any node: where none is two levels deeper than cell r, its neighbours force nothing.
+fn is_to_split(axes: usize, key: &[u64], depth: u64, r: u64) -> bool
+    requires { ⌜ TreeKeys axes (now key) × ValidKey axes r × (depth ≡ depthOf (now key)) ⌝ }
+    ensures { λ b. ⌜ b ≡ mustSplit axes (now (key .entry)) r ⌝ }
+{
+    if depth <= r % 32768 + 1 {
+        return is_split_cell(axes, key, r);
+    }
+    must_split(axes, key, r)
+}
+
 // The cell that comes after a cell and all below it: its next sibling, or that of the first cell above it that has one; 0 if none has.
 fn next_after(axes: usize, k: u64) -> u64
     requires { ⌜ ValidKey axes k ⌝ }
@@ -147,11 +159,11 @@ fn next_after(axes: usize, k: u64) -> u64
 }
 
 // The cell after cell k in the balanced tree, or 0.
-fn next_cell(axes: usize, key: &[u64], k: u64) -> u64
-    requires { ⌜ TreeKeys axes (now key) × ValidKey axes k ⌝ }
+fn next_cell(axes: usize, key: &[u64], depth: u64, k: u64) -> u64
+    requires { ⌜ TreeKeys axes (now key) × ValidKey axes k × (depth ≡ depthOf (now key)) ⌝ }
     ensures { λ r. ⌜ (r ≡ nextCell axes (now (key .entry)) k) × ValidKey axes r ⌝ }
 {
-    if must_split(axes, key, k) {
+    if is_to_split(axes, key, depth, k) {
         return keys::child_of(axes, k, 0);
     }
     next_after(axes, k)
@@ -165,16 +177,17 @@ pub fn put_cells(axes: usize, key: &[u64], room: usize, out: &mut [u64]) -> usiz
     if room < 1 {
         return room + 1;
     }
+    let depth = tree::depth_of(key);
     out[0] = 0;
     let mut n = 1;
-    let mut k = next_cell(axes, key, 0);
+    let mut k = next_cell(axes, key, depth, 0);
     while 0 < k {
         if room <= n {
             return room + 1;
         }
         out[n] = k;
         n += 1;
-        k = next_cell(axes, key, k);
+        k = next_cell(axes, key, depth, k);
     }
     n
 }
