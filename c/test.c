@@ -70,12 +70,18 @@ void test_names(void)
     EXPECT(strcmp(lohandema_refusal_name(UINT64_MAX), "UNKNOWN") == 0);
     EXPECT(strcmp(lohandema_room_name(LOHANDEMA_ROOM_WORK), "work") == 0);
     EXPECT(strcmp(lohandema_room_name(LOHANDEMA_ROOM_CELLS), "sourced cells") == 0);
-    EXPECT(strcmp(lohandema_room_name(10), "unknown") == 0 && strcmp(lohandema_room_name(0), "unknown") == 0);
+    EXPECT(strcmp(lohandema_room_name(LOHANDEMA_ROOM_CHANGES), "changes") == 0);
+    EXPECT(LOHANDEMA_ROOM_FILE == 11 && strcmp(lohandema_room_name(11), "file") == 0);
+    EXPECT(strcmp(lohandema_room_name(12), "unknown") == 0 && strcmp(lohandema_room_name(0), "unknown") == 0);
     for (uint64_t number = 0; number < 23; number++)
         EXPECT(strlen(lohandema_refusal_sentence(number)) > 20);
     EXPECT(strstr(lohandema_refusal_sentence(LOHANDEMA_TREE), "well-formed") != NULL);
     EXPECT(strstr(lohandema_refusal_sentence(LOHANDEMA_GRID), "the grid") != NULL);
     EXPECT(strstr(lohandema_refusal_sentence(LOHANDEMA_READING), "a reading") != NULL);
+    EXPECT(strstr(lohandema_refusal_sentence(LOHANDEMA_SHAPE), "not whole points, or the readings are not as many") != NULL);
+    EXPECT(strstr(lohandema_refusal_sentence(LOHANDEMA_SHAPE), "one reading for each source") != NULL);
+    EXPECT(strstr(lohandema_refusal_sentence(LOHANDEMA_NOTLEAF), "a key to group, or the node to check") != NULL);
+    EXPECT(strstr(lohandema_refusal_sentence(LOHANDEMA_NOTLEAF), "the key's index or the node's number") != NULL);
     EXPECT(strstr(lohandema_refusal_sentence(21), "knows no refusal") != NULL);
     EXPECT(strstr(lohandema_refusal_sentence(LOHANDEMA_SOURCE), "or is not a finite number") != NULL);
     EXPECT(strcmp(lohandema_reason_name(LOHANDEMA_BELOW), "lies below the box") == 0);

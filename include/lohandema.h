@@ -76,7 +76,8 @@ extern "C" {
 
 /* How a call ended: 0 throughout, or the number and values of a refusal.
  * The value of 6, 7, 12, 14 and 20 is the lowest index that fails (0 where the call takes a single point), counted in points
- * and not in coordinates; that of 8 says which lent slice is short (enum below); that of every other number is 0.
+ * and not in coordinates, but of 14 in lohandema_sum_check the number of the node that was given; that of 8 says which lent
+ * slice is short (enum below); that of every other number is 0.
  * The axis and the reason are those of 6 and 7: the first axis, from 0, on which that point is outside the box, and why (enum
  * below). With every other number both are 0. */
 typedef struct {
@@ -118,7 +119,8 @@ enum {
     LOHANDEMA_ABOVE = 3
 };
 
-/* The values of 8 ROOM; the lowest that is short is told. */
+/* The values of 8 ROOM; the lowest that is short is told. 1 is the work of a build, the work or row of
+ * lohandema_get_list_sizes, and the sums of lohandema_check_sums. 10 is kept for the call that salvages columns. */
 enum {
     LOHANDEMA_ROOM_WORK = 1,
     LOHANDEMA_ROOM_ORDER = 2,
@@ -128,7 +130,9 @@ enum {
     LOHANDEMA_ROOM_U_KEYS = 6,
     LOHANDEMA_ROOM_V_KEYS = 7,
     LOHANDEMA_ROOM_POINTS = 8,
-    LOHANDEMA_ROOM_CELLS = 9
+    LOHANDEMA_ROOM_CELLS = 9,
+    LOHANDEMA_ROOM_CHANGES = 10,
+    LOHANDEMA_ROOM_FILE = 11
 };
 
 /* The name of a number: "DONE" for 0, "DIMS" and so on for 1 to 20, "UNKNOWN" for any other. Never NULL. */
@@ -147,7 +151,8 @@ static inline const char *lohandema_refusal_sentence(uint64_t number)
         "the call was not refused",
         "the number of axes is not 1, 2 or 3 (or the extents are not 2, 4 or 6 numbers): pass 1 to 3 axes",
         "the box is outside its domain: give a radius from 0.25 to 1048576 and centre coordinates of at most 16777216 in size",
-        "the coordinates are not whole points: pass as many for each point as there are axes",
+        "the coordinates are not whole points, or the readings are not as many as the tree has sources: pass as many "
+        "coordinates for each point as there are axes, and one reading for each source",
         "there are more than 1048576 points or keys: pass fewer",
         "the order is not from 1 to 64: pass such an order, or no targets",
         "a source lies outside the box or is not a finite number, and value, axis and reason say which, where and why: "
@@ -161,12 +166,13 @@ static inline const char *lohandema_refusal_sentence(uint64_t number)
         "no leaf holds a point that is inside, and the value is its index: build with keep_empty, or take the point out",
         "the columns are not a well-formed tree: pass all four (key, own, begin and total) as the build of this version wrote "
         "them, each cut to its number of nodes",
-        "a key to group is not the key of a leaf, and the value is its index: pass keys that the lookup in this tree answered",
+        "a key to group, or the node to check, is not a leaf's, and the value is the key's index or the node's number: pass "
+        "keys that the lookup in this tree answered, or the number of a leaf",
         "the survey file breaks its rules: write it anew as docs/RULES.md says",
         "the grid has a shape of 0, an origin or a spacing that is not finite, or a spacing that is not above 0: pass for each "
         "axis a shape of 1 or more, a finite origin and a finite spacing above 0",
-        "the tree file breaks its rules, or holds an order or lists that are not its tree's (kept for the calls on tree "
-        "files): write it anew from what the build and the list call wrote",
+        "the tree file breaks its rules, or it holds, or is to hold, an order or lists that are not its tree's: write it anew "
+        "from what the build and the list call wrote",
         "the tree, its order or its lists are not those that the points give: pass them as the build and the list call wrote "
         "them, with the points and the box of that build",
         "a cell that is split lacks a child: build with keep_empty",
@@ -192,9 +198,10 @@ static inline const char *lohandema_reason_cure(uint64_t reason)
 /* Which slice the value of 8 ROOM names; "unknown" for other values. Never NULL. */
 static inline const char *lohandema_room_name(size_t value)
 {
-    static const char *const slices[10] = {"unknown",  "work",   "order column", "node columns", "U starts",
-                                           "V starts", "U keys", "V keys",       "points",       "sourced cells"};
-    return value < 10 ? slices[value] : "unknown";
+    static const char *const slices[12] = {"unknown",  "work",   "order column",  "node columns", "U starts",
+                                           "V starts", "U keys", "V keys",        "points",       "sourced cells",
+                                           "changes",  "file"};
+    return value < 12 ? slices[value] : "unknown";
 }
 
 /* ---- Keys

@@ -8,15 +8,16 @@ SHORT = {3: "the tree has more than 1048576 nodes: raise the limit, or thin the 
          6: "the U rows have more than 16777216 keys: raise the limit, or thin the points out",
          7: "the V rows have more than 16777216 keys: raise the limit, or thin the points out"}
 # What the header says of 12 and 14 with `the value`
-INDEXED = {12: "no leaf holds point %d, which is inside the box: build with keep_empty=True, or take the point out",
-           14: "key %d of those to group is not the key of a leaf: pass keys that lookup in this tree has answered"}
+INDEXED = {12: "no leaf holds point {0}, which is inside the box: build with keep_empty=True, or take the point out",
+           14: "key {0} of those to group, or node {0} that is to be checked, is not a leaf's: pass keys that lookup in this tree "
+               "has answered, or the number of a leaf"}
 
 
 class Refused(Exception):
     """A call that was refused: nothing was answered.
 
-    number, value   as docs/REFUSALS.md has them: the value of 6, 7, 12 and 14 is the lowest index that fails, that of 8
-                    says what was short, that of any other number is 0
+    number, value   as docs/REFUSALS.md has them: the value of 6, 7, 12, 14 and 20 is the lowest index that fails, that of
+                    8 says what was short, that of any other number is 0
     axis, reason    of 6 and 7: the first axis, from 0, on which the point is outside the box, and why: 1 it is not a finite
                     number, 2 it lies below, 3 it lies above. None with every other number.
     name            the number's name, as "SOURCE"
@@ -49,7 +50,7 @@ class Refused(Exception):
         if self.number == 8 and self.value in SHORT:
             return SHORT[self.value]
         if self.number in INDEXED:
-            return INDEXED[self.number] % self.value
+            return INDEXED[self.number].format(self.value)
         told = words("refusal_sentence", self.number)
         return "%s; the value is %d" % (told, self.value) if self.value else told
 

@@ -75,6 +75,15 @@ class Words(unittest.TestCase):
                     self.assertIn(figure.replace(",", ""), refused.sentence)
         self.assertEqual(words("refusal_name", len(rows) + 1), "UNKNOWN")
 
+    def test_two_uses(self):
+        """3 and 14 are said of two things each, in the sentence and on the page."""
+        causes = {int(row[0]): row[3] for row in self.rows("no. | name |")}
+        for number, uses in ((3, ("coordinates", "readings are not as many as the tree has sources")), (14, ("to group", "to check"))):
+            for use in uses:
+                self.assertIn(use, causes[number])
+                self.assertIn(use, words("refusal_sentence", number))
+        self.assertIn("key 2 of those to group, or node 2 that is to be checked", str(Refused(14, 2)))
+
     def test_reasons(self):
         for reason, name, _, cure in self.rows("reason | name |"):
             for number, point in ((6, "source 17"), (7, "target or looked-up point 17")):

@@ -59,7 +59,8 @@ pub struct Wall {
 pub struct Refusal {
     /// One of the numbers below.
     pub number: u64,
-    /// The index of the lowest point or key that fails, or which slice is short; for other numbers 0.
+    /// The index of the lowest point, key or reading that fails, the number of the node to check, or which slice is short; for
+    /// other numbers 0.
     pub value: usize,
     /// The wall of that point, for [`SOURCE`](Refusal::SOURCE) and [`POINT`](Refusal::POINT) alone.
     pub wall: Option<Wall>,
@@ -75,7 +76,8 @@ impl Refusal {
     pub const DIMS: u64 = 1;
     /// The box is outside its domain.
     pub const BOX: u64 = 2;
-    /// The coordinates are not whole points, or those of a single point are not one for each axis.
+    /// The coordinates are not whole points, those of a single point are not one for each axis, or the readings are not as
+    /// many as the tree has sources.
     pub const SHAPE: u64 = 3;
     /// There are more than 1,048,576 points or keys to group.
     pub const COUNT: u64 = 4;
@@ -86,8 +88,10 @@ impl Refusal {
     /// A target or a looked-up point is outside the box or not finite; the value is the lowest index of such, 0 for a
     /// single point, and the wall says where and why.
     pub const POINT: u64 = 7;
-    /// A lent slice is short. The value says which: 1 work, 2 order, 3 a node column, 4 U starts, 5 V starts, 6 U keys,
-    /// 7 V keys, 8 the output of a lookup or the starts or indices of a grouping, 9 sourced cells.
+    /// A lent slice is short. The value says which: 1 work (of a build, of the list sizes, or the sums of the sum check),
+    /// 2 order, 3 a node column, 4 U starts, 5 V starts, 6 U keys, 7 V keys, 8 the output of a lookup, the starts or indices
+    /// of a grouping or near work's counts, 9 sourced cells, 10 the list of changes of a salvage (no call of this crate has
+    /// one), 11 the file of a tree.
     pub const ROOM: u64 = 8;
     /// A key or level is not valid, or an anchor is off its level.
     pub const KEY: u64 = 9;
@@ -99,13 +103,13 @@ impl Refusal {
     pub const UNSTORED: u64 = 12;
     /// The columns are not a well-formed tree; a wrong total is enough, or nodes that do not stand depth first.
     pub const TREE: u64 = 13;
-    /// A key to group is no leaf of the tree; the value is the lowest index of such.
+    /// A key to group, or the node to check, is not a leaf's; the value is the lowest index of such keys, or the node's number.
     pub const NOTLEAF: u64 = 14;
     /// A survey file breaks its rules. No call of this crate reads one.
     pub const FILE: u64 = 15;
     /// A grid of targets has a shape of 0, an origin or a spacing that is not finite, or a spacing that is not above 0.
     pub const GRID: u64 = 16;
-    /// A tree file breaks its rules. Kept for tree files: no call of this crate reads or writes one.
+    /// A tree file breaks its rules, or is to hold an order or lists that are not its tree's. No call of this crate reads one.
     pub const SECTION: u64 = 17;
     /// The tree, its order or its lists are not those that the points give.
     pub const NOTBUILT: u64 = 18;
@@ -143,7 +147,7 @@ impl Refusal {
     fn short_slice(&self) -> &'static str {
         match self.value {
             1 => {
-                "work is short: lend two entries for each source and one for each target that is used"
+                "work is short: for a build lend two entries for each source and one for each target that is used, for list sizes one for each node in each slice, for the sum check one more than there are sources"
             }
             2 => "the order column is short: lend one entry for each source",
             3 => {
@@ -161,6 +165,10 @@ impl Refusal {
                 "the lookup output, the grouping's starts or indices, or near work's counts are short: lend one output or index for each point, one start more than there are nodes, one count for each node"
             }
             9 => "the sourced cells are short: lend one entry for each node",
+            10 => "the list of changes is short: lend more entries",
+            11 => {
+                "the file of the tree is short: lend 8 bytes for each key, 4 for each other number, and 116"
+            }
             _ => {
                 "a lent slice is short: lend a longer one, or, where the most was lent, raise the limit of a cell"
             }
@@ -177,7 +185,7 @@ impl Refusal {
                 "the box is outside its domain: give a radius from 0.25 to 1048576 and a centre that is finite and at most 16777216 in size on each axis"
             }
             Refusal::SHAPE => {
-                "the coordinates are not whole points: give each point as many as the box has axes"
+                "the coordinates are not whole points, or the readings are not as many as the tree has sources: give as many coordinates for each point as there are axes, and one reading for each source"
             }
             Refusal::COUNT => "there are more than 1048576 points or keys: hand in fewer at a time",
             Refusal::ORDER => {
@@ -201,7 +209,7 @@ impl Refusal {
                 "the grid has a shape of 0, an origin or a spacing that is not finite, or a spacing that is not above 0: give each axis a shape of 1 or more, a finite origin and a finite spacing above 0"
             }
             Refusal::SECTION => {
-                "the tree file breaks its rules, or holds an order or lists that are not its tree's: write the file anew from what the build and the list call answered"
+                "the tree file breaks its rules, or it holds, or is to hold, an order or lists that are not its tree's: write the file anew from what the build and the list call answered"
             }
             Refusal::NOTBUILT => {
                 "the tree, its order or its lists are not those that the points give: hand them in as the build and the list call answered them, with the points and the box of that build"
@@ -272,7 +280,7 @@ impl fmt::Display for Refusal {
             ),
             Refusal::NOTLEAF => write!(
                 f,
-                "key {value} of those to group is no leaf of the tree: hand in keys that a lookup in this tree answers"
+                "key {value} of those to group, or node {value} that is to be checked, is not a leaf's: hand in keys that a lookup in this tree answers, or the number of a leaf"
             ),
             Refusal::READING => write!(
                 f,

@@ -154,6 +154,8 @@ fn room_names_the_slice() {
         "V keys",
         "lookup output",
         "sourced cells",
+        "list of changes",
+        "file",
     ];
     for (place, slice) in slices.into_iter().enumerate() {
         let (cause, _) = sentence(Refusal::new(Refusal::ROOM, place + 1));
@@ -161,6 +163,8 @@ fn room_names_the_slice() {
     }
     let (cause, cure) = sentence(Refusal::new(Refusal::ROOM, 8));
     assert!(cause.contains("near work's counts") && cure.contains("one count for each node"));
+    let (_, cure) = sentence(Refusal::new(Refusal::ROOM, 1));
+    assert!(cure.contains("for the sum check one more than there are sources"));
     let (cause, _) = sentence(Refusal::new(Refusal::ROOM, 12));
     assert_eq!(cause, "a lent slice is short");
 }

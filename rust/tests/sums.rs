@@ -87,6 +87,21 @@ fn what_is_not_the_trees_is_refused() {
     assert_eq!(refusal.number, Refusal::NOTBUILT);
 }
 
+/// 3 and 14 have uses elsewhere; their sentences are true of readings and of a node to check too.
+#[test]
+fn the_sentences_speak_of_readings_and_of_the_node() {
+    let (tree, lists, readings) = survey(2, 60);
+    let short = tree.check_sums(&lists, &readings[1..]).unwrap_err();
+    let cause = "or the readings are not as many as the tree has sources: ";
+    assert!(short.to_string().contains(cause), "{short}");
+    assert!(short.to_string().contains("one reading for each source"));
+    let node = tree.key.len() + 2;
+    let other = tree.sum_check(&lists, &readings, node).unwrap_err();
+    let cause = format!("or node {node} that is to be checked, is not a leaf's: ");
+    assert!(other.to_string().contains(&cause), "{other}");
+    assert!(other.to_string().contains("or the number of a leaf"));
+}
+
 #[test]
 fn the_sums_want_one_place_more_than_there_are_sources() {
     let (tree, lists, readings) = survey(3, 60);

@@ -257,6 +257,8 @@ class Draw(ToolTest):
             "12 5": "no leaf holds target 5, counted from 0, as cells without sources are not kept; make the file anew with "
                     "--keep-empty, or take that target out",
             "7 5 0 3": "target 5, counted from 0, lies above the box on axis 0, counted from 0; ",
+            "3 0": "the coordinates are not whole points, or the readings are not as many as the sources; ",
+            "14 2": "key 2 of those to group, or node 2 that is to be checked, is not a leaf's; ",
             "8 77": "the program has too little room for the answer; ",
             "99 0": "docs/REFUSALS.md says why",
         }
