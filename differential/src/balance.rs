@@ -364,6 +364,8 @@ fn known(t: &mut Tally) {
     );
     let half = tree_of(&bounds, &[0, 1], &[]);
     t.same("half a root", half.balanced(&[]), refused(19, 0), input);
+    let halves = tree_of(&bounds, &[0, 1, 2, 32769, 65538], &[]);
+    t.same("two halves", halves.balanced(&[]), refused(19, 0), input);
     let many = vec![0.5; MOST + 1];
     t.same("too many", half.balanced(&many), refused(4, 0), input);
 }
@@ -456,6 +458,23 @@ fn some_tree(r: &mut Random, case: u64) -> (Tree, Vec<f64>) {
     }
 }
 
+/// The keys without one leaf, or without as many as a cell has children, so that the number of nodes may be that of a tree with
+/// all children.
+fn without_leaves(r: &mut Random, axes: usize, keys: &[u64]) -> Vec<u64> {
+    let all: HashSet<u64> = keys.iter().copied().collect();
+    let mut ends: Vec<u64> = leaves(axes, &all).iter().map(|leaf| leaf.key).collect();
+    ends.sort_unstable();
+    let many = r.pick(&[1, 1 << axes]);
+    let mut gone = HashSet::new();
+    for _ in 0..many {
+        if !ends.is_empty() {
+            gone.insert(ends.swap_remove(r.index(ends.len())));
+        }
+    }
+    let kept = keys.iter().copied().filter(|k| !gone.contains(k));
+    kept.collect()
+}
+
 /// One thing changed, which may leave all as it has to be.
 fn damage(r: &mut Random, tree: &mut Tree, points: &mut Vec<f64>) {
     let (axes, n, rows) = (tree.axes(), tree.key.len(), tree.order.len());
@@ -465,14 +484,7 @@ fn damage(r: &mut Random, tree: &mut Tree, points: &mut Vec<f64>) {
         1 => points.push(0.5),
         2 => tree.total[r.index(n)] ^= 1,
         3 => {
-            let all: HashSet<u64> = tree.key.iter().copied().collect();
-            let gone = leaves(axes, &all).first().map(|leaf| leaf.key);
-            let kept: Vec<u64> = tree
-                .key
-                .iter()
-                .copied()
-                .filter(|k| Some(*k) != gone)
-                .collect();
+            let kept = without_leaves(r, axes, &tree.key);
             *tree = tree_of(&tree.bounds, &kept, points);
         }
         4 if numbers > 0 => points[r.index(numbers)] = r.pick(&[f64::NAN, f64::INFINITY, -1e300]),
