@@ -113,7 +113,7 @@ impl Refusal {
     pub const SECTION: u64 = 17;
     /// The tree, its order or its lists are not those that the points give.
     pub const NOTBUILT: u64 = 18;
-    /// A cell that is split lacks a child. Kept for balanced trees: no call of this crate makes one.
+    /// A cell that is split lacks a child.
     pub const PARTIAL: u64 = 19;
     /// A reading is over 1,099,511,627,776 in size; the value is the lowest index of such.
     pub const READING: u64 = 20;
