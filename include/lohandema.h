@@ -386,7 +386,8 @@ bool lohandema_is_well_formed(size_t axes, const uint64_t *key, size_t key_len, 
 uint64_t lohandema_depth_of(const uint64_t *key, size_t key_len);
 
 /* Whether a node has the key wanted; node: its number, 0 where none is found. It is found by halving: in a tree whenever there is
- * one; in a column that is none, a number that is answered still has that key. False for axes other than 1 to 3. Never refused. */
+ * one; in a column that is none, a number that is answered still has that key. For axes other than 1 to 3 it answers false, which
+ * is tested; proved is, as for any column, that a number that is answered has that key. Never refused. */
 bool lohandema_find_node(size_t axes, const uint64_t *key, size_t key_len, uint64_t wanted, size_t *node);
 
 /* Whether a node is a leaf: not the first, and no deeper one stands right behind it. False for a number past the column. For any
@@ -484,7 +485,8 @@ lohandema_ended lohandema_lists_right(size_t axes, const uint64_t *key, size_t k
 
 /* The sums of one leaf: readings has a whole number for each source, by the source's index. near: the readings of the leaves in
  * its U row, one by one. far: those of the cells in the V rows of itself and its ancestors. Together they are the sum of all
- * readings, for every leaf. additions: one for each near source and one for each far cell. All three are 0 after a refusal.
+ * readings, for every leaf. additions: the terms of both sums, one for each near source and one for each far cell. All three are
+ * 0 after a refusal.
  * indices: the order column, as long as there are sources; the lists as the list call wrote them, without what is lent over.
  * Refused 1, 13, 3 (readings and sources differ in number), 20 (lowest index of a reading over 2^40 in size), 14 (node is no
  * leaf; value node), 18 (the lists are not the tree's, or indices is no arrangement). Each call checks all of this anew. */
@@ -496,10 +498,12 @@ lohandema_ended lohandema_sum_check(size_t axes, const uint64_t *key, size_t key
                                     size_t v_starts_len, const uint64_t *v_keys, size_t v_keys_len, size_t node,
                                     int64_t *near, int64_t *far, size_t *additions);
 
-/* The same for every leaf at once, in about the time of reading the lists: all arguments are checked as above, once, and each
- * leaf's near and far readings are added up and compared with the sum of all. leaves: how many leaves agree, which is all of
- * them. additions: those of all leaves together, 2^63 - 1 at most. Both are 0 after a refusal. sums: room for one number more
- * than there are sources; all zero after the call. Refused 1, 13, 3, 20, 18, 8 (value 1: sums is too short). */
+/* The same for every leaf at once: all arguments are checked as above, once, and each leaf's near and far readings are added up
+ * and compared with the sum of all. Each entry of the lists is found among the nodes, tested and added up: it took 6 to 29 times
+ * the time of the list call (docs/BENCHMARKS.md). leaves: how many leaves agree, which is all of them. additions: the terms of
+ * the sums of all leaves together, one for each near source and one for each far cell, 2^63 - 1 at most. Both are 0 after a
+ * refusal. sums: room for one number more than there are sources; all zero after the call.
+ * Refused 1, 13, 3, 20, 18, 8 (value 1: sums is too short). */
 lohandema_ended lohandema_check_sums(size_t axes, const uint64_t *key, size_t key_len, const size_t *own, size_t own_len,
                                      const size_t *begin, size_t begin_len, const size_t *total, size_t total_len,
                                      const size_t *indices, size_t indices_len, const int64_t *readings,

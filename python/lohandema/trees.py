@@ -443,9 +443,10 @@ class Tree:
 
     def check_sums(self, readings, lists=None, *, progress=False):
         """Whether no reading is lost: each leaf's near readings, and those of its far cells, are added up and compared with the
-        sum of all. Returns how many leaves agree, which is all of them, and how many additions were made. A reading is a whole
-        number, at most 2^40 in size, for each source by its index: an int64 array or a list of ints. Lists that are at hand
-        are given as lists=; they, the tree and the order are checked. Raises Refused 3 SHAPE, 20 READING or 18 NOTBUILT.
+        sum of all. Returns how many leaves agree, which is all of them, and the additions: the terms of all these sums, one for
+        each near source and one for each far cell. A reading is a whole number, at most 2^40 in size, for each source by its
+        index: an int64 array or a list of ints. Lists that are at hand are given as lists=; they, the tree and the order are
+        checked. Raises Refused 3 SHAPE, 20 READING or 18 NOTBUILT.
 
         >>> tree = Tree.build([[0.5], [1.5], [6.5], [7.5]], Box([4.0], 4.0), limit=1)
         >>> tree.check_sums([1, 2, 3, -4])

@@ -88,7 +88,7 @@ pub struct Lists {
     pub v: Rows,
 }
 
-/// The sums of one leaf, and how many additions they take: one for each near source and one for each far cell.
+/// The sums of one leaf, and how many terms they have: one for each near source and one for each far cell.
 #[derive(Clone, Copy, Debug, Default, PartialEq, Eq, Hash)]
 #[must_use]
 pub struct Sums {
@@ -96,7 +96,7 @@ pub struct Sums {
     pub near: i64,
     /// The readings of the cells in the V rows of the leaf and its ancestors.
     pub far: i64,
-    /// The number of additions.
+    /// The number of additions, which are the terms of both sums.
     pub additions: usize,
 }
 
@@ -106,7 +106,7 @@ pub struct Sums {
 pub struct Checked {
     /// How many leaves' near and far readings together are the sum of all readings: all leaves.
     pub leaves: usize,
-    /// The additions of all leaves together, 2^63 - 1 at most.
+    /// The additions of all leaves together: one for each near source and one for each far cell of each, 2^63 - 1 at most.
     pub additions: usize,
 }
 

@@ -419,7 +419,8 @@ impl Tree {
     }
 
     /// The sums of every leaf at once: how many leaves' near and far readings together are the sum of all, which is all of
-    /// them, and the additions of all leaves. Everything is checked once, and the time is about that of reading the lists.
+    /// them, and the additions of all leaves. Everything is checked once. Each entry of the lists is found among the nodes,
+    /// tested and added up, which took 6 to 29 times the time of the list call (docs/BENCHMARKS.md).
     ///
     /// ```
     /// use lohandema::{Asked, Bounds, Tree};
