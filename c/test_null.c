@@ -90,6 +90,11 @@ static void columns(void)
     EXPECT(!lohandema_is_well_formed(1, key, 3, own, 3, NULL, 0, total, 3));
     EXPECT(!lohandema_is_well_formed(1, key, 3, own, 3, begin, 3, NULL, 0));
     EXPECT(lohandema_depth_of(NULL, 0) == 1);
+    EXPECT(!lohandema_find_node(1, NULL, 0, 0, &start) && start == 0);
+    EXPECT(!lohandema_is_leaf(NULL, 0, 0) && !lohandema_is_leaf(NULL, 0, 1) && !lohandema_is_leaf(NULL, 0, SIZE_MAX));
+    EXPECT(lohandema_next_of_level(NULL, 0, 0, 0) == 0 && lohandema_next_of_level(NULL, 0, 1, SIZE_MAX) == 0);
+    EXPECT(lohandema_is_arrangement(NULL, 0, 0) && !lohandema_is_arrangement(NULL, 0, 1));
+    start = 7;
     EXPECT(lohandema_leaf_sources(NULL, 0, NULL, 0, NULL, 0, 0, &start) == 0 && start == 0);
     EXPECT(lohandema_leaf_sources(own, 3, begin, 3, NULL, 0, 1, &start) == 0 && start == 0);
     EXPECT(lohandema_leaf_sources(own, 3, NULL, 0, begin, 3, 1, &start) == 0 && start == 0);
@@ -163,6 +168,25 @@ static void lists(void)
     EXPECT(u == 0 && v == 0);
 }
 
+static void list_sizes(void)
+{
+    uint64_t row[4] = {7, 7, 7, 7};
+    size_t work[4] = {7, 7, 7, 7}, u = 7, v = 7;
+    ENDED(lohandema_get_list_sizes(1, NO_COLUMNS, NULL, 0, NULL, 0, &u, &v), LOHANDEMA_TREE, 0);
+    EXPECT(u == 0 && v == 0);
+    ENDED(lohandema_get_list_sizes(1, NULL, 0, own, 3, begin, 3, total, 3, work, 4, row, 4, &u, &v), LOHANDEMA_TREE, 0);
+    EXPECT(all_zero(work, sizeof work) && all_zero(row, sizeof row));
+    ENDED(lohandema_get_list_sizes(1, key, 3, NULL, 0, begin, 3, total, 3, work, 4, row, 4, &u, &v), LOHANDEMA_TREE, 0);
+    ENDED(lohandema_get_list_sizes(1, key, 3, own, 3, NULL, 0, total, 3, work, 4, row, 4, &u, &v), LOHANDEMA_TREE, 0);
+    ENDED(lohandema_get_list_sizes(1, key, 3, own, 3, begin, 3, NULL, 0, work, 4, row, 4, &u, &v), LOHANDEMA_TREE, 0);
+    row[0] = work[0] = 7;
+    ENDED(lohandema_get_list_sizes(1, COLUMNS, NULL, 0, row, 4, &u, &v), LOHANDEMA_ROOM, LOHANDEMA_ROOM_WORK);
+    ENDED(lohandema_get_list_sizes(1, COLUMNS, work, 4, NULL, 0, &u, &v), LOHANDEMA_ROOM, LOHANDEMA_ROOM_WORK);
+    EXPECT(all_zero(work, sizeof work) && all_zero(row, sizeof row) && u == 0 && v == 0);
+    ENDED(lohandema_get_list_sizes(1, COLUMNS, work, 4, row, 4, &u, &v), 0, 0);
+    EXPECT(u == 4 && v == 0);
+}
+
 static void near_work(void)
 {
     uint64_t work = 7;
@@ -187,10 +211,50 @@ static void near_work(void)
     EXPECT(work == 4 && counts[0] == 0 && counts[1] == 1 && counts[2] == 1 && counts[3] == 0);
 }
 
+/* The root alone, whose file has eight bytes of keys, three numbers for it, two starts for each list, and the trailer; then the
+ * halves with each slice in turn left out. */
+static void files(void)
+{
+    const uint64_t near_keys[4] = {1, 32769, 1, 32769};
+    const size_t starts[2] = {0, 0}, u_starts[4] = {0, 0, 2, 4}, v_starts[4] = {0, 0, 0, 0}, order[2] = {0, 1};
+    uint8_t file[256];
+    size_t written = 7;
+    memset(file, 7, sizeof file);
+    ENDED(lohandema_write_tree(1, NO_COLUMNS, NULL, 0, NULL, 0, NULL, 0, NULL, 0, NULL, 0, NULL, 0, &written), LOHANDEMA_TREE, 0);
+    EXPECT(written == 0);
+    ENDED(lohandema_write_tree(1, ROOT, NULL, 0, starts, 2, NULL, 0, starts, 2, NULL, 0, NULL, 0, &written), LOHANDEMA_ROOM,
+          LOHANDEMA_ROOM_FILE);
+    EXPECT(written == 0);
+    ENDED(lohandema_write_tree(1, ROOT, NULL, 0, starts, 2, NULL, 0, starts, 2, NULL, 0, file, sizeof file, &written), 0, 0);
+    EXPECT(written == 8 + 4 * (3 + 2 + 2) + 116 && all_zero(file + written, sizeof file - written));
+    ENDED(lohandema_write_tree(1, COLUMNS, order, 2, u_starts, 4, near_keys, 4, v_starts, 4, NULL, 0, file, sizeof file, &written),
+          0, 0);
+    EXPECT(written == 8 * (3 + 4) + 4 * (9 + 2 + 8) + 116);
+    ENDED(lohandema_write_tree(1, COLUMNS, NULL, 0, u_starts, 4, near_keys, 4, v_starts, 4, NULL, 0, file, sizeof file, &written),
+          LOHANDEMA_SECTION, 0);
+    EXPECT(written == 0 && all_zero(file, sizeof file));
+    ENDED(lohandema_write_tree(1, COLUMNS, order, 2, NULL, 0, near_keys, 4, v_starts, 4, NULL, 0, file, sizeof file, &written),
+          LOHANDEMA_SECTION, 0);
+    ENDED(lohandema_write_tree(1, COLUMNS, order, 2, u_starts, 4, NULL, 0, v_starts, 4, NULL, 0, file, sizeof file, &written),
+          LOHANDEMA_SECTION, 0);
+    ENDED(lohandema_write_tree(1, COLUMNS, order, 2, u_starts, 4, near_keys, 4, NULL, 0, NULL, 0, file, sizeof file, &written),
+          LOHANDEMA_SECTION, 0);
+    ENDED(lohandema_write_tree(1, key, 3, NULL, 0, begin, 3, total, 3, order, 2, u_starts, 4, near_keys, 4, v_starts, 4, NULL, 0,
+                               file, sizeof file, &written),
+          LOHANDEMA_TREE, 0);
+    ENDED(lohandema_write_tree(1, key, 3, own, 3, NULL, 0, total, 3, order, 2, u_starts, 4, near_keys, 4, v_starts, 4, NULL, 0,
+                               file, sizeof file, &written),
+          LOHANDEMA_TREE, 0);
+    ENDED(lohandema_write_tree(1, key, 3, own, 3, begin, 3, NULL, 0, order, 2, u_starts, 4, near_keys, 4, v_starts, 4, NULL, 0,
+                               file, sizeof file, &written),
+          LOHANDEMA_TREE, 0);
+}
+
 /* The extents of lohandema_calculate_tree_center_and_radius are tried with the points. */
 static void sums(void)
 {
     const size_t starts[2] = {0, 0};
+    const int64_t readings[2] = {1, 2};
     int64_t near = 7, far = 7;
     size_t leaves = 7, additions = 7;
     uint64_t work[1] = {7};
@@ -199,6 +263,15 @@ static void sums(void)
     EXPECT(right);
     ENDED(lohandema_lists_right(1, ROOT, NULL, 0, NULL, 0, NULL, 0, NULL, 0, &right), 0, 0);
     EXPECT(!right);
+    right = true;
+    ENDED(lohandema_lists_right(1, NO_COLUMNS, NULL, 0, NULL, 0, NULL, 0, NULL, 0, &right), LOHANDEMA_TREE, 0);
+    EXPECT(!right);
+    ENDED(lohandema_sum_check(1, NO_COLUMNS, NULL, 0, NULL, 0, NULL, 0, NULL, 0, NULL, 0, NULL, 0, 0, &near, &far, &additions),
+          LOHANDEMA_TREE, 0);
+    ENDED(lohandema_sum_check(1, COLUMNS, NULL, 0, NULL, 0, NULL, 0, NULL, 0, NULL, 0, NULL, 0, 1, &near, &far, &additions),
+          LOHANDEMA_SHAPE, 0);
+    ENDED(lohandema_sum_check(1, COLUMNS, NULL, 0, readings, 2, NULL, 0, NULL, 0, NULL, 0, NULL, 0, 1, &near, &far, &additions),
+          LOHANDEMA_NOTBUILT, 0);
     ENDED(lohandema_sum_check(1, ROOT, NULL, 0, NULL, 0, starts, 2, NULL, 0, starts, 2, NULL, 0, 0, &near, &far, &additions),
           LOHANDEMA_NOTLEAF, 0);
     EXPECT(near == 0 && far == 0 && additions == 0);
@@ -267,7 +340,9 @@ void test_null(void)
     lookups();
     groups_and_cells();
     lists();
+    list_sizes();
     near_work();
+    files();
     sums();
     balancing();
 }
