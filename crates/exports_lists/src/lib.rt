@@ -76,7 +76,6 @@ pub extern "C" fn lohandema_get_interaction_lists(
     tell_lists(answer, u, v)
 }
 
-// Near work of a tree with targets, or with its sources as targets where there are none; the counts are left as the targets of each node.
 // How many keys both lists have, with no list.
 #[no_mangle]
 pub extern "C" fn lohandema_get_list_sizes(
@@ -103,6 +102,7 @@ pub extern "C" fn lohandema_get_list_sizes(
     tell_lists(answer, u, v)
 }
 
+// Near work of a tree with targets, or with its sources as targets where there are none; the counts are left as the targets of each node.
 #[no_mangle]
 pub extern "C" fn lohandema_get_near_work(
     centre: &[f64; 3],
