@@ -87,7 +87,7 @@ typedef struct {
     size_t value;
 } lohandema_ended;
 
-/* The numbers. No call of this header refuses 15, which is for the listing program, as that reads files. */
+/* The numbers. No call of this header refuses 15, which is for the listing program, as it reads survey files. */
 enum {
     LOHANDEMA_DONE = 0,
     LOHANDEMA_DIMS = 1,
@@ -153,7 +153,8 @@ static inline const char *lohandema_refusal_sentence(uint64_t number)
         "the box is outside its domain: give a radius from 0.25 to 1048576 and centre coordinates of at most 16777216 in size",
         "the coordinates are not whole points, or the readings are not as many as the tree has sources: pass as many "
         "coordinates for each point as there are axes, and one reading for each source",
-        "there are more than 1048576 points or keys: pass fewer",
+        "there are more than 1048576 points or keys, or more than a tree file holds (1048576 nodes, 16777216 keys of a list, "
+        "4294967295 bytes of sections): pass fewer",
         "the order is not from 1 to 64: pass such an order, or no targets",
         "a source lies outside the box or is not a finite number, and value, axis and reason say which, where and why: "
         "enlarge the box, or mend or remove the source",

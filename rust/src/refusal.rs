@@ -79,7 +79,7 @@ impl Refusal {
     /// The coordinates are not whole points, those of a single point are not one for each axis, or the readings are not as
     /// many as the tree has sources.
     pub const SHAPE: u64 = 3;
-    /// There are more than 1,048,576 points or keys to group.
+    /// There are more than 1,048,576 points or keys to group, or more than a tree file holds.
     pub const COUNT: u64 = 4;
     /// The order is not 1 to 64, and targets are used.
     pub const ORDER: u64 = 5;
@@ -187,7 +187,9 @@ impl Refusal {
             Refusal::SHAPE => {
                 "the coordinates are not whole points, or the readings are not as many as the tree has sources: give as many coordinates for each point as there are axes, and one reading for each source"
             }
-            Refusal::COUNT => "there are more than 1048576 points or keys: hand in fewer at a time",
+            Refusal::COUNT => {
+                "there are more than 1048576 points or keys, or more than a tree file holds (1048576 nodes, 16777216 keys of a list, 4294967295 bytes of sections): hand in fewer at a time"
+            }
             Refusal::ORDER => {
                 "the order is not 1 to 64: choose one of these, or hand in no targets"
             }
