@@ -366,7 +366,7 @@ lohandema_ended lohandema_build_tree_on_grid(const double centre[3], double radi
  *   work              two entries a source
  *   new_indices       the new order column: one entry a source
  *   new_key, new_own, one entry a node of the new tree each. The shortest of the four counts, at most 1,048,576 of its entries.
- *   new_begin,        How many it has is not known before: on 8 with value 3 lend longer ones and call again.
+ *   new_begin,        It has at most 3^axes (key_len - 1) + 1 nodes, so that as many entries, or 1,048,576, are always enough.
  *   new_total
  * nodes and depth: those of the new tree. Refused 1, 2, 3, 4, 13, 19 (a cell has some of its children and not all), 6, 18 (a
  * point is in no leaf, or own and indices are not those that the points give), 8 (1 work, 2 new_indices, 3 new columns). */

@@ -78,11 +78,7 @@ def more(room):
     return min(4 * max(room, 16), MOST_KEYS)
 
 
-def balanced(nodes):
-    """How many nodes the balanced tree of one of so many nodes may have: a first guess."""
-    return min(2 * nodes + 64, MOST_NODES)
-
-
-def more_nodes(room):
-    """Four times the room for nodes, for a guess that was short."""
-    return min(4 * room, MOST_NODES)
+def balanced(axes, nodes):
+    """The most nodes that the balanced tree of one of so many nodes can have. A cell that is split there is split in the given
+    tree or touches one of its level that is, so there are at most 3 ** axes times as many."""
+    return min(3 ** axes * max(nodes - 1, 0) + 1, MOST_NODES)

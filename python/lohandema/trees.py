@@ -114,14 +114,7 @@ class Tree:
         """
         sources = Points(points, self.box.axes)
         with telling(progress, "the balanced tree of %d points" % sources.rows):
-            nodes = room.balanced(len(self))
-            while True:
-                try:
-                    return self._balanced(sources, nodes)
-                except Refused as refused:
-                    if (refused.number, refused.value) != (8, 3) or nodes == room.MOST_NODES:
-                        raise
-                nodes = room.more_nodes(nodes)
+            return self._balanced(sources, room.balanced(self.box.axes, len(self)))
 
     def _balanced(self, sources, nodes):
         """With room for so many nodes."""

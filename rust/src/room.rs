@@ -143,18 +143,13 @@ pub(crate) fn file(tree: &Tree, lists: &Lists) -> usize {
     8 * keys.iter().sum::<usize>() + 4 * numbers.iter().sum::<usize>() + 9 * 12 + 8
 }
 
-/// How many nodes the balanced tree of one of so many nodes may have: a first guess.
-pub(crate) fn balanced(nodes: usize) -> usize {
-    nodes.saturating_mul(2).saturating_add(64).min(MOST_NODES)
+/// The most nodes that the balanced tree of one of so many nodes can have. A cell that is split there is split in the given
+/// tree or touches one of its level that is, so there are at most 3^axes times as many.
+pub(crate) fn balanced(axes: usize, nodes: usize) -> usize {
+    let times = [1, 3, 9, 27][axes.min(3)];
+    let below = nodes.saturating_sub(1).saturating_mul(times);
+    below.saturating_add(1).min(MOST_NODES)
 }
-
-/// Four times the room for nodes, for a guess that was short.
-pub(crate) fn more_nodes(room: usize) -> usize {
-    room.saturating_mul(4).min(MOST_NODES)
-}
-
-/// What says that the node columns were short.
-pub(crate) const NODES_SHORT: Refusal = Refusal::new(Refusal::ROOM, 3);
 
 /// What says that the U keys were short, and the V keys.
 pub(crate) const U_SHORT: Refusal = Refusal::new(Refusal::ROOM, 6);

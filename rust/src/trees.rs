@@ -2,7 +2,7 @@
 
 use crate::keys;
 use crate::lent::{self, Asked, Columns, Grid};
-use crate::limits::{MOST_KEYS, MOST_NODES};
+use crate::limits::MOST_KEYS;
 use crate::points::Bounds;
 use crate::refusal::Refusal;
 use crate::{raw, room};
@@ -140,33 +140,31 @@ impl Tree {
     pub fn balanced(&self, points: &[f64]) -> Result<Tree, Refusal> {
         let rows = room::rows(self.axes(), points.len());
         let (mut work, mut order) = (vec![0; 2 * rows], vec![0; rows]);
-        let mut room = room::balanced(self.key.len());
-        loop {
-            let (mut key, mut own) = (vec![0; room], vec![0; room]);
-            let (mut begin, mut total) = (vec![0; room], vec![0; room]);
-            let written = lent::balance_tree(
-                &self.bounds,
-                points,
-                self.columns(),
-                &self.order,
-                &mut work,
-                &mut order,
-                &mut key,
-                &mut own,
-                &mut begin,
-                &mut total,
-            );
-            match written {
-                Ok((nodes, _)) => {
-                    let (key, own) = (room::cut(key, nodes), room::cut(own, nodes));
-                    let (begin, total) = (room::cut(begin, nodes), room::cut(total, nodes));
-                    let bounds = self.bounds;
-                    return Ok(Tree::from_columns(bounds, key, own, begin, total, order));
-                }
-                Err(room::NODES_SHORT) if room < MOST_NODES => room = room::more_nodes(room),
-                Err(refusal) => return Err(refusal),
-            }
-        }
+        let room = room::balanced(self.axes(), self.key.len());
+        let (mut key, mut own) = (vec![0; room], vec![0; room]);
+        let (mut begin, mut total) = (vec![0; room], vec![0; room]);
+        let (nodes, _) = lent::balance_tree(
+            &self.bounds,
+            points,
+            self.columns(),
+            &self.order,
+            &mut work,
+            &mut order,
+            &mut key,
+            &mut own,
+            &mut begin,
+            &mut total,
+        )?;
+        let (key, own) = (room::cut(key, nodes), room::cut(own, nodes));
+        let (begin, total) = (room::cut(begin, nodes), room::cut(total, nodes));
+        Ok(Tree::from_columns(
+            self.bounds,
+            key,
+            own,
+            begin,
+            total,
+            order,
+        ))
     }
 
     /// The tree of these columns, as they are.
