@@ -60,7 +60,7 @@ root-above d keys t k lf =
     S.split-over d keys t 0 k (root-cell d k (t .sound k (f .mem))) (f .mem) (deep d keys t k (f .mem) (f .below))
 
 module _ (b : Box) (points : List Float) (keys own begin total order : List ℕ) (ok : givenCheck b points (columns keys own begin total) order ≡ Done) where
-  p : Passed b points keys own order
+  p : Passed b points keys own begin total order
   p = passed b points keys own begin total order ok
 
   first-held : 0 < length (codesOf b points) → isGiven (b .axes) keys own order (codesOf b points) ≡ true → held (b .axes) keys (getD (codesOf b points) 0 0) ≡ true

@@ -7,7 +7,7 @@ use Prim.Native.Nat.{ℕ, suc, _+_, _*_, _^_, _≤_, _<_}
 use native.Mathlib.Omega.{arith}
 use lib.Dec.{eqb}
 use lib.Ieee.{Float}
-use lib.ListN.{length, getD, take, drop}
+use lib.ListN.{length, getD, take, drop, length-map}
 use lib.Seq.{ext-getD}
 use borrow.Author.Tests.{eqb-true, eq-eqb, not-false}
 use Rattle.slices.specs.Lists.{any, range, sum, Mem, Distinct}
@@ -26,6 +26,7 @@ use Rattle.laying.specs.Points.{codesOf}
 use Rattle.tree.specs.Nodes.{stored, childOf, leaf}
 use Rattle.tree.specs.Leaves.{held, leafKey, cellOf, leafLevel}
 use Rattle.tree.specs.Finding.{TreeKeys}
+use Rattle.tree.specs.Totals.{totalIn, totalColumn}
 use Rattle.tree.specs.WellFormed.{wellFormed}
 use Rattle.tree.proofs.Rules.{all-facts}
 use Rattle.tree.proofs.Stored.{stored-mem, mem-stored, distinct}
@@ -33,7 +34,7 @@ use Rattle.tree.proofs.Leaves as T
 use Rattle.growth.specs.Columns.{ownColumn, beginColumn, orderColumn}
 use Rattle.growth.proofs.Arranged.{Codes}
 use Rattle.growth.proofs.Leaves.{cell-holds}
-use Rattle.growth.proofs.Runs.{length-begin, length-own, begin-at}
+use Rattle.growth.proofs.Runs.{map-at, length-begin, length-own, begin-at}
 use Rattle.sums.specs.Tells.{Tells}
 use Rattle.sums.proofs.Tells.{tell-true, tell-false}
 use Rattle.full.specs.Full.{Full}
@@ -148,23 +149,42 @@ module _ (d : ℕ) (s keys own begin order : List ℕ) (tk : TreeKeys d keys) (b
       both (every-all (λ i. held d keys (getD s i 0)) (length s) (in-leaf leaves))
       (both (same-self own (ownColumn d keys s) os) (same-self order (orderColumn d keys s) (orders-are d s keys order tree apart q)))
 
-  pub given-right : isGiven d keys own order s ≡ true → SourcesRight d s keys own begin order
-  unfolding isGiven
-  given-right h =
-      let r = and-r (every (length s) (λ i. held d keys (getD s i 0))) _ h in
-      let os = same-lists own (ownColumn d keys s) (and-l _ _ r) in
-      let qs = same-lists order (orderColumn d keys s) (and-r (same own (ownColumn d keys s)) _ r) in
-      let leaves = leaf-in (every-at (λ i. held d keys (getD s i 0)) (length s) (and-l _ _ h)) in
-      let bg : begin ≡ beginColumn (ownColumn d keys s) = ext-getD 0 begin (beginColumn (ownColumn d keys s)) (bs .begins ∙ sym (length-begin d keys s)) (λ i l.
-      let n : i < length keys = omega (arith, l, bs .begins) in
-      bs .runs i n ∙ ap (λ (xs : List ℕ). sum (take i xs)) os ∙ sym (begin-at d keys s i (omega (arith, n, length-own d keys s)))) in
-      let p = column-points d s keys tree apart leaves in
-      subst (λ (c : List ℕ). SourcesRight d s keys own c order) (sym bg)
-      (subst (λ (o : List ℕ). SourcesRight d s keys o (beginColumn (ownColumn d keys s)) order) (sym os)
-      (subst (λ (x : List ℕ). SourcesRight d s keys (ownColumn d keys s) (beginColumn (ownColumn d keys s)) x) (sym qs) p))
+  -- given: the own counts, the order and the begins are those of the points
+  module _ (h : isGiven d keys own order s ≡ true) where
+    columns-same : (same own (ownColumn d keys s) && same order (orderColumn d keys s)) ≡ true
+    unfolding isGiven
+    columns-same = and-r (every (length s) (λ i. held d keys (getD s i 0))) _ h
+
+    pub own-given : own ≡ ownColumn d keys s
+    own-given = same-lists own (ownColumn d keys s) (and-l _ _ columns-same)
+
+    pub order-given : order ≡ orderColumn d keys s
+    order-given = same-lists order (orderColumn d keys s) (and-r (same own (ownColumn d keys s)) _ columns-same)
+
+    pub begin-given : begin ≡ beginColumn (ownColumn d keys s)
+    begin-given = ext-getD 0 begin (beginColumn (ownColumn d keys s)) (bs .begins ∙ sym (length-begin d keys s)) (λ i l.
+        let n : i < length keys = omega (arith, l, bs .begins) in
+        bs .runs i n ∙ ap (λ (xs : List ℕ). sum (take i xs)) own-given ∙ sym (begin-at d keys s i (omega (arith, n, length-own d keys s))))
+
+    pub given-right : SourcesRight d s keys own begin order
+    unfolding isGiven
+    given-right =
+        let leaves = leaf-in (every-at (λ i. held d keys (getD s i 0)) (length s) (and-l _ _ h)) in
+        let p = column-points d s keys tree apart leaves in
+        subst (λ (c : List ℕ). SourcesRight d s keys own c order) (sym begin-given)
+        (subst (λ (o : List ℕ). SourcesRight d s keys o (beginColumn (ownColumn d keys s)) order) (sym own-given)
+        (subst (λ (x : List ℕ). SourcesRight d s keys (ownColumn d keys s) (beginColumn (ownColumn d keys s)) x) (sym order-given) p))
+
+-- and the totals of a well-formed tree are those of its own counts
+pub total-given : (d : ℕ) (keys own begin total : List ℕ) → wellFormed d keys own begin total ≡ true → total ≡ totalColumn d keys own
+total-given d keys own begin total w =
+    let f = all-facts d keys own begin total w in
+    ext-getD 0 total (totalColumn d keys own) (f .totals ∙ sym (length-map keys (totalIn d keys own))) (λ i l.
+    let n : i < length keys = omega (arith, l, f .totals) in
+    f .totalled i n ∙ sym (map-at (totalIn d keys own) keys i n))
 
 module _ (b : Box) (points : List Float) (keys own begin total order : List ℕ) (tk : TreeKeys (b .axes) keys) (w : wellFormed (b .axes) keys own begin total ≡ true) (all : rowsInside b points ≡ rowsOf b points) where
-  beside : Beside (b .axes) keys own begin
+  pub beside : Beside (b .axes) keys own begin
   beside = let f = all-facts (b .axes) keys own begin total w in record { owns = f .owns; begins = f .begins; inner = f .rows .inner; runs = f .rows .runs }
 
   many : length (codesOf b points) ≡ rowsOf b points

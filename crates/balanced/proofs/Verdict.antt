@@ -110,15 +110,16 @@ module _ (b : Box) (points : List Float) (keys own begin total order : List ℕ)
               all-given z = verdict true (sym given ∙ z)
 
 -- what is known where nothing is refused
-pub record Passed (b : Box) (points : List Float) (keys own order : List ℕ) : Type 0 where
+pub record Passed (b : Box) (points : List Float) (keys own begin total order : List ℕ) : Type 0 where
   pub box : Fine b
   pub few : rowsOf b points ≤ mostPoints
+  pub formed : wellFormed (b .axes) keys own begin total ≡ true
   pub tree : TreeKeys (b .axes) keys
   pub full : Full (b .axes) keys
   pub inside : rowsInside b points ≡ rowsOf b points
   pub given : isGiven (b .axes) keys own order (codesOf b points) ≡ true
 
-pub passed : (b : Box) (points : List Float) (keys own begin total order : List ℕ) → givenCheck b points (columns keys own begin total) order ≡ Done → Passed b points keys own order
+pub passed : (b : Box) (points : List Float) (keys own begin total order : List ℕ) → givenCheck b points (columns keys own begin total) order ≡ Done → Passed b points keys own begin total order
 unfolding givenCheck
 passed b points keys own begin total order e =
     let p4 = both-done _ (ask (isGiven (b .axes) keys own order (codesOf b points)) NotBuilt) e in
@@ -126,10 +127,12 @@ passed b points keys own begin total order e =
     let p2 = both-done _ (ask (isFull (b .axes) keys) Partial) (p3 .0) in
     let p1 = both-done (shapeOutcome b (length points)) (ask (wellFormed (b .axes) keys own begin total) Tree) (p2 .0) in
     let f = shape-fine b (length points) (p1 .0) in
+    let formed = asked (wellFormed (b .axes) keys own begin total) Tree (p1 .1) in
     record {
       box = f .0;
       few = f .1;
-      tree = R.tree-keys (b .axes) keys own begin total (axes-known (b .axes) (f .0 .least) (f .0 .most)) (asked (wellFormed (b .axes) keys own begin total) Tree (p1 .1));
+      formed = formed;
+      tree = R.tree-keys (b .axes) keys own begin total (axes-known (b .axes) (f .0 .least) (f .0 .most)) formed;
       full = test-full (b .axes) keys (asked (isFull (b .axes) keys) Partial (p2 .1));
       inside = eqb-true (rowsInside b points) (rowsOf b points) (asked (eqb (rowsInside b points) (rowsOf b points)) (Source (wallOf b points)) (p3 .1));
       given = asked (isGiven (b .axes) keys own order (codesOf b points)) NotBuilt (p4 .1);
