@@ -17,8 +17,10 @@ use Rattle.morton.specs.Keys.{levelOf, parent}
 use Rattle.morton.proofs.Checks.{valid-facts}
 use Rattle.morton.proofs.Cells.{level-parent}
 use Rattle.tree.specs.Finding.{TreeKeys}
+use Rattle.tree.specs.Order.{greatestLevel, depthOf}
 use Rattle.tree.proofs.Rules.{ascend-facts}
 use Rattle.tree.proofs.Stored.{parent-mem}
+use Rattle.tree.proofs.Leaves.{level-greatest, greatest-le}
 use Rattle.tree.proofs.Leaves as T
 use Rattle.balance.specs.Meeting.{Reaches, meets}
 use Rattle.balance.specs.Balance.{Tree, Contains, Balanced, Balances}
@@ -81,6 +83,17 @@ no-deeper d keys result t r k m = go (decLt 0 (levelOf k))
         let (p, mp, l) = must-level d keys t (parent d k) (b .must) in
         (p, mp, omega (arith, level-parent d k))
     go (no n) = (0, t .root, omega arith)
+
+-- so the depth stays what it was
+pub as-deep : (d : ℕ) (keys result : List ℕ) → Tree d keys → Balances d keys result → depthOf result ≡ depthOf keys
+as-deep d keys result t r =
+    omega (arith, greatest-le result (greatestLevel keys) (λ i l. down (getD result i 0) (i, l, refl)), greatest-le keys (greatestLevel result) (λ i l. level result (getD keys i 0) (r .contains (getD keys i 0) (i, l, refl))))
+  where
+    level : (xs : List ℕ) (k : ℕ) → Mem k xs → levelOf k ≤ greatestLevel xs
+    level xs k (i, l, e) = subst (λ (j : ℕ). levelOf j ≤ greatestLevel xs) e (level-greatest xs i l)
+
+    down : (k : ℕ) → Mem k result → levelOf k ≤ greatestLevel keys
+    down k m = let (p, mp, h) = no-deeper d keys result t r k m in omega (arith, h, level keys p mp)
 
 -- ---- it has the fewest cells
 

@@ -15,6 +15,7 @@ use Rattle.space.specs.Rows.{rowsOf}
 use Rattle.space.proofs.Batches.{codes-length}
 use Rattle.laying.specs.Points.{codesOf}
 use Rattle.tree.specs.Columns.{Columns, columns}
+use Rattle.tree.specs.Order.{depthOf}
 use Rattle.tree.specs.Totals.{totalColumn}
 use Rattle.tree.specs.WellFormed.{wellFormed, Run}
 use Rattle.tree.proofs.Verdict.{formed-of}
@@ -64,6 +65,10 @@ module _ (b : Box) (points : List Float) (keys own begin total order : List ℕ)
   -- it contains all cells of the given tree, is balanced, and every tree with these properties contains it
   pub is-least : Balances (b .axes) keys (newKeys b points (columns keys own begin total) order)
   is-least = B.balances-depth-first (b .axes) keys (B.tree-of (b .axes) keys (keys-known b points keys own begin total order ok))
+
+  -- it is as deep as the given tree
+  pub as-deep : depthOf (newKeys b points (columns keys own begin total) order) ≡ depthOf keys
+  as-deep = B.as-deep (b .axes) keys (newKeys b points (columns keys own begin total) order) (B.tree-of (b .axes) keys (keys-known b points keys own begin total order ok)) is-least
 
   -- a balanced tree comes back the same
   pub comes-back : Balanced (b .axes) keys → newKeys b points (columns keys own begin total) order ≡ keys
