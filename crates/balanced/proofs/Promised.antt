@@ -2,13 +2,16 @@
 use mathlib.Core.Path.{_≡_, sym, ap, ap₂, _∙_}
 use mathlib.Core.Bool.{true}
 use mathlib.Core.List.{List}
-use Prim.Native.Nat.{ℕ, _≤_}
+use Prim.Native.Nat.{ℕ, _≤_, _<_}
 use native.Mathlib.Omega.{arith}
+use lib.Dec.{eqb}
 use lib.Ieee.{Float}
-use lib.ListN.{length}
+use lib.ListN.{length, getD}
+use borrow.Author.Tests.{eqb-true}
 use Rattle.refusal.specs.declared.Outcome.the-variants.{Done}
 use Rattle.slices.specs.Lists.{range}
 use Rattle.slices.specs.Order.{ascending}
+use Rattle.slices.proofs.Counts.{pos-count}
 use Rattle.space.specs.declared.Box.{Box}
 use Rattle.space.specs.Cells.{frameOf}
 use Rattle.space.specs.Rows.{rowsOf}
@@ -23,7 +26,8 @@ use Rattle.rows.specs.Demand3.{Runs, Once, Near, Far, Few}
 use Rattle.rows.specs.Lists.{uRow, vRow}
 use Rattle.rows.proofs.Demand3.{demand-3}
 use Rattle.growth.specs.Columns.{ownColumn, beginColumn, orderColumn}
-use Rattle.growth.proofs.Runs.{Placed, placed}
+use Rattle.growth.proofs.Arranged.{once-times}
+use Rattle.growth.proofs.Runs.{Placed, placed, own-order}
 use Rattle.balance.specs.Balance.{Tree, Contains, Balanced, Balances}
 use Rattle.balance.proofs.Balance as B
 use Rattle.balance.proofs.Columns as C
@@ -119,3 +123,13 @@ module _ (b : Box) (points : List Float) (keys own begin total order : List ℕ)
       let whole = demand-3 (b .axes) _ (newOwn b points (columns keys own begin total) order) (newBegins b points (columns keys own begin total) order)
       (formed-of (b .axes) _ _ _ (newTotals b points (columns keys own begin total) order) well-formed) (s .tree .axes) in
       record { runs = whole .0; once = whole .1; near = whole .2; far = whole .3; few = whole .4 }
+
+  -- and each point has a place in the run of a leaf
+  pub has-place : (x : ℕ) → x < length (codesOf b points)
+      → (j : ℕ) × (p : ℕ) × Run (newOwn b points (columns keys own begin total) order) (newBegins b points (columns keys own begin total) order) j p × (getD (newOrder b points (columns keys own begin total) order) p 0 ≡ x)
+  has-place x h =
+      let cells = newKeys b points (columns keys own begin total) order in
+      let one = once-times (b .axes) cells (codesOf b points) (settles b points keys own begin total order ok .once) x h in
+      let r = pos-count (λ y. eqb y x) (newOrder b points (columns keys own begin total) order) (omega (arith, one)) in
+      let (j, run) = meets-demand-3 .runs .one (r .1 .0) (omega (arith, r .1 .1, own-order (b .axes) cells (codesOf b points))) in
+      (j, r .1 .0, run, r .1 .2 ∙ eqb-true (r .0) x (r .2))
