@@ -14,6 +14,9 @@ PAGE_WIDTH = LEGEND + 400
 # A mark's radius where there is room, the least one that has an outline, the least one, and a radius as part of the way
 # from reading to reading
 MARK, OUTLINED_MARK, LEAST_MARK, MARK_PART = 3.6, 1.4, 0.9, 0.42
+# So many readings around a patch are each measured; where there are more, squares of this side are looked at, across which
+# it is less far than between readings with the least marks, and at most three readings of each
+FEW, SQUARE = 64, 1.5
 
 # Orange and yellow against blues of different lightness, which the usual kinds of colour blindness leave apart; what the
 # balancing adds is pale green
@@ -143,11 +146,37 @@ def mark_radii(spots):
         patches.setdefault(place, []).append(i)
     around = {(across, up): [i for a in (-1, 0, 1) for b in (-1, 0, 1) for i in patches.get((across + a, up + b), [])]
               for across, up in patches}
+    squares = {}
+    for spot in spots:
+        some = squares.setdefault(square_of(spot), [])
+        if len(some) < 3:
+            some.append(spot)
     # the nearest to a reading is the reading itself
     ways = [(heapq.nsmallest(3, (math.dist(spot, spots[i]) for i in around[place])) + [reach] * 2)[2]
-            for spot, place in zip(spots, places)]
+            if len(around[place]) <= FEW else way_in_squares(squares, spot, reach) for spot, place in zip(spots, places)]
     middle = {place: statistics.median(ways[i] for i in some) for place, some in around.items()}
     return [max(LEAST_MARK, MARK * min(1, middle[place] / reach)) for place in places]
+
+
+def square_of(spot):
+    return math.floor(spot[0] / SQUARE), math.floor(spot[1] / SQUARE)
+
+
+def way_in_squares(squares, spot, reach):
+    """How far it is to the second nearest of many readings, at most the reach: the squares around are looked at from the
+    inner ones to the outer ones, and no further than needed. Of a full square it is its diagonal, which gives the least mark."""
+    across, up = square_of(spot)
+    if len(squares[across, up]) == 3:
+        return SQUARE * math.sqrt(2)
+    ways = []
+    for ring in range(math.ceil(reach / SQUARE) + 1):
+        for a in range(-ring, ring + 1):
+            for b in range(-ring, ring + 1) if abs(a) == ring else (-ring, ring):
+                ways += [math.dist(spot, other) for other in squares.get((across + a, up + b), ())]
+        ways.sort()
+        if len(ways) > 2 and ways[2] <= ring * SQUARE:
+            break
+    return min(reach, (ways + [reach] * 2)[2])
 
 
 def line_width(rect, most):

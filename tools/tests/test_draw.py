@@ -1,7 +1,10 @@
 """draw: the samples, each leaf's rows, each cell's readings, slices, marks, listings with a fault, and bad input."""
 
 import math
+import random
 import re
+import statistics
+import time
 import xml.etree.ElementTree as xml
 from collections import Counter
 from types import SimpleNamespace
@@ -9,7 +12,7 @@ from types import SimpleNamespace
 import survey_file as house
 from common import ToolTest
 from listing_file import read_listing
-from page import MARK, Plan, Rows, mark_radii
+from page import LEAST_MARK, MARK, MARK_PART, Plan, Rows, mark_radii
 from picture import Picture
 
 # how each sample picture is made; samples/README.md says the same
@@ -204,6 +207,18 @@ class Draw(ToolTest):
         for i in range(199):
             self.assertLess(radii[i] + radii[i + 1], math.dist(line[i], line[i + 1]))
         self.assertEqual(mark_radii([]), [])
+
+    def test_many_marks(self):
+        """Where readings lie close together, or at one place, their marks are the least, and take no longer to work out."""
+        made = random.Random(1)
+        started = time.process_time()
+        for spots in ([(300.0, 300.0)] * 50000, [(made.gauss(300, 2), made.gauss(300, 2)) for _ in range(50000)]):
+            radii = mark_radii(spots)
+            self.assertEqual(statistics.median(radii), LEAST_MARK)
+        self.assertLess(time.process_time() - started, 20)
+        # a lattice of some hundred marks to a patch has the radius of its ways
+        lattice = [(100 + 3 * i, 100 + 3 * j) for i in range(40) for j in range(40)]
+        self.assertAlmostEqual(mark_radii(lattice)[820], 3 * MARK_PART)
 
     def test_default_slice(self):
         """Three axes: without a coordinate the slice goes through a reading, and cuts the chosen leaf."""
