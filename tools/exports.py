@@ -49,8 +49,8 @@ def write_vtk(inspection):
 
 
 def title(name):
-    """A line of at most 255 characters, as VTK has it."""
-    return ("cells and readings of " + " ".join(name.split()))[:255]
+    """A line of at most 255 characters of ASCII, as VTK has it."""
+    return ("cells and readings of " + " ".join(name.split())).encode("ascii", "replace")[:255].decode()
 
 
 def place(point):

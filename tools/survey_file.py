@@ -2,12 +2,15 @@
 
 import math
 import os
+import re
 import struct
 from dataclasses import dataclass
 
 MOST_BYTES = 32768
 DEEPEST = 16
 AXIS_NAMES = "xyz"
+# a line of text ends so: as on Unix, on Windows, or as old Macintosh programs wrote it
+LINE_END = re.compile("\r*\n|\r")
 # axes, flags, limit, order; centre of three, radius; way back to the sources, their count, the same for the targets
 TRAILER = struct.Struct("<4I4d4I")
 
@@ -44,6 +47,11 @@ def write_bytes(path, data):
         raise Refused("%s: %s" % (path, error.strerror))
 
 
+def write_text(path, text):
+    """Text as UTF-8; what stands for a byte of a file's name that is no letter becomes a question mark."""
+    write_bytes(path, text.encode(errors="replace"))
+
+
 def check_apart(out, others):
     """That a file to be written is none of the others."""
     for other in others:
@@ -57,9 +65,9 @@ def read_lines(path):
     try:
         text = data.decode("utf-8-sig")
     except UnicodeDecodeError as error:
-        line = data.count(b"\n", 0, error.start) + 1
-        raise Refused("%s: line %d: not UTF-8 text; save the file as UTF-8" % (path, line))
-    return list(enumerate(text.split("\n"), 1))
+        before = data[:error.start].decode("utf-8-sig")
+        raise Refused("%s: line %d: not UTF-8 text; save the file as UTF-8" % (path, len(LINE_END.split(before))))
+    return list(enumerate(LINE_END.split(text), 1))
 
 
 # The file
@@ -127,6 +135,18 @@ def box_from_extents(lows, highs):
     centre = tuple((low + high) / 2.0 for low, high in zip(floors, ceilings))
     radius = max((high - low) / 2.0 for low, high in zip(floors, ceilings)) + 1e-3
     return centre, radius
+
+
+def order_fault(order):
+    """Why an order of the expansions is none, or None."""
+    return None if 1 <= order <= 64 else "--order %d is not from 1 to 64; give one that is" % order
+
+
+def extents_cure(radius):
+    """What to do where the box from the extents, of such a radius, is outside its domain."""
+    if radius < 0.25:
+        return "the rows are one point, which has no size; give the box with --centre and --radius"
+    return "shift and scale the coordinates into that domain"
 
 
 def axis_anchor(centre, radius, coordinate):

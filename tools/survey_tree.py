@@ -2,6 +2,7 @@
 
 import array
 import importlib.util
+import itertools
 import math
 import os
 import sys
@@ -92,6 +93,8 @@ def read_file(path):
 
 
 def read_csv(options):
+    if house.order_fault(options.order):
+        raise Refused(house.order_fault(options.order))
     axes = len(options.centre) if options.centre else options.grid.axes if options.grid else None
     sources = read_table(options.readings, options.columns, axes, "--columns")
     targets = grid_table(options.grid)
@@ -137,6 +140,8 @@ def lists_of(survey):
     else:
         targets = ends = rows_of(survey.targets, survey.axes)
         used = {"targets": targets, "order": survey.order} if survey.targets and survey.keep_empty else {}
+    if not survey.centre:
+        check_extents(survey)
     try:
         box = lohandema.Box(survey.centre, survey.radius) if survey.centre else lohandema.Box.around(sources, ends)
         tree = lohandema.Tree.build(sources, box, limit=survey.limit, keep_empty=survey.keep_empty, progress=True, **used)
@@ -154,6 +159,19 @@ def lists_of(survey):
     survey.told = ["%s: centre %s, radius %r" % (line, comma(box.centre), box.radius) if line.startswith("box ") else line
                    for line in survey.told]
     return lists, at_fault
+
+
+def check_extents(survey):
+    """That the rows, where they are finite, have a box of their extents."""
+    corners = survey.targets.corners() if isinstance(survey.targets, Grid) else survey.targets
+    rows = list(survey.sources) + list(corners)
+    if not rows or not all(map(math.isfinite, itertools.chain.from_iterable(rows))):
+        return
+    centre, radius = house.box_from_extents([min(axis) for axis in zip(*rows)], [max(axis) for axis in zip(*rows)])
+    fault = house.box_fault(centre, radius)
+    if fault:
+        raise Refused("%s: the box from the extents is outside its domain: %s; %s"
+                      % (survey.name, fault, house.extents_cure(radius)))
 
 
 class Made(Listing):

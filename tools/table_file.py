@@ -135,6 +135,12 @@ def check_whole(path, line, first, axes, option, has_header):
     if len(first) > 3:
         raise Refused("%s: line %d: %d columns, but at most 3 axes; say which are the axes, as %s=1,2"
                       % (path, line, len(first), option))
+    names = [name.lower() for name in first]
+    twice = [i for i, name in enumerate(names, 1) if has_header and name in names[:i - 1]]
+    if twice:
+        others = ",".join(str(i) for i in range(1, len(first) + 1) if i not in twice)
+        raise Refused("%s: line %d: columns %d and %d are both called %r; say which are the axes, as %s=%s" % (
+            path, line, names.index(names[twice[0] - 1]) + 1, twice[0], first[twice[0] - 1], option, others))
 
 
 def example(first, axes):

@@ -190,6 +190,26 @@ class Inspect(unittest.TestCase):
         self.assertEqual(result.returncode, 1)
         self.assertRegex(result.stderr, r"^inspect: standard output: .*\n$")
 
+    def test_letters(self):
+        """Names and headers with letters that standard output or UTF-8 cannot take, and no standard output at all."""
+        inspect, draw = [[sys.executable, "-B", os.path.join(ROOT, "tools", name)] for name in ("inspect", "draw")]
+        name = os.path.join(os.fsencode(self.folder.name), b"a\xff.csv")
+        with open(name, "wb") as file:
+            file.write("x,\u03a9\n1,2\n3,4\n".encode())
+        latin = {**os.environ, "PYTHONIOENCODING": "latin-1"}
+        chosen = ["--columns=1,2"]
+        told = subprocess.run(inspect + [name] + chosen + ["--vtk", self.path("v"), "--svg", self.path("s")], capture_output=True,
+                              env=latin)
+        self.assertEqual((told.returncode, told.stderr), (0, b""))
+        self.assertIn(b"a?.csv: x is x (column 1), y is ? (column 2)", told.stdout)
+        self.assertEqual(subprocess.run(draw + [name] + chosen + ["-o", self.path("d")]).returncode, 0)
+        for made in ("v", "s", "d"):
+            with open(self.path(made), "rb") as file:
+                self.assertIn(b"a?.csv", file.read())
+        closed = subprocess.run(["sh", "-c", 'exec "$@" >&-', "sh"] + inspect + [name] + chosen, stderr=subprocess.PIPE, text=True)
+        self.assertEqual((closed.returncode, closed.stderr),
+                         (1, "inspect: standard output: it is closed; the files that were asked for are written\n"))
+
     def test_bad(self):
         self.write("a.csv", "x,y\n1,2\n\n3,nan\n")
         self.refused("a.csv: line 4: 3.0,nan is not a finite number on axis 1, counted from 0; mend the line", "a.csv")
@@ -199,10 +219,13 @@ class Inspect(unittest.TestCase):
         self.refused("b.csv: line 3: source 1 lies above the box on axis 1: enlarge the box", "b.csv", "--centre=4,4",
                      "--radius=4")
         self.write("c.csv", "x,y\n1,2\n")
-        self.refused("c.csv: the box is outside its domain", "c.csv")
+        self.refused("c.csv: the box from the extents is outside its domain: radius 0.001 is not from 0.25 to 1048576; the rows "
+                     "are one point, which has no size; give the box with --centre and --radius", "c.csv")
+        self.write("d.csv", "x,y\n1,2\n3000000,2\n")
+        self.refused("radius 1499999.501 is not from 0.25 to 1048576; shift and scale the coordinates", "d.csv")
         self.refused("b.csv: line 3: target or looked-up point 1 lies above the box on axis 1", "c.csv", "b.csv",
                      "--centre=4,4", "--radius=4", "--keep-empty")
-        self.refused("the order is not from 1 to 64", "c.csv", "b.csv", "--order", "65", "--keep-empty")
+        self.refused("--order 65 is not from 1 to 64", "c.csv", "b.csv", "--order", "65", "--keep-empty")
 
 
 if __name__ == "__main__":

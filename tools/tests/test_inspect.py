@@ -9,7 +9,7 @@ import xml.etree.ElementTree as xml
 
 import survey_file as house
 from common import ToolTest
-from exports import write_csv, write_geojson, write_vtk
+from exports import title, write_csv, write_geojson, write_vtk
 from histograms import histogram, page, short, step_of
 from inspection import Inspection, text
 from listing_file import read_listing
@@ -98,6 +98,11 @@ class Inspect(ToolTest):
             for block in rest.split("LOOKUP_TABLE default\n")[1:]:
                 self.assertEqual(len(block.split("SCALARS")[0].split()), int(cells))
 
+    def test_vtk_title(self):
+        """One line of ASCII, and not too long for VTK."""
+        self.assertEqual(title("a\n\u03a9\udcff.csv"), "cells and readings of a ??.csv")
+        self.assertEqual(len(title("\u03a9" * 300).encode()), 255)
+
     def test_geojson(self):
         inspection, _ = self.inspection("three-lines")
         found = json.loads("".join(write_geojson(inspection)))
@@ -161,6 +166,11 @@ class Inspect(ToolTest):
         self.refused("bad.csv: line 3: column 2: 'a' is not a number", "inspect", "bad.csv")
         self.write("bad.csv", "x,y,mag\n1,2,3\n")
         self.refused("say which are the axes", "inspect", "bad.csv")
+        self.refused("--order 65 is not from 1 to 64; give one that is", "inspect", "three-lines.csv", "--order", "65")
+        self.refused("--order 0 is not from 1 to 64; give one that is", "draw", "three-lines.csv", "--order", "0", "-o", "out")
+        self.write("bad.csv", "x,y\r1,2\r3,a\r")
+        self.refused("bad.csv: line 3: column 2: 'a' is not a number", "inspect", "bad.csv")
+        self.refused("bad.csv: line 3: column 2: 'a' is not a number", "draw", "bad.csv", "-o", "out")
         self.write("bad.csv", "")
         self.refused("bad.csv: no rows; give the box with --centre and --radius", "inspect", "bad.csv")
 

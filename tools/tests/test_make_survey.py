@@ -262,12 +262,28 @@ class MakeSurvey(ToolTest):
             "1,2\n# a note\n3,\n": "s.csv: line 3: column 2: '' is not a number",
             b"1,2\n\xff\n": "s.csv: line 2: not UTF-8 text",
             "x,y\ny,x\n": "s.csv: line 2: column 1: 'y' is not a number",
-            "1,1\n": "s.csv: the box from the extents is outside its domain: radius 0.001",
+            "1,1\n": "s.csv: the box from the extents is outside its domain: radius 0.001 is not from 0.25 to 1048576; the rows "
+                     "are one point, which has no size; give the box with --centre and --radius",
+            "1,1\n3000000,1\n": "radius 1499999.501 is not from 0.25 to 1048576; shift and scale the coordinates into that domain",
+            "17000000,1\n17000009,1\n": "shift and scale the coordinates into that domain",
+            "x,x,y\n1,2,3\n": "s.csv: line 1: columns 1 and 2 are both called 'x'; say which are the axes, as --columns=1,3",
+            "x,y,X\n1,2,3\n": "s.csv: line 1: columns 1 and 3 are both called 'X'; say which are the axes, as --columns=1,2",
+            b"1,2\r3,4\r\xff": "s.csv: line 3: not UTF-8 text",
+            "x,y\r1,2\r3,a\r": "s.csv: line 3: column 2: 'a' is not a number",
         }
         for content, message in bad.items():
             self.write("s.csv", content)
             self.refused(message, "make-survey", "s.csv", "-o", "out")
         self.refused("none.csv: No such file", "make-survey", "none.csv", "-o", "out")
+
+    def test_line_ends(self):
+        """Lines end with LF, CR LF or CR alone, and none is lost."""
+        made = set()
+        for end in ("\n", "\r\n", "\r", "\r\r\n"):
+            self.write("s.csv", end.join(["# a note", "x", "1", "2.5", ""]))
+            self.assertIn("out: 2 sources", self.done("make-survey", "s.csv", "--centre", "2", "--radius", "3", "-o", "out"))
+            made.add(self.read("out"))
+        self.assertEqual(len(made), 1)
 
     def test_refused_as_the_program_would(self):
         self.write("s.csv", "x\n1\n\n2\n8\n")
