@@ -54,14 +54,21 @@ impl TreeLists {
     /// # Errors
     /// As [`Tree::get_interaction_lists`].
     pub fn of(tree: &Tree) -> Result<TreeLists, Refusal> {
-        TreeLists::from_lists(tree, &tree.get_interaction_lists()?)
+        TreeLists::by_keys(tree, &tree.get_interaction_lists()?)
     }
 
-    /// Those of a tree and its lists, which are at hand.
+    /// Those of a tree and its lists, which are at hand. That they are this tree's is checked.
     ///
     /// # Errors
-    /// [`DIMS`](Refusal::DIMS); [`TREE`](Refusal::TREE).
+    /// [`DIMS`](Refusal::DIMS); [`TREE`](Refusal::TREE); [`NOTBUILT`](Refusal::NOTBUILT) for lists that are not the tree's.
     pub fn from_lists(tree: &Tree, lists: &Lists) -> Result<TreeLists, Refusal> {
+        if !tree.lists_right(lists)? {
+            return Err(Refusal::new(Refusal::NOTBUILT, 0));
+        }
+        TreeLists::by_keys(tree, lists)
+    }
+
+    fn by_keys(tree: &Tree, lists: &Lists) -> Result<TreeLists, Refusal> {
         let nodes = || tree.key.iter().copied().enumerate();
         let with_sources = tree.leaves()?.filter(|leaf| !leaf.sources.is_empty());
         let sourced = tree.get_sourced_cells()?.into_iter().enumerate();

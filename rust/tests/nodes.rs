@@ -126,6 +126,20 @@ fn rows_as_node_numbers() {
     }
 }
 
+/// Lists of another tree are refused, also where that one has as many nodes.
+#[test]
+fn maps_of_other_lists() {
+    let bounds = Bounds::new(&[4.0], 4.0);
+    let build = |sources: &[f64]| Tree::build(Asked::new(&bounds, sources, 1)).unwrap();
+    let tree = build(&[0.5, 1.5, 6.5]);
+    for other in [build(&[1.5, 6.5, 7.5]), build(&[0.5])] {
+        let lists = other.get_interaction_lists().unwrap();
+        assert!(TreeLists::from_lists(&other, &lists).is_ok());
+        let refusal = TreeLists::from_lists(&tree, &lists).unwrap_err();
+        assert_eq!((refusal.number, refusal.value), (Refusal::NOTBUILT, 0));
+    }
+}
+
 /// The maps hold what the columns and rows hold, and nothing else.
 #[test]
 fn maps_by_key() {
