@@ -69,6 +69,8 @@ def seen(given, name, cure):
 def check_kind(view, given, name, letters, wanted, cure):
     """That an array has entries of the kind that the calls read, in the byte order of the processor, side by side."""
     letter = view.format.lstrip("@=<>!^|")
+    if letter.startswith("Z"):
+        cure = "pass the real numbers that are meant, as those of %s.real and %s.imag" % (name, name)
     if letter not in letters or view.itemsize != 8:
         kind = getattr(given, "dtype", None)
         raise TypeError("%s holds %s, and %s is taken: %s" % (name, kind or KINDS.get(letter, letter), wanted, cure))
@@ -198,6 +200,14 @@ def three(point, axes, name):
         raise ValueError("%s has %d coordinates, and the box %d ax%ss: pass one for each axis"
                          % (name, len(found), axes, "i" if axes == 1 else "e"))
     return (ctypes.c_double * 3)(*found[:3]), len(found)
+
+
+def check_many(given, name, cure):
+    """That something has entries, one after the other."""
+    try:
+        iter(given)
+    except TypeError:
+        raise TypeError("%s is of type %s: pass %s" % (name, type(given).__name__, cure)) from None
 
 
 def whole(number, name, most=MOST_WHOLE):

@@ -3,8 +3,9 @@
 import ctypes
 import math
 
-from .arrays import Points, numpy, real, three, whole
+from .arrays import Points, check_many, numpy, real, three, whole
 from .library import call
+from .refusal import Refused
 
 
 class Box:
@@ -54,6 +55,7 @@ class Box:
         >>> Box.from_extents([0.2, 7.8])
         Box([4.0], 4.001)
         """
+        check_many(extents, "extents", "their numbers, the lows and then the highs, as [0.2, 7.8]")
         numbers = [real(x, "extents[%d]" % i) for i, x in enumerate(extents)]
         places = (ctypes.c_double * max(1, len(numbers)))(*numbers)
         centre, radius, axes = (ctypes.c_double * 3)(), ctypes.c_double(), ctypes.c_size_t()
@@ -80,6 +82,9 @@ class Box:
                                  % (len(corners[0][0]), len(one[0])))
         lows = [min(axis) for axis in zip(*(low for low, _ in corners))]
         highs = [max(axis) for axis in zip(*(high for _, high in corners))]
+        if list(map(math.floor, lows)) == list(map(math.ceil, highs)):
+            raise Refused(2, sentence="the points are one place, and the box of their extents has no size: give a box, as "
+                                      "box=Box(centre, radius)")
         return cls.from_extents(lows + highs)
 
     def key_of(self, point, level):
@@ -145,10 +150,17 @@ def extents(points):
         if not all(map(math.isfinite, flat)):
             lows = [math.nan]
     if not all(map(math.isfinite, lows + highs)):
-        place = next(i for i, x in enumerate(points.flat()) if not math.isfinite(x))
-        raise ValueError("%s[%d] is not a finite number on axis %d, so there is no box around it: mend or remove the point, "
-                         "or give box=" % (points.name, place // points.axes, place % points.axes))
+        place = first_not_finite(points)
+        raise ValueError("%s[%d] is not a finite number on axis %d, so there is no box around it: mend or remove the point"
+                         % (points.name, place // points.axes, place % points.axes))
     return lows, highs
+
+
+def first_not_finite(points):
+    """The place, counted in coordinates, of the first that is not finite."""
+    if numpy:
+        return int(numpy.argmin(numpy.isfinite(points.table())))
+    return bytes(map(math.isfinite, points.flat())).index(0)
 
 
 def across(table, take):

@@ -13,7 +13,7 @@ for a key that is not valid.
 
 import ctypes
 
-from .arrays import whole
+from .arrays import check_many, whole
 from .library import call
 
 MOST_KEYS = 26
@@ -95,6 +95,7 @@ def encode(anchor, level):
     >>> encode([3, 5], 3)
     1277955
     """
+    check_many(anchor, "anchor", "a list of one for each axis, as [3]")
     found = [whole(x, "anchor[%d]" % i) for i, x in enumerate(anchor)]
     key = ctypes.c_uint64()
     call("encode_morton_point", len(found), (ctypes.c_uint64 * 3)(*found[:3]), whole(level, "level"), ctypes.byref(key))

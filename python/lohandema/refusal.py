@@ -10,7 +10,8 @@ SHORT = {3: "the tree has more than 1048576 nodes: raise the limit, or thin the 
 # What the header says of 12 and 14 with `the value`
 INDEXED = {12: "no leaf holds point {0}, which is inside the box: build with keep_empty=True, or take the point out",
            14: "key {0} of those to group, or node {0} that is to be checked, is not a leaf's: pass keys that lookup in this tree "
-               "has answered, or the number of a leaf"}
+               "has answered, or the number of a leaf",
+           20: "reading {0} is over 1099511627776 (2^40) in size: mend it, or pass all readings in a larger unit"}
 
 
 class Refused(Exception):
@@ -32,10 +33,12 @@ class Refused(Exception):
     source 1 lies above the box on axis 0: enlarge the box, or mend or remove it (refused 6 SOURCE)
     """
 
-    def __init__(self, number, value=0, axis=None, reason=None):
+    def __init__(self, number, value=0, axis=None, reason=None, sentence=None):
         self.number, self.value = int(number), int(value)
         self.axis, self.reason = (int(axis or 0), int(reason)) if reason else (None, None)
-        super().__init__(self.number, self.value, self.axis, self.reason)
+        # a sentence that says more of the one call than the number does
+        self._own = sentence
+        super().__init__(self.number, self.value, self.axis, self.reason, *([sentence] if sentence else []))
 
     @property
     def name(self):
@@ -44,6 +47,8 @@ class Refused(Exception):
     @property
     def sentence(self):
         """What was wrong, and its cure."""
+        if self._own:
+            return self._own
         if self.reason and self.number in POINTS:
             return "%s %d %s on axis %d: %s" % (POINTS[self.number], self.value, words("reason_name", self.reason),
                                                 self.axis, words("reason_cure", self.reason))

@@ -3,11 +3,12 @@ most nodes that it can have, and the lists a first guess that is seldom short. r
 
 import math
 
-from .arrays import numpy
+from .arrays import flag, numpy, whole
 from .keys import reference_depth
 
 MOST_POINTS = MOST_NODES = 1048576
 MOST_KEYS = 16777216
+MOST_ORDER = 64
 DEEPEST = 16
 V_ROW = {1: 3, 2: 27, 3: 189}
 
@@ -15,7 +16,13 @@ V_ROW = {1: 3, 2: 27, 3: 189}
 def most_nodes(axes, sources, targets, limit, order, keep_empty):
     """The most nodes that a build can have, of so many sources and used targets. A cell that splits, the root apart, has more
     sources than the limit or more targets than the near limit, so that a level has only so many of them. Each has at most
-    2^axes children, and without empty cells each child has a source."""
+    2^axes children, and without empty cells each child has a source. For a number of axes other than 1 to 3 it is 0."""
+    axes, keep_empty = whole(axes, "axes"), flag(keep_empty, "keep_empty")
+    sources, targets, limit = [min(whole(number, name), MOST_POINTS) for number, name in (
+        (sources, "sources"), (targets, "targets"), (limit, "limit"))]
+    order = min(whole(order, "order"), MOST_ORDER)
+    if not 1 <= axes <= 3:
+        return 0
     splitting = sources // (limit + 1) + targets // (max(limit, order ** axes) + 1)
     split = sum(min(splitting, 1 << axes * level) for level in range(1, DEEPEST))
     children = (1 + split) << axes

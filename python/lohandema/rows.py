@@ -20,6 +20,9 @@ class Rows:
 
     def __getitem__(self, node):
         """The row of a node, as a view: nothing is copied."""
+        if not hasattr(type(node), "__index__"):
+            raise TypeError("%.60r is of type %s: pass the number of one row, or take entries[starts[n]:starts[m]] for rows n "
+                            "up to m" % (node, type(node).__name__))
         if not 0 <= node < len(self):
             raise IndexError("there is no row %d: nodes are numbered from 0 to %d" % (node, len(self) - 1))
         return self.entries[self.starts[node]:self.starts[node + 1]]

@@ -131,7 +131,9 @@ class Tree:
     @classmethod
     def from_columns(cls, box, key, own, begin, total, order):
         """The tree of columns that were kept: int64 or uint64 arrays, passed on as they are, or lists of ints. They may hold
-        anything: every call looks at them anew, and what is no tree is refused 13 TREE.
+        anything: every call that works on the tree looks at them anew, and what is no tree is refused 13 TREE. Not so depth,
+        levels, level_nodes, is_leaf, children, path, node_of, nodes_of, leaf_sources and cell_sources, which read no more of
+        the columns than they need, and answer by what they find there: ask is_well_formed first.
 
         >>> tree = Tree.from_columns(Box([4.0], 4.0), [0, 1, 32769], [0, 1, 2], [0, 0, 1], [3, 1, 2], [0, 1, 2])
         >>> tree.is_well_formed(), tree.leaf_sources(2).tolist()
@@ -447,8 +449,7 @@ class Tree:
         """
         numbers = signed_wholes(readings, "readings")
         lists = self.lists(progress=progress) if lists is None else lists
-        columns = [lists.u.starts, lists.u.entries, lists.v.starts, lists.v.entries]
-        given = [Lent(memoryview(one)) for one in columns]
+        given = lent_lists(lists)
         sums, leaves, additions = Lent(memoryview(column(numbers.entries + 1))), ctypes.c_size_t(), ctypes.c_size_t()
         with telling(progress, "the sums of %d leaves" % len(self.leaves())):
             call("check_sums", self.box.axes, *self._words(), *self._words("order"), *_words([numbers] + given + [sums]),
@@ -484,6 +485,18 @@ def _places(axes, keys):
     # of a key that is not valid the place does not matter, as no node is found there that has it
     levels = keys & 32767
     return (keys >> 15) << axes * (room.DEEPEST - numpy.minimum(levels, room.DEEPEST)) << 5 | levels
+
+
+def lent_lists(lists):
+    """The four columns of lists, lent."""
+    if not isinstance(lists, Lists):
+        raise TypeError("lists is of type %s: pass Lists, as tree.lists() answers them" % type(lists).__name__)
+    for name, rows in (("u", lists.u), ("v", lists.v)):
+        if not isinstance(rows, Rows):
+            raise TypeError("lists.%s is of type %s: pass Rows, as tree.lists() answers them" % (name, type(rows).__name__))
+    columns = {"u.starts": lists.u.starts, "u.entries": lists.u.entries, "v.starts": lists.v.starts,
+               "v.entries": lists.v.entries}
+    return [wholes(one, "lists." + name) for name, one in columns.items()]
 
 
 def check_box(box):

@@ -3,6 +3,8 @@
 import array
 import ctypes
 import math
+import pickle
+import time
 import unittest
 from decimal import Decimal
 
@@ -73,10 +75,13 @@ class Bad(unittest.TestCase):
     def test_numpy(self):
         cure = "pass numpy.ascontiguousarray(points, dtype=float)"
         good = numpy.array([[1.0, 2.0], [3.0, 4.0], [5.0, 6.0]])
-        for kind in ("float32", "float16", "longdouble", "int64", "int32", "uint8", "bool", "complex128", "U3", "object"):
+        for kind in ("float32", "float16", "longdouble", "int64", "int32", "uint8", "bool", "complex128", "complex64", "U3",
+                     "object"):
             part = "points holds " + str(numpy.dtype(kind))
             self.points(TypeError, part, good.astype(kind))
-            if kind not in ("bool",):
+            if kind.startswith("complex"):
+                self.points(TypeError, "taken: pass the real numbers that are meant, as those of points.real", good.astype(kind))
+            elif kind != "bool":
                 self.points(TypeError, cure, good.astype(kind))
         self.points(TypeError, "points holds datetime64[s]", good.astype("int64").astype("datetime64[s]"))
         self.points(TypeError, "points holds", numpy.zeros(3, dtype=[("x", float), ("y", float)]))
@@ -133,8 +138,31 @@ class Bad(unittest.TestCase):
             refused = caught.exception
             self.assertEqual((refused.number, refused.value, refused.axis, refused.reason), (6, 1, 1, reason))
         for rows in ([[1.0, 2.0], [math.nan, 2.0]], [[1.0, 2.0]] * 600 + [[math.inf, 1.0]]):
-            self.points(ValueError, "points[%d] is not a finite number on axis 0, so there is no box around it"
-                        % (len(rows) - 1), rows, None)
+            self.points(ValueError, "points[%d] is not a finite number on axis 0, so there is no box around it: mend or remove "
+                        "the point" % (len(rows) - 1), rows, None)
+            with self.assertRaises(ValueError) as caught:
+                Tree.build(rows)
+            self.assertNotIn("box=", str(caught.exception))
+
+    def test_not_finite_at_the_end(self):
+        """The row is found soon, also the last of many."""
+        flat = array.array("d", [1.0]) * 3145727 + array.array("d", [math.nan])
+        points = memoryview(flat).cast("B").cast("d", [1048576, 3])
+        started = time.process_time()
+        self.points(ValueError, "points[1048575] is not a finite number on axis 2", points, None)
+        self.assertLess(time.process_time() - started, 2.0)
+
+    def test_one_place(self):
+        """Points at one place give no box; where they are no whole numbers, rounding gives them one."""
+        for points in ([[3.0, 4.0]], [[3, 4]] * 5):
+            for call in (Tree.build, Box.around):
+                with self.assertRaises(Refused) as caught:
+                    call(points)
+                self.assertEqual((caught.exception.number, caught.exception.value), (2, 0))
+                self.assertIn("are one place, and the box of their extents has no size: give a box, as box=Box(centre, radius) "
+                              "(refused 2 BOX)", str(caught.exception))
+                self.assertEqual(str(pickle.loads(pickle.dumps(caught.exception))), str(caught.exception))
+        self.assertEqual(Box.around([[3.5, 4.0]]), Box([3.5, 4.0], 0.501))
 
     def test_boxes(self):
         for centre, radius, number in (([], 1.0, 1), ([1.0] * 4, 1.0, 1), ([0.0], 0.2, 2), ([0.0], math.nan, 2),
@@ -153,6 +181,8 @@ class Bad(unittest.TestCase):
         with self.assertRaises(Refused) as caught:
             Box.from_extents([3.0, 3.0, 1.0])
         self.assertEqual(caught.exception.number, 1)
+        self.refused(TypeError, "extents is of type NoneType: pass their numbers, the lows and then the highs", Box.from_extents,
+                     None)
         self.refused(ValueError, "the points have 1 and 2 columns", Box.around, [[1.0]], [[1.0, 2.0]])
 
     def test_options(self):
@@ -217,6 +247,9 @@ class Bad(unittest.TestCase):
             self.assertEqual(caught.exception.number, number)
         self.refused(ValueError, "key is -1", keys.level, 1, -1)
         self.refused(TypeError, "level is 1.0", keys.encode, [1], 1.0)
+        self.refused(TypeError, "anchor is of type int: pass a list of one for each axis, as [3]", keys.encode, 1, 3)
+        for node in (slice(0, 2), 1.0, None, "1"):
+            self.refused(TypeError, "of type %s: pass the number of one row" % type(node).__name__, lists.u.__getitem__, node)
 
     def test_points_of_a_tree(self):
         tree = Tree.build([0.5, 7.0], LINE, limit=1)

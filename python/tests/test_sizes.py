@@ -5,7 +5,7 @@ import unittest
 
 from common import some_points
 
-from lohandema import Box, Refused, Tree
+from lohandema import Box, Refused, Tree, room
 
 
 class Sizes(unittest.TestCase):
@@ -23,6 +23,22 @@ class Sizes(unittest.TestCase):
         with self.assertRaises(Refused) as caught:
             tree.list_sizes()
         self.assertEqual(caught.exception.number, 13)
+
+    def test_most_nodes(self):
+        """As the header's: 0 for other axes, large numbers as the most that count; what is no number is refused."""
+        for words, most in (((1, 4, 0, 1, 1, False), 63), ((4, 4, 0, 1, 1, True), 0), ((0, 4, 0, 1, 1, True), 0),
+                            ((2 ** 64 - 1, 4, 0, 1, 1, True), 0), ((3, 2 ** 64 - 1, 0, 0, 1, True), 1048576),
+                            ((2, 5, 5, 2 ** 64 - 1, 2 ** 64 - 1, True), 5)):
+            self.assertEqual(room.most_nodes(*words), most, words)
+        for words, kind, said in (((1, 4, 0, -1, 1, True), ValueError, "limit is -1: pass a whole number"),
+                                  ((2 ** 64, 4, 0, 1, 1, True), ValueError, "axes is 18446744073709551616"),
+                                  ((1, 4.0, 0, 1, 1, True), TypeError, "sources is 4.0"),
+                                  ((1, 4, None, 1, 1, True), TypeError, "targets is None"),
+                                  ((1, 4, 0, 1, "1", True), TypeError, "order is '1'"),
+                                  ((1, 4, 0, 1, 1, 1), TypeError, "keep_empty is 1: pass True or False")):
+            with self.assertRaises(kind) as caught:
+                room.most_nodes(*words)
+            self.assertIn(said, str(caught.exception))
 
 
 if __name__ == "__main__":

@@ -1,7 +1,9 @@
 """Trees, rows, lookup and groups: the recorded example, random surveys against a plain reading of the rules, columns that are
 no tree, threads, and a million points."""
 
+import array
 import contextlib
+import ctypes
 import io
 import os
 import pickle
@@ -79,6 +81,32 @@ class Recorded(unittest.TestCase):
         for targets in ([[1.0, 2.0]], "0.5", [[True]]):
             with self.assertRaises((TypeError, ValueError)):
                 tree.near_work(targets)
+
+    def test_lists_of_check_sums(self):
+        """What is not lists, or not of whole numbers side by side, is refused by a sentence."""
+        tree = Tree.build([[0.5], [1.5], [6.5], [7.5]], Box([4.0], 4.0), limit=1)
+        lists, readings = tree.lists(), [1, 2, 3, 4]
+        u, v = lists.u, lists.v
+        twice = array.array("q", [x for x in u.starts.tolist() for _ in range(2)])
+        big = (ctypes.c_int64.__ctype_be__ * len(u.starts))(*u.starts.tolist())
+        flat = memoryview(array.array("q", u.starts.tolist())).cast("B")
+        bad = {"lists is of type int: pass Lists": 5, "lists.u is of type list: pass Rows": Lists(tree, [], v),
+               "lists.v is of type NoneType: pass Rows": Lists(tree, u, None)}
+        for part, starts in (("holds float64, and int64 or uint64 is taken", array.array("d", u.starts.tolist())),
+                             ("holds int32", array.array("i", u.starts.tolist())), ("is big-endian", big),
+                             ("is not C-contiguous", memoryview(twice)[::2]),
+                             ("has 2 dimensions, and one is taken", flat.cast("q", [len(u.starts), 1]))):
+            bad["lists.u.starts " + part] = Lists(tree, Rows(starts, u.entries), v)
+        for part, given in bad.items():
+            with self.assertRaises((TypeError, ValueError)) as caught:
+                tree.check_sums(readings, given)
+            self.assertIn(part, str(caught.exception))
+        rows = [Rows(one.starts.tolist(), one.entries.tolist()) for one in (u, v)]
+        self.assertEqual(tree.check_sums(readings, Lists(tree, *rows)), (4, 12))
+        with self.assertRaises(Refused) as caught:
+            tree.check_sums([2 ** 40 + 1, 2, 3, 4])
+        self.assertEqual((caught.exception.number, caught.exception.value), (20, 0))
+        self.assertIn("reading 0 is over 1099511627776 (2^40) in size: mend it", str(caught.exception))
 
     def test_check_sums(self):
         """The example with readings, what is refused, and what is no list of readings."""
