@@ -4,6 +4,7 @@ files to write."""
 import argparse
 import os
 import re
+import sys
 
 from survey_file import Refused, read_bytes
 from table_file import NUMBER
@@ -35,6 +36,8 @@ class Version(argparse.Action):
         super().__init__(option_strings, argparse.SUPPRESS, nargs=0, **rest)
 
     def __call__(self, parser, *_):
+        if sys.stdout is None:
+            parser.exit(1, "%s: standard output: it is closed\n" % parser.prog)
         try:
             print(read_bytes(os.path.join(ROOT, "VERSION")).decode().strip())
         except Refused as refused:

@@ -2,7 +2,6 @@
 
 import array
 import importlib.util
-import itertools
 import math
 import os
 import sys
@@ -140,8 +139,6 @@ def lists_of(survey):
     else:
         targets = ends = rows_of(survey.targets, survey.axes)
         used = {"targets": targets, "order": survey.order} if survey.targets and survey.keep_empty else {}
-    if not survey.centre:
-        check_extents(survey)
     try:
         box = lohandema.Box(survey.centre, survey.radius) if survey.centre else lohandema.Box.around(sources, ends)
         tree = lohandema.Tree.build(sources, box, limit=survey.limit, keep_empty=survey.keep_empty, progress=True, **used)
@@ -152,7 +149,7 @@ def lists_of(survey):
         survey.near_work, survey.aims = tree.near_work(targets, with_counts=True, progress=True)
         at_fault = lists.at_fault(progress=True).tolist()
     except lohandema.Refused as refused:
-        raise Refused(where(survey, refused))
+        raise Refused(where(survey, refused) if refused.number != 2 or survey.centre else extents_fault(survey))
     except ValueError:
         raise Refused(not_finite(survey))
     survey.centre, survey.radius = box.centre, box.radius
@@ -161,17 +158,13 @@ def lists_of(survey):
     return lists, at_fault
 
 
-def check_extents(survey):
-    """That the rows, where they are finite, have a box of their extents."""
+def extents_fault(survey):
+    """Why the rows, which are finite, have no box of their extents, with what to do."""
     corners = survey.targets.corners() if isinstance(survey.targets, Grid) else survey.targets
-    rows = list(survey.sources) + list(corners)
-    if not rows or not all(map(math.isfinite, itertools.chain.from_iterable(rows))):
-        return
-    centre, radius = house.box_from_extents([min(axis) for axis in zip(*rows)], [max(axis) for axis in zip(*rows)])
-    fault = house.box_fault(centre, radius)
-    if fault:
-        raise Refused("%s: the box from the extents is outside its domain: %s; %s"
-                      % (survey.name, fault, house.extents_cure(radius)))
+    columns = list(zip(*survey.sources, *corners))
+    centre, radius = house.box_from_extents([min(axis) for axis in columns], [max(axis) for axis in columns])
+    return "%s: the box from the extents is outside its domain: %s; %s" % (
+        survey.name, house.box_fault(centre, radius), house.extents_cure(radius))
 
 
 class Made(Listing):

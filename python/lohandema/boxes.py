@@ -85,7 +85,11 @@ class Box:
         if list(map(math.floor, lows)) == list(map(math.ceil, highs)):
             raise Refused(2, sentence="the points are one place, and the box of their extents has no size: give a box, as "
                                       "box=Box(centre, radius)")
-        return cls.from_extents(lows + highs)
+        try:
+            return cls.from_extents(lows + highs)
+        except Refused as refused:
+            raise Refused(refused.number, sentence="the box around the points is outside its domain (radius 0.25 to 1048576, "
+                          "each centre coordinate at most 16777216 in size): shift and scale the coordinates into it") from None
 
     def key_of(self, point, level):
         """The key of the cell of a level in which a point lies. Outside: refused 7 POINT."""

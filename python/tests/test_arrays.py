@@ -164,6 +164,14 @@ class Bad(unittest.TestCase):
                 self.assertEqual(str(pickle.loads(pickle.dumps(caught.exception))), str(caught.exception))
         self.assertEqual(Box.around([[3.5, 4.0]]), Box([3.5, 4.0], 0.501))
 
+    def test_too_wide(self):
+        """No box holds points that lie too far apart, so none is asked for."""
+        for points in ([[0.0], [3e6]], [[17e6], [17e6 + 9]], [[-1.7e308], [1.7e308]]):
+            with self.assertRaises(Refused) as caught:
+                Tree.build(points)
+            self.assertEqual(caught.exception.number, 2)
+            self.assertIn("shift and scale the coordinates into it (refused 2 BOX)", str(caught.exception))
+
     def test_boxes(self):
         for centre, radius, number in (([], 1.0, 1), ([1.0] * 4, 1.0, 1), ([0.0], 0.2, 2), ([0.0], math.nan, 2),
                                        ([0.0], 1048577, 2), ([math.inf], 1.0, 2), ([16777217.0], 1.0, 2)):

@@ -206,9 +206,9 @@ class Inspect(unittest.TestCase):
         for made in ("v", "s", "d"):
             with open(self.path(made), "rb") as file:
                 self.assertIn(b"a?.csv", file.read())
-        closed = subprocess.run(["sh", "-c", 'exec "$@" >&-', "sh"] + inspect + [name] + chosen, stderr=subprocess.PIPE, text=True)
-        self.assertEqual((closed.returncode, closed.stderr),
-                         (1, "inspect: standard output: it is closed; the files that were asked for are written\n"))
+        for words, more in (([name] + chosen, "; the files that were asked for are written"), (["--version"], "")):
+            closed = subprocess.run(["sh", "-c", 'exec "$@" >&-', "sh"] + inspect + words, stderr=subprocess.PIPE, text=True)
+            self.assertEqual((closed.returncode, closed.stderr), (1, "inspect: standard output: it is closed%s\n" % more))
 
     def test_bad(self):
         self.write("a.csv", "x,y\n1,2\n\n3,nan\n")
