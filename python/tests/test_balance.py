@@ -6,7 +6,7 @@ import unittest
 from common import some_points
 
 from lohandema import Box, Refused, Tree
-from lohandema.room import balanced as first_room
+from lohandema.room import balanced as most_nodes
 from plain import anchors_of, children, level_of
 
 COLUMNS = ("key", "own", "begin", "total", "order")
@@ -68,10 +68,12 @@ class Balanced(unittest.TestCase):
                 inside = [i for i, key in enumerate(leaves) if key == found.key[leaf]]
                 self.assertEqual(found.leaf_sources(leaf).tolist(), inside)
 
-    def test_room_grows(self):
+    def test_room_is_enough(self):
         points = [[3.9999, 3.9999, 3.9999], [3.9996, 3.9999, 3.9999]]
         tree = Tree.build(points, Box([4.0] * 3, 4.0), limit=1, keep_empty=True)
-        self.assertGreater(len(tree.balanced(points)), first_room(len(tree)))
+        nodes = len(tree.balanced(points))
+        self.assertGreater(nodes, 2 * len(tree))
+        self.assertLessEqual(nodes, most_nodes(3, len(tree)))
 
     def test_refused(self):
         points, box = [[0.5], [1.5], [6.5], [7.5]], Box([4.0], 4.0)

@@ -1,4 +1,4 @@
-//! Balanced trees: a known one, the rule tried on every pair of leaves, refusals, and room that has to grow.
+//! Balanced trees: a known one, the rule tried on every pair of leaves, refusals, and room that is enough.
 use lohandema::keys::decode_key;
 use lohandema::{Asked, Bounds, Columns, Reason, Refusal, Tree, lent};
 
@@ -94,7 +94,7 @@ fn touching_leaves_are_a_level_apart_at_most() {
 
 /// Two points just below the middle of the box: the cells around it are parted in all eight octants.
 #[test]
-fn room_grows() {
+fn room_is_enough() {
     let points = [3.9999, 3.9999, 3.9999, 3.9996, 3.9999, 3.9999];
     let tree = built(3, &points, 1);
     let balanced = tree.balanced(&points).unwrap();
