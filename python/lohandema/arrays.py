@@ -129,8 +129,8 @@ class Points:
         return numpy.frombuffer(self.lent.view, dtype=float).reshape(-1, self.axes)
 
     def flat(self):
-        """The coordinates one after the other, without NumPy."""
-        return (ctypes.c_double * self.lent.entries).from_address(self.lent.address) if self.rows else []
+        """The coordinates one after the other, without NumPy; a copy, as an array is gone through quicker than a view."""
+        return array.array("d", self.lent.view.tobytes())
 
 
 def check_columns(columns, axes, name):

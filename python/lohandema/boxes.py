@@ -164,7 +164,7 @@ def first_not_finite(points):
     """The place, counted in coordinates, of the first that is not finite."""
     if numpy:
         return int(numpy.argmin(numpy.isfinite(points.table())))
-    return bytes(map(math.isfinite, points.flat())).index(0)
+    return list(map(math.isfinite, points.flat())).index(False)
 
 
 def across(table, take):

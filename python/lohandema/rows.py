@@ -1,5 +1,7 @@
 """Rows by node number: the near and far keys of each node, and the points of each node."""
 
+import operator
+
 from .arrays import numpy, packed
 
 
@@ -20,9 +22,11 @@ class Rows:
 
     def __getitem__(self, node):
         """The row of a node, as a view: nothing is copied."""
-        if not hasattr(type(node), "__index__"):
+        try:
+            node = operator.index(node)
+        except TypeError:
             raise TypeError("%.60r is of type %s: pass the number of one row, or take entries[starts[n]:starts[m]] for rows n "
-                            "up to m" % (node, type(node).__name__))
+                            "up to m" % (node, type(node).__name__)) from None
         if not 0 <= node < len(self):
             raise IndexError("there is no row %d: nodes are numbered from 0 to %d" % (node, len(self) - 1))
         return self.entries[self.starts[node]:self.starts[node + 1]]

@@ -256,7 +256,7 @@ class Bad(unittest.TestCase):
         self.refused(ValueError, "key is -1", keys.level, 1, -1)
         self.refused(TypeError, "level is 1.0", keys.encode, [1], 1.0)
         self.refused(TypeError, "anchor is of type int: pass a list of one for each axis, as [3]", keys.encode, 1, 3)
-        for node in (slice(0, 2), 1.0, None, "1"):
+        for node in (slice(0, 2), 1.0, None, "1", numpy.array([0, 1]) if numpy else [0, 1]):
             self.refused(TypeError, "of type %s: pass the number of one row" % type(node).__name__, lists.u.__getitem__, node)
 
     def test_points_of_a_tree(self):
