@@ -177,6 +177,24 @@ static void balance_tree(void)
                                   u_keys, KEYS, new_own, KEYS, new_begin, KEYS, new_total, KEYS, &count, &depth);
 }
 
+/* The tree that one more source goes into is built without targets. */
+static void build_without_targets(void)
+{
+    uint64_t depth;
+    last = lohandema_build_tree(BOX, sources, axes * points, NULL, 0, limit, 1, true, false, work, 2 * POINTS, order, points,
+                                key, NODES, own, NODES, begin, NODES, total, NODES, &nodes, &depth);
+}
+
+/* The first source once more. */
+static void add_source(void)
+{
+    size_t count;
+    uint64_t depth;
+    last = lohandema_add_source(BOX, sources, axes * points, sources, limit, true, COLUMNS, order, points, work, 3 * POINTS,
+                                u_starts, points + 1, u_keys, KEYS, new_own, KEYS, new_begin, KEYS, new_total, KEYS, &count,
+                                &depth);
+}
+
 static void keys_of_one(lohandema_ended (*call)(size_t, uint64_t, uint64_t *, size_t *), uint64_t of)
 {
     uint64_t keys[LOHANDEMA_MOST_KEYS];
@@ -310,6 +328,8 @@ static struct {
     {"write_tree", write_tree, 96 * KIB, 0},
     {"is_arrangement", is_arrangement, 32 * KIB, 0},
     {"balance_tree", balance_tree, LOHANDEMA_STACK, 0},
+    {"build_tree without targets", build_without_targets, 48 * KIB, 0},
+    {"add_source", add_source, 48 * KIB, 0},
     {"get_neighbours", get_neighbours, 8 * KIB, 0},
     {"get_children", get_children, 8 * KIB, 0},
     {"get_siblings", get_siblings, 8 * KIB, 0},

@@ -109,6 +109,7 @@ int main(void)
     test_order();
     test_sums();
     test_balance();
+    test_more();
     test_null();
     printf("%u checks, %u failed\n", made, failed);
     return failed == 0 ? 0 : 1;

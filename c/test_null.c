@@ -332,6 +332,47 @@ static void balancing(void)
     EXPECT(nodes == 3 && depth == 1 && STARTS_WITH(keys, key));
 }
 
+/* One source more: with none before, and with every slice lent and without each in turn. */
+static void adding(void)
+{
+    const size_t order[2] = {0, 1};
+    uint64_t work[6] = {0}, keys[4] = {0}, depth = 7;
+    size_t indices[3] = {0}, owns[4] = {0}, begins[4] = {0}, totals[4] = {0}, nodes = 7;
+#define ADDS centre, 4.0, 1, halves, 2, point, 2, false, COLUMNS
+    ENDED(lohandema_add_source(centre, 4.0, 1, NULL, 0, point, 1, false, ROOT, NULL, 0, work, 6, indices, 3, keys, 4, owns, 4,
+                               begins, 4, totals, 4, &nodes, &depth),
+          0, 0);
+    EXPECT(nodes == 2 && depth == 1 && keys[1] == 1);
+    ENDED(lohandema_add_source(centre, 4.0, 1, NULL, 0, point, 1, false, NO_COLUMNS, NULL, 0, NULL, 0, NULL, 0, NO_COLUMNS,
+                               &nodes, &depth),
+          LOHANDEMA_TREE, 0);
+    EXPECT(nodes == 0 && depth == 0);
+    ENDED(lohandema_add_source(centre, 4.0, 1, NULL, 0, point, 1, false, ROOT, NULL, 0, NULL, 0, NULL, 0, NO_COLUMNS, &nodes,
+                               &depth),
+          LOHANDEMA_ROOM, LOHANDEMA_ROOM_WORK);
+    ENDED(lohandema_add_source(centre, 4.0, 1, NULL, 0, point, 1, false, COLUMNS, order, 2, NULL, 0, NULL, 0, NO_COLUMNS,
+                               &nodes, &depth),
+          LOHANDEMA_NOTBUILT, 0);
+    ENDED(lohandema_add_source(ADDS, NULL, 0, work, 6, indices, 3, keys, 4, owns, 4, begins, 4, totals, 4, &nodes, &depth),
+          LOHANDEMA_NOTBUILT, 0);
+    ENDED(lohandema_add_source(ADDS, order, 2, NULL, 0, indices, 3, keys, 4, owns, 4, begins, 4, totals, 4, &nodes, &depth),
+          LOHANDEMA_ROOM, LOHANDEMA_ROOM_WORK);
+    ENDED(lohandema_add_source(ADDS, order, 2, work, 6, NULL, 0, keys, 4, owns, 4, begins, 4, totals, 4, &nodes, &depth),
+          LOHANDEMA_ROOM, LOHANDEMA_ROOM_ORDER);
+    ENDED(lohandema_add_source(ADDS, order, 2, work, 6, indices, 3, NULL, 0, owns, 4, begins, 4, totals, 4, &nodes, &depth),
+          LOHANDEMA_ROOM, LOHANDEMA_ROOM_NODES);
+    ENDED(lohandema_add_source(ADDS, order, 2, work, 6, indices, 3, keys, 4, NULL, 0, begins, 4, totals, 4, &nodes, &depth),
+          LOHANDEMA_ROOM, LOHANDEMA_ROOM_NODES);
+    ENDED(lohandema_add_source(ADDS, order, 2, work, 6, indices, 3, keys, 4, owns, 4, NULL, 0, totals, 4, &nodes, &depth),
+          LOHANDEMA_ROOM, LOHANDEMA_ROOM_NODES);
+    ENDED(lohandema_add_source(ADDS, order, 2, work, 6, indices, 3, keys, 4, owns, 4, begins, 4, NULL, 0, &nodes, &depth),
+          LOHANDEMA_ROOM, LOHANDEMA_ROOM_NODES);
+    ENDED(lohandema_add_source(ADDS, order, 2, work, 6, indices, 3, keys, 4, owns, 4, begins, 4, totals, 4, &nodes, &depth),
+          0, 0);
+    EXPECT(nodes == 3 && depth == 1 && STARTS_WITH(keys, key) && owns[1] == 2 && indices[1] == 2);
+#undef ADDS
+}
+
 void test_null(void)
 {
     builds();
@@ -345,4 +386,5 @@ void test_null(void)
     files();
     sums();
     balancing();
+    adding();
 }

@@ -27,7 +27,7 @@
  *   points_to_keys, get_interaction_lists, get_list_sizes, get_near_work, check_sums,
  *   balance_tree                                                                            128 KiB
  *   sum_check, lists_right, write_tree                                                       96 KiB
- *   build_tree, build_tree_on_grid                                                           48 KiB
+ *   build_tree, build_tree_on_grid, add_source                                               48 KiB
  *   get_sourced_cells, is_arrangement                                                        32 KiB
  *   every other call                                                                          8 KiB
  */
@@ -175,7 +175,7 @@ static inline const char *lohandema_refusal_sentence(uint64_t number)
         "the tree file breaks its rules, or it holds, or is to hold, an order or lists that are not its tree's: write it anew "
         "from what the build and the list call wrote",
         "the tree, its order or its lists are not those that the points give: pass them as the build and the list call wrote "
-        "them, with the points and the box of that build",
+        "them, with the points and the box of that build, and where they are asked for its limit and flag",
         "a cell that is split lacks a child: build with keep_empty",
         "a reading is over 1099511627776 in size, and the value is its index: mend it, or pass all readings in a larger unit"};
     return number < 21 ? sentences[number] : "this version knows no refusal with this number";
@@ -356,6 +356,30 @@ lohandema_ended lohandema_build_tree_on_grid(const double centre[3], double radi
                                              uint64_t *key, size_t key_len, size_t *own, size_t own_len, size_t *begin,
                                              size_t begin_len, size_t *total, size_t total_len, size_t *nodes,
                                              uint64_t *depth);
+
+/* The tree of the former sources and one more, numbered after the last, from the tree that lohandema_build_tree made of the former
+ * without targets: the tree, and its order column, that a build of the longer list would make. The lists are those that
+ * lohandema_get_interaction_lists makes of it.
+ *   sources           the coordinates of the former sources; sources_len counts coordinates
+ *   point             the new source. All three places must be there; the values past the axes do not matter
+ *   limit, keep_empty those of the build
+ *   key to indices    the tree and its order column, which are read
+ *   work              two entries a source, the new one too
+ *   new_indices       the new order column: one entry a source, the new one too
+ *   new_key, new_own, one entry a node of the new tree each. The shortest of the four counts, at most 1,048,576 of its entries.
+ *   new_begin,        It has at most key_len + 16 * 2^axes nodes, so that as many entries, or 1,048,576, are always enough.
+ *   new_total
+ * nodes and depth: those of the new tree. Refused 1, 2, 3, 4 (there are 1,048,576 former sources already), 13, 18 (the tree or
+ * its order column is not the build of the former sources with this box, limit and flag, or one of them is outside), 6 (the new
+ * source, with the number of former sources as its index), 8 (1 work, 2 new_indices, 3 new columns). */
+lohandema_ended lohandema_add_source(const double centre[3], double radius, size_t axes, const double *sources,
+                                     size_t sources_len, const double point[3], size_t limit, bool keep_empty,
+                                     const uint64_t *key, size_t key_len, const size_t *own, size_t own_len,
+                                     const size_t *begin, size_t begin_len, const size_t *total, size_t total_len,
+                                     const size_t *indices, size_t indices_len, uint64_t *work, size_t work_len,
+                                     size_t *new_indices, size_t new_indices_len, uint64_t *new_key, size_t new_key_len,
+                                     size_t *new_own, size_t new_own_len, size_t *new_begin, size_t new_begin_len,
+                                     size_t *new_total, size_t new_total_len, size_t *nodes, uint64_t *depth);
 
 /* The balanced tree of a tree that has all children or none of each cell, as a build with keep_empty has: the one with the fewest
  * cells that contains all of its cells, has all children or none of each cell, and has no two leaves more than one level apart

@@ -7,6 +7,7 @@ mod customer;
 mod grids;
 mod growth;
 mod near;
+mod one_more;
 mod plain;
 mod plain_build;
 mod report;
@@ -74,6 +75,7 @@ fn main() {
     near::measure(&words, &report);
     sums::measure(&words, &report);
     balance::measure(&words, &report);
+    one_more::measure(&words, &report);
     if words.limit.is_none() {
         worst::measure(&words, &report);
     }

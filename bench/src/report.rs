@@ -2,14 +2,15 @@
 use std::cell::RefCell;
 
 /// The most that a ratio is to be: of the lists beside the fastest plain reading, of growth beside `kept`, of near work beside
-/// the lists and the lookup, of a build on a grid beside the listed points, else beside the Rust.
+/// the lists and the lookup, of a build on a grid beside the listed points, of one source more beside the build of the longer
+/// list, else beside the Rust.
 fn to_reach(call: &str) -> f64 {
     match call {
         "lists" => 0.45,
         "growth" => 1.1,
         "build" => 0.08,
         "listed" => 0.2,
-        "lookup" => 0.35,
+        "lookup" | "one_more" => 0.35,
         "near_work" | "check_sums" => 1.0,
         _ => panic!("{call}"),
     }

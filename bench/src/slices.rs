@@ -1,4 +1,5 @@
 //! What a call is lent, made once.
+use lohandema::Refusal;
 use lohandema::lent::{self, Asked};
 use lohandema::trees::{Lists, Tree};
 
@@ -76,6 +77,27 @@ impl Room {
             &mut self.total,
         )
         .expect("room enough")
+    }
+
+    /// The tree of the sources that were asked for and one more.
+    pub fn add(
+        &mut self,
+        asked: Asked,
+        point: &[f64],
+        tree: &Tree,
+    ) -> Result<(usize, u64), Refusal> {
+        lent::add_source(
+            asked,
+            point,
+            tree.columns(),
+            &tree.order,
+            &mut self.work,
+            &mut self.order,
+            &mut self.key,
+            &mut self.own,
+            &mut self.begin,
+            &mut self.total,
+        )
     }
 
     /// Whether these are the columns of a tree, and no more.

@@ -5,7 +5,8 @@ use crate::inputs;
 use crate::keys::refused;
 use crate::oracle::{self, level, rank};
 use crate::random::Random;
-use crate::refusals::{asked, left, lent_slice, well_formed};
+use crate::refusals::{asked, well_formed};
+use crate::room::Room;
 use crate::tally::Tally;
 use ferreus_bbfmm::morton;
 use lohandema::Refusal;
@@ -48,7 +49,7 @@ impl Cell {
     }
 }
 
-fn children(axes: usize, key: u64) -> Vec<u64> {
+pub fn children(axes: usize, key: u64) -> Vec<u64> {
     let d = oracle::dimensions(axes);
     let mut all: Vec<u64> = morton::get_children(key, &d).into_iter().collect();
     all.sort_unstable();
@@ -95,7 +96,7 @@ fn is_full(axes: usize, keys: &[u64]) -> bool {
 }
 
 /// The columns of these keys with the points in their leaves, in ascending order; and whether each point is in one.
-fn settled(bounds: &Bounds, keys: &HashSet<u64>, points: &[f64]) -> (Tree, bool) {
+pub fn settled(bounds: &Bounds, keys: &HashSet<u64>, points: &[f64]) -> (Tree, bool) {
     let axes = bounds.axes;
     let d = oracle::dimensions(axes);
     let ends: HashSet<u64> = leaves(axes, keys).iter().map(|leaf| leaf.key).collect();
@@ -119,70 +120,21 @@ fn settled(bounds: &Bounds, keys: &HashSet<u64>, points: &[f64]) -> (Tree, bool)
     (oracle::columns_of(bounds, key, &sources), all)
 }
 
-/// What is lent to the call.
-struct Room {
-    work: Vec<u64>,
-    order: Vec<usize>,
-    key: Vec<u64>,
-    columns: [Vec<usize>; 3],
-}
-
-impl Room {
-    /// Just enough for so many points and nodes, and full of junk.
-    fn exact(points: usize, nodes: usize) -> Room {
-        Room {
-            work: vec![77; 2 * points],
-            order: vec![77; points],
-            key: vec![77; nodes],
-            columns: [0; 3].map(|_| vec![77; nodes]),
-        }
-    }
-
-    /// Enough, or too little of something.
-    fn any(r: &mut Random, points: usize, nodes: usize) -> Room {
-        let mut one = |needed| lent_slice(r, needed, 77);
-        let (order, columns) = (one(points), [0; 3].map(|_| one(nodes)));
-        Room {
-            work: lent_slice(r, 2 * points, 77),
-            order,
-            key: lent_slice(r, nodes, 77),
-            columns,
-        }
-    }
-
-    fn nodes(&self) -> usize {
-        let columns = self.columns.iter().map(|c| c.len()).min().unwrap();
-        columns.min(self.key.len()).min(MOST)
-    }
-
-    fn call(&mut self, tree: &Tree, points: &[f64]) -> Result<(usize, u64), Refusal> {
-        let [own, begin, total] = &mut self.columns;
-        lent::balance_tree(
-            &tree.bounds,
-            points,
-            tree.columns(),
-            &tree.order,
-            &mut self.work,
-            &mut self.order,
-            &mut self.key,
-            own,
-            begin,
-            total,
-        )
-    }
-
-    /// Whether the slices hold this tree and then zeros; with none, zeros throughout.
-    fn holds(&self, tree: Option<&Tree>) -> bool {
-        let none = Tree::from_columns(oracle::any_box(1), vec![], vec![], vec![], vec![], vec![]);
-        let tree = tree.unwrap_or(&none);
-        let [own, begin, total] = &self.columns;
-        self.work.iter().all(|x| *x == 0)
-            && self.order == left(self.order.len(), &tree.order)
-            && self.key == left(self.key.len(), &tree.key)
-            && *own == left(own.len(), &tree.own)
-            && *begin == left(begin.len(), &tree.begin)
-            && *total == left(total.len(), &tree.total)
-    }
+/// The call with these slices.
+fn call(room: &mut Room, tree: &Tree, points: &[f64]) -> Result<(usize, u64), Refusal> {
+    let [own, begin, total] = &mut room.columns;
+    lent::balance_tree(
+        &tree.bounds,
+        points,
+        tree.columns(),
+        &tree.order,
+        &mut room.work,
+        &mut room.order,
+        &mut room.key,
+        own,
+        begin,
+        total,
+    )
 }
 
 /// The refusals before the room is looked at.
@@ -208,18 +160,12 @@ fn judged(tree: &Tree, points: &[f64]) -> Result<(), Refusal> {
 /// The call with so much room, and with what is wrong with the tree and its points.
 fn compare(t: &mut Tally, tree: &Tree, points: &[f64], right: &Result<Tree, Refusal>, room: Room) {
     let mut room = room;
-    let rows = right.as_ref().map_or(0, |right| right.order.len());
-    let wanted = right.clone().and_then(|right| {
-        asked(2 * rows <= room.work.len(), (8, 1))?;
-        asked(rows <= room.order.len(), (8, 2))?;
-        asked(right.key.len() <= room.nodes(), (8, 3))?;
-        Ok(right)
-    });
+    let wanted = right.clone().and_then(|right| room.for_tree(right));
     if wanted.is_err() {
         t.refusal();
     }
     let input = || format!("{tree:?} points {points:?}");
-    let ours = room.call(tree, points);
+    let ours = call(&mut room, tree, points);
     let told = wanted.as_ref().map(|tree| (tree.key.len(), tree.depth()));
     t.same("balance", ours, told.map_err(|refusal| *refusal), input);
     let held = room.holds(wanted.as_ref().ok());
@@ -291,11 +237,7 @@ fn all_of(t: &mut Tally, r: &mut Random, tree: &Tree, points: &[f64]) {
         .as_ref()
         .map_or((4, 9), |right| (right.order.len(), right.key.len()));
     compare(t, tree, points, &right, Room::exact(rows, nodes));
-    let mut short = Room::exact(rows, nodes);
-    match r.below(4) {
-        3 => drop(short.key.pop()),
-        n => drop(short.columns[n as usize].pop()),
-    }
+    let short = Room::one_less(r, rows, nodes);
     compare(t, tree, points, &right, short);
     compare(t, tree, points, &right, Room::any(r, rows, nodes));
     if right.is_ok() {

@@ -10,11 +10,13 @@ mod inputs;
 mod keys;
 mod limits;
 mod near_work;
+mod one_more;
 mod oracle;
 mod points;
 mod random;
 mod refusals;
 mod renumbered;
+mod room;
 mod runs;
 mod sums;
 mod swapped;
@@ -87,6 +89,7 @@ const KINDS: &[Kind] = &[
     ("near-work", 3_000, near_work::near_work),
     ("sums", 800, sums::sums),
     ("balance", 6_000, balance::balance),
+    ("one-more", 10_000, one_more::one_more),
     ("well-formed", 20_000, refusals::trees_handed_in),
     ("refusals", 4_000, refusals::tree_calls),
     ("large", 1, refusals::large),

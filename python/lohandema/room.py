@@ -89,3 +89,9 @@ def balanced(axes, nodes):
     """The most nodes that the balanced tree of one of so many nodes can have. A cell that is split there is split in the given
     tree or touches one of its level that is, so there are at most 3 ** axes times as many."""
     return min(3 ** axes * max(nodes - 1, 0) + 1, MOST_NODES)
+
+
+def one_more(axes, nodes):
+    """The most nodes that a tree of so many nodes can have with one source more. Of each level there is one cell that holds it,
+    and only such a cell gets children."""
+    return min(nodes + (DEEPEST << axes), MOST_NODES)

@@ -119,12 +119,48 @@ class Tree:
     def _balanced(self, sources, nodes):
         """With room for so many nodes."""
         rows = min(sources.rows, room.MOST_POINTS)
+        return self._written("balance_tree", [*self.box._words(), *_words([sources.lent])], rows, nodes)
+
+    def with_source(self, points, point, *, limit=64, keep_empty=False, progress=False):
+        """The tree of the sources and one more, numbered after the last: the one that Tree.build would make of the longer list.
+        This one, which does not change, has to be the build of points in its box with this limit and keep_empty, without
+        targets or a grid: a tree keeps its box, and not these.
+
+        Rows of the lists far from the new source hold the same keys in both trees: the V row of a cell does, if the new
+        source's cell at the level of its parent neither is that parent nor touches it; the U row of a leaf, if it and the deepest
+        cell of this tree that contains the new source, at the coarser one's level, neither coincide nor touch.
+
+        Raises Refused with 4 where there are 1,048,576 points already, 13, 18 where the tree is not that build or one of the
+        points is outside, 6 with the number of points as its index where the new source is, or 8 where the tree has more than
+        1,048,576 nodes.
+
+        >>> points = [[0.5], [1.5], [6.5], [7.5]]
+        >>> tree = Tree.build(points, Box([4.0], 4.0), limit=1)
+        >>> more = tree.with_source(points, [3.0], limit=1)
+        >>> more.key.tolist(), more.order.tolist()
+        ([0, 1, 2, 3, 32771, 32770, 32769, 98306, 196611, 229379], [0, 1, 4, 2, 3])
+        """
+        sources, place = Points(points, self.box.axes), three(point, self.box.axes, "point")[0]
+        limit, keep_empty = whole(limit, "limit"), flag(keep_empty, "keep_empty")
+        words = [*self.box._words(), *_words([sources.lent]), place, limit, keep_empty]
+        rows, nodes = min(sources.rows, room.MOST_POINTS) + 1, room.one_more(self.box.axes, len(self))
+        with telling(progress, "the tree of %d points and one more" % sources.rows):
+            try:
+                return self._written("add_source", words, rows, nodes)
+            except Refused as refused:
+                if refused.number == 18:
+                    raise Refused(18, sentence="the tree is not the build of these points in its box with this limit and "
+                                  "keep_empty and without targets, or a point is outside: pass the points, limit and "
+                                  "keep_empty with which it was built") from None
+                raise
+
+    def _written(self, name, words, rows, nodes):
+        """The tree that a call writes from this one, in room for so many sources and nodes."""
         work, indices = Lent(memoryview(column(2 * rows))), column(rows)
         columns = [column(nodes) for _ in range(4)]
         lent = [Lent(memoryview(one)) for one in [indices] + columns]
         count, depth = ctypes.c_size_t(), ctypes.c_uint64()
-        call("balance_tree", *self.box._words(), *_words([sources.lent]), *self._words(*COLUMNS), *_words([work] + lent),
-             ctypes.byref(count), ctypes.byref(depth))
+        call(name, *words, *self._words(*COLUMNS), *_words([work] + lent), ctypes.byref(count), ctypes.byref(depth))
         del lent
         return self._of(self.box, [cut(one, count.value) for one in columns] + [cut(indices, rows)])
 

@@ -33,12 +33,15 @@ class Docs(unittest.TestCase):
             self.assertEqual((result.stdout.strip(), result.stderr), (said, ""))
 
     def test_examples(self):
-        """Each example runs, and its sums are those of all pairs but for what it allows."""
+        """Each example runs; the sums of one are those of all pairs but for what it allows, and the rows that the other keeps
+        are as they were."""
+        said = {"near_and_far.py": r"largest difference from the plain sum: 0\.\d+ %\n",
+                "one_more.py": r"near rows to read anew: \d+ of 163, changed: [1-9]\d*\nfar rows to read anew: "}
         folder = os.path.join(ROOT, "examples", "python")
         for name in sorted(os.listdir(folder)):
             result = subprocess.run([sys.executable, "-B", os.path.join(folder, name)], capture_output=True, text=True)
             self.assertEqual((result.returncode, result.stderr), (0, ""), name)
-            self.assertRegex(result.stdout, r"largest difference from the plain sum: 0\.\d+ %\n")
+            self.assertRegex(result.stdout, said[name])
 
     def test_all_told(self):
         """Everything that the package offers has a text."""

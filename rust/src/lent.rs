@@ -760,3 +760,81 @@ pub fn balance_tree(
     };
     answered(ended, (nodes, depth))
 }
+
+/// The tree of the former sources and one more, numbered after the last, from the tree that [`build_tree`] made of the former
+/// without targets. `asked` has the box, the former sources, the limit and the flag of that build; its targets, order and
+/// `refine` are not looked at. `order` is the tree's order column. `work` has two entries for each source and `indices`, the new
+/// order column, one, the new source counted too; the four columns one for each new node, of which there are at most
+/// 16 · 2^axes more than before. Answers the number of nodes and the depth.
+///
+/// # Errors
+/// [`DIMS`](Refusal::DIMS), also if box and tree differ in their axes; [`BOX`](Refusal::BOX); [`SHAPE`](Refusal::SHAPE) if
+/// the rows are not whole, or the point has not one coordinate for each axis; [`COUNT`](Refusal::COUNT) if there are 1,048,576
+/// former sources already; [`TREE`](Refusal::TREE); [`NOTBUILT`](Refusal::NOTBUILT) if the tree and its order are not the build
+/// of the former sources with this box, limit and flag, or one of them is outside; [`SOURCE`](Refusal::SOURCE) if the new one
+/// is, with the number of former sources as its index; [`ROOM`](Refusal::ROOM) 1 to 3.
+#[allow(clippy::too_many_arguments)] // a tree that is read, and one that is written
+pub fn add_source(
+    asked: Asked<'_>,
+    point: &[f64],
+    tree: Columns<'_>,
+    order: &[usize],
+    work: &mut [u64],
+    indices: &mut [usize],
+    key: &mut [u64],
+    own: &mut [usize],
+    begin: &mut [usize],
+    total: &mut [usize],
+) -> Result<(usize, u64), Refusal> {
+    let bounds = asked.bounds;
+    let same = tree.same_axes(bounds);
+    let point = same
+        .and_then(|()| bounds.coordinates(point))
+        .inspect_err(|_| {
+            work.fill(0);
+            indices.fill(0);
+            key.fill(0);
+            own.fill(0);
+            begin.fill(0);
+            total.fill(0);
+        })?;
+    let (mut nodes, mut depth) = (0, 0);
+    // SAFETY: sources, columns and order are read with their own lengths, centre and point as three numbers; the six slices, lent to us alone, are written within theirs.
+    let ended = unsafe {
+        raw::lohandema_add_source(
+            &bounds.centre,
+            bounds.radius,
+            bounds.axes,
+            asked.sources.as_ptr(),
+            asked.sources.len(),
+            &point,
+            asked.limit,
+            asked.keep_empty,
+            tree.key.as_ptr(),
+            tree.key.len(),
+            tree.own.as_ptr(),
+            tree.own.len(),
+            tree.begin.as_ptr(),
+            tree.begin.len(),
+            tree.total.as_ptr(),
+            tree.total.len(),
+            order.as_ptr(),
+            order.len(),
+            work.as_mut_ptr(),
+            work.len(),
+            indices.as_mut_ptr(),
+            indices.len(),
+            key.as_mut_ptr(),
+            key.len(),
+            own.as_mut_ptr(),
+            own.len(),
+            begin.as_mut_ptr(),
+            begin.len(),
+            total.as_mut_ptr(),
+            total.len(),
+            &mut nodes,
+            &mut depth,
+        )
+    };
+    answered(ended, (nodes, depth))
+}

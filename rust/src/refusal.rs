@@ -214,7 +214,7 @@ impl Refusal {
                 "the tree file breaks its rules, or it holds, or is to hold, an order or lists that are not its tree's: write the file anew from what the build and the list call answered"
             }
             Refusal::NOTBUILT => {
-                "the tree, its order or its lists are not those that the points give: hand them in as the build and the list call answered them, with the points and the box of that build"
+                "the tree, its order or its lists are not those that the points give: hand them in as the build and the list call answered them, with the points and the box of that build, and where they are asked for its limit and flag"
             }
             Refusal::PARTIAL => {
                 "a cell that is split lacks a child: build the tree with empty cells kept"

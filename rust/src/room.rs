@@ -168,3 +168,10 @@ pub(crate) fn cut<T>(mut lent: Vec<T>, written: usize) -> Vec<T> {
     }
     lent
 }
+
+/// The most nodes that a tree of so many nodes can have with one source more. Of each level there is one cell that holds it, and
+/// only such a cell gets children.
+pub(crate) fn one_more(axes: usize, nodes: usize) -> usize {
+    let children = (DEEPEST as usize) << axes.clamp(1, 3);
+    nodes.saturating_add(children).min(MOST_NODES)
+}

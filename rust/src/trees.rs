@@ -167,6 +167,64 @@ impl Tree {
         ))
     }
 
+    /// The tree of the sources and one more, numbered after the last: the one that [`Tree::build`] would make of the longer list.
+    /// This one is to be the build of `sources` with this limit and flag in its own box, without targets, and is not changed.
+    ///
+    /// Rows of the lists far from the new source hold the same keys in both trees. The V row of a cell does, if the new source's
+    /// cell at the level of its parent neither is that parent nor touches it; the U row of a leaf, if it and the deepest cell
+    /// of this tree that contains the new source, at the coarser one's level, neither coincide nor touch.
+    ///
+    /// ```
+    /// use lohandema::{Asked, Bounds, Tree};
+    /// let (bounds, points) = (Bounds::new(&[4.0], 4.0), [0.5, 1.5, 6.5, 7.5]);
+    /// let tree = Tree::build(Asked::new(&bounds, &points, 1))?;
+    /// let more = tree.with_source(&points, &[3.0], 1, false)?;
+    /// assert_eq!(more.key, [0, 1, 2, 3, 32771, 32770, 32769, 98306, 196611, 229379]);
+    /// assert_eq!(more.order, [0, 1, 4, 2, 3]);
+    /// assert_eq!(more, Tree::build(Asked::new(&bounds, &[0.5, 1.5, 6.5, 7.5, 3.0], 1))?);
+    /// # Ok::<(), lohandema::Refusal>(())
+    /// ```
+    ///
+    /// # Errors
+    /// As [`lent::add_source`]; [`ROOM`](Refusal::ROOM) only, with 3, if the tree has more than 1,048,576 nodes.
+    pub fn with_source(
+        &self,
+        sources: &[f64],
+        point: &[f64],
+        limit: usize,
+        keep_empty: bool,
+    ) -> Result<Tree, Refusal> {
+        let mut asked = Asked::new(&self.bounds, sources, limit);
+        asked.keep_empty = keep_empty;
+        let rows = room::rows(self.axes(), sources.len()) + 1;
+        let (mut work, mut order) = (vec![0; 2 * rows], vec![0; rows]);
+        let room = room::one_more(self.axes(), self.key.len());
+        let (mut key, mut own) = (vec![0; room], vec![0; room]);
+        let (mut begin, mut total) = (vec![0; room], vec![0; room]);
+        let (nodes, _) = lent::add_source(
+            asked,
+            point,
+            self.columns(),
+            &self.order,
+            &mut work,
+            &mut order,
+            &mut key,
+            &mut own,
+            &mut begin,
+            &mut total,
+        )?;
+        let (key, own) = (room::cut(key, nodes), room::cut(own, nodes));
+        let (begin, total) = (room::cut(begin, nodes), room::cut(total, nodes));
+        Ok(Tree::from_columns(
+            self.bounds,
+            key,
+            own,
+            begin,
+            total,
+            order,
+        ))
+    }
+
     /// The tree of these columns, as they are.
     pub fn from_columns(
         bounds: Bounds,

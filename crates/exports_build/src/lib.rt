@@ -12,7 +12,7 @@ ghost use Rattle.exports_points.specs.Boxes.{boxAt};
 ghost use Rattle.exports_build.specs.Told.{gridAt, builtEnd, nodesIn, depthIn};
 
 // Tells the number of nodes and the depth.
-fn tell_built(answer: Built, nodes: &mut usize, depth: &mut u64) -> Ended
+pub fn tell_built(answer: Built, nodes: &mut usize, depth: &mut u64) -> Ended
     ensures ended { λ r. ⌜ r ≡ told (builtEnd answer) ⌝ }
     ensures nodes { λ _. ⌜ now (nodes .exit) ≡ nodesIn answer ⌝ }
     ensures depth { λ _. ⌜ now (depth .exit) ≡ depthIn answer ⌝ }
