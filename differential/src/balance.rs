@@ -402,7 +402,7 @@ fn some_tree(r: &mut Random, case: u64) -> (Tree, Vec<f64>) {
 
 /// The keys without one leaf, or without as many as a cell has children, so that the number of nodes may be that of a tree with
 /// all children.
-fn without_leaves(r: &mut Random, axes: usize, keys: &[u64]) -> Vec<u64> {
+pub fn without_leaves(r: &mut Random, axes: usize, keys: &[u64]) -> Vec<u64> {
     let all: HashSet<u64> = keys.iter().copied().collect();
     let mut ends: Vec<u64> = leaves(axes, &all).iter().map(|leaf| leaf.key).collect();
     ends.sort_unstable();

@@ -1,6 +1,6 @@
 //! One source more in a tree built without targets (request 7): beside the Rust's build of the longer list, its columns, order
 //! and lists; which rows keep their keys; and trees that are not the build of the former sources.
-use crate::balance::{children, settled};
+use crate::balance::{children, settled, without_leaves};
 use crate::builds::all_inside;
 use crate::inputs;
 use crate::keys::refused;
@@ -315,19 +315,20 @@ fn with_cells(m: &mut More, keys: HashSet<u64>) {
     m.tree = settled(&m.s.bounds, &keys, &m.s.sources).0;
 }
 
-/// The cells with one leaf split, one family of leaves dropped, an empty leaf dropped, or one added.
+/// The cells with all children or one of them put under a cell, with all under a cell dropped, with the cell itself too, or with
+/// one leaf dropped or as many as a cell has children.
 fn other_cells(r: &mut Random, m: &mut More) {
     let axes = m.s.bounds.axes;
     let mut keys: HashSet<u64> = m.tree.key.iter().copied().collect();
     let key = r.pick(&m.tree.key);
-    match r.below(4) {
+    match r.below(6) {
         0 if level(key) < 16 => keys.extend(children(axes, key)),
         1 if level(key) < 16 => {
             keys.insert(r.pick(&children(axes, key)));
         }
         2 => keys.retain(|k| level(*k) <= level(key) || up(axes, *k, level(key)) != key),
-        _ if key != 0 => keys.retain(|k| level(*k) < level(key) || up(axes, *k, level(key)) != key),
-        _ => {}
+        3 if key != 0 => keys.retain(|k| level(*k) < level(key) || up(axes, *k, level(key)) != key),
+        _ => keys = without_leaves(r, axes, &m.tree.key).into_iter().collect(),
     }
     with_cells(m, keys);
 }
