@@ -67,8 +67,12 @@ module _ (a : Asked) (z : Setting) (work work′ : List ℕ) (s : Marked) (coded
       sym all
       ∙ order-taken (ruleOf a) z src (targetCodes z work) work work′ (indices words) (indices words) s (omega (arith, src-long, coded .few)) q fits (record { taken = all; rest = refl })
 
-  pub tree-started : (order : List ℕ) (rows n : ℕ) → rows ≡ z .sources → n ≡ s .number → s .number ≤ z .room → z .sources ≤ length order → TreeStarted a (z .room) rows n work′ order (s .key) (s .mark)
-  tree-started order rows n r e fits room =
+  pub nodes-counted : s .number ≤ z .room → s .number ≡ length (builtKeys a)
+  nodes-counted fits = omega (arith, q .counted, ap length keys-asked)
+
+  pub tree-started : (order : List ℕ) (rows n : ℕ) → rows ≡ z .sources → n ≡ s .number → s .number ≤ z .room → z .sources ≤ length order → z .room ≤ length (s .key) → z .room ≤ length (s .mark)
+      → TreeStarted a (z .room) rows n work′ order (s .key) (s .mark)
+  tree-started order rows n r e fits room key-room mark-room =
       subst (λ (x : ℕ). TreeStarted a (z .room) x n work′ order (s .key) (s .mark)) (sym r)
       (subst (λ (y : ℕ). TreeStarted a (z .room) (z .sources) y work′ order (s .key) (s .mark)) (sym e) so)
     where
@@ -77,11 +81,11 @@ module _ (a : Asked) (z : Setting) (work work′ : List ℕ) (s : Marked) (coded
         in-work = omega (arith, q .kept, coded .beside);
         in-order = room;
         in-room = fits;
-        number = omega (arith, q .counted, ap length keys-asked);
-        keys = q .rows fits .keys ∙ keys-asked;
-        owns = q .rows fits .owns ∙ own-asked;
-        totals = q .rows fits .totals ∙ totals-asked;
-        few = q .rows fits .few;
+        number = nodes-counted fits;
+        keys = q .rows fits key-room mark-room .keys ∙ keys-asked;
+        owns = q .rows fits key-room mark-room .owns ∙ own-asked;
+        totals = q .rows fits key-room mark-room .totals ∙ totals-asked;
+        few = q .rows fits key-room mark-room .few;
         ordered = order-grown fits ∙ order-asked;
       }
 

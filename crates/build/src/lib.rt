@@ -17,7 +17,7 @@ ghost use lib.ListN.{length, replicate};
 ghost use Rattle.refusal.specs.declared.Refusal.the-variants.{Room};
 ghost use Rattle.refusal.specs.declared.Outcome.the-variants.{Done, Refused};
 ghost use Rattle.refusal.specs.Chain.{ask};
-ghost use Rattle.build.specs.Asked.{asks, asksAt, asksFor, asksOnGrid};
+ghost use Rattle.build.specs.Asked.{asks, asksAt, asksFor, asksOnGrid, builtKeys};
 ghost use Rattle.build.specs.Outcomes.{nodeRoom, rooms, buildOutcome, buildAnswer, orderLeft, keysLeft, ownLeft, beginsLeft, totalsLeft};
 ghost use Rattle.build.specs.Summing.{Sourced, SumsMade};
 ghost use Rattle.build.specs.Steps.{Plain, layOutcome, LaidOut, isDone, builtOr, TreeStarted};
@@ -31,7 +31,7 @@ pub enum Built {
 }
 
 // Whether both flags are set: only then are targets used.
-fn both(keep: bool, refine: bool) -> bool
+pub fn both(keep: bool, refine: bool) -> bool
     ensures { λ r. ⌜ r ≡ (keep && refine) ⌝ }
 {
     if keep {
@@ -41,7 +41,7 @@ fn both(keep: bool, refine: bool) -> bool
 }
 
 // How many entries of the targets are used: all with both flags, else none.
-fn used_entries(targets: usize, keep: bool, refine: bool) -> usize
+pub fn used_entries(targets: usize, keep: bool, refine: bool) -> usize
     ensures { λ r. ⌜ r ≡ cond (keep && refine) targets 0 ⌝ }
 {
     if both(keep, refine) {
@@ -88,7 +88,7 @@ struct Laid {
 }
 
 // A grid of no points, for a build that is on none.
-fn no_grid() -> Grid
+pub fn no_grid() -> Grid
     ensures { λ g. ⌜ g .shape ≡ 0 ∷ 0 ∷ 0 ∷ [] ⌝ }
 {
     Grid {
@@ -218,8 +218,8 @@ fn lay(
     lay_out(b, sources, targets, order, room, work, indices)
 }
 
-// Lays the points out and grows their tree, with the marks of its rows in `mark`. After a refusal the slices hold anything.
-fn start(
+// Lays the points out and grows their tree, with the marks of its rows in `mark`, if both columns have the room; else its nodes are only counted. After a refusal the slices hold anything.
+pub fn start(
     b: Box,
     sources: &[f64],
     targets: &[f64],
@@ -234,11 +234,12 @@ fn start(
     key: &mut [u64],
     mark: &mut [usize],
 ) -> Started
-    requires { ⌜ (room ≤ length (now key)) × (room ≤ length (now mark)) ⌝ }
+    requires { ⌜ room ≤ 1048576 ⌝ }
     ensures { λ r. ⌜ r .outcome ≡ buildOutcome (asksAt b limit order keep (now (sources .entry)) (now (targets .entry)) sited grid)
         (length (now (work .entry))) (length (now (indices .entry))) room ⌝ }
     ensures { λ r. ⌜ r .put ≡ isDone (r .outcome) ⌝ }
-    ensures { λ r. ⌜ (r .outcome ≡ Done
+    ensures { λ r. ⌜ (r .outcome ≡ Done → r .nodes ≡ length (builtKeys (asksAt b limit order keep (now (sources .entry)) (now (targets .entry)) sited grid))) ⌝ }
+    ensures { λ r. ⌜ (r .outcome ≡ Done → room ≤ length (now (key .entry)) → room ≤ length (now (mark .entry))
         → TreeStarted (asksAt b limit order keep (now (sources .entry)) (now (targets .entry)) sited grid)
         room (r .rows) (r .nodes) (now (work .exit)) (now (indices .exit)) (now (key .exit)) (now (mark .exit))) ⌝ }
 {

@@ -77,13 +77,13 @@ module _ (g : Rule) (z : Setting) (work work′ : List ℕ) (s : Marked) (len : 
   all = nodes g (sourceCodes z work) (targetCodes z work)
 
   module _ (q : Stands g z (pointsOf z work) work′ s (z .sources) (nodes g (sourceCodes z work) (targetCodes z work)) []) where
-    -- there is room for all
-    module _ (few : s .number ≤ z .room) where
+    -- there is room for all, in the columns too
+    module _ (few : s .number ≤ z .room) (key-room : z .room ≤ length (s .key)) (mark-room : z .room ≤ length (s .mark)) where
       same : length all ≡ s .number
       same = omega (arith, q .rows .counted)
 
       marks-are : take (s .number) (s .mark) ≡ map (λ k. markOf (sizeOf g p k) (splitting g p k)) all
-      marks-are = ap (λ (i : ℕ). take i (s .mark)) (sym same) ∙ q .rows .filled (omega (arith, q .rows .counted)) .marks
+      marks-are = ap (λ (i : ℕ). take i (s .mark)) (sym same) ∙ q .rows .filled (omega (arith, q .rows .counted)) key-room mark-room .marks
 
       told : (f h : ℕ → ℕ) → ((k : ℕ) → f (markOf (sizeOf g p k) (splitting g p k)) ≡ h k) → map f (take (s .number) (s .mark)) ≡ map h all
       told f h e = ap (map f) marks-are ∙ map-twice f (λ k. markOf (sizeOf g p k) (splitting g p k)) all ∙ map-agree (λ k. f (markOf (sizeOf g p k) (splitting g p k))) h all (λ k _. e k)
@@ -93,7 +93,7 @@ module _ (g : Rule) (z : Setting) (work work′ : List ℕ) (s : Marked) (len : 
 
       built : Built g (sourceCodes z work) (targetCodes z work) s
       built = record {
-        keys = ap (λ (i : ℕ). take i (s .key)) (sym same) ∙ q .rows .filled (omega (arith, q .rows .counted)) .keys;
+        keys = ap (λ (i : ℕ). take i (s .key)) (sym same) ∙ q .rows .filled (omega (arith, q .rows .counted)) key-room mark-room .keys;
         owns = owns-told ∙ owns-are g p z (q .behind .given);
         totals = told sumMarked (sizeOf g p) (λ k. sum-told (sizeOf g p k) (splitting g p k)) ∙ totals-are g p z (q .behind .given);
         few = omega (arith, ap sum owns-told, owned-length g p all, q .ordered few .reached, q .behind .given .few);

@@ -79,29 +79,38 @@ module _ (g : Rule) (p : Points) (room k sum : ℕ) (split : Bool) (key mark : L
 
   pub row-put : (x : ℕ) → x ≡ markOf sum split → m < room → Holds g p room (marked (set key m k) (set mark m x) (m + 1)) (done ++ k ∷ [])
   row-put x is l = record {
-    key-room = omega (arith, length-set key m k, h .key-room);
-    mark-room = omega (arith, length-set mark m x, h .mark-room);
+    bounded = h .bounded;
     counted = omega (arith, one-more, h .counted);
-    filled = λ r. subst (λ (n : ℕ). Filled g p (marked (set key n k) (set mark n x) (m + 1)) (done ++ k ∷ [])) (sym same) (rows (h .filled (omega (arith, one-more))));
+    filled = λ r i j.
+        let a : room ≤ length key = omega (arith, i, length-set key m k) in
+        let b : room ≤ length mark = omega (arith, j, length-set mark m x) in
+        subst (λ (n : ℕ). Filled g p (marked (set key n k) (set mark n x) (m + 1)) (done ++ k ∷ [])) (sym same) (rows a b (h .filled (omega (arith, r, one-more)) a b));
   }
     where
       same : m ≡ length done
       same = omega (arith, h .counted)
 
-      rows : Filled g p (marked key mark m) done → Filled g p (marked (set key (length done) k) (set mark (length done) x) (m + 1)) (done ++ k ∷ [])
-      rows f = record {
-        keys = ap (λ (i : ℕ). take i (set key (length done) k)) one-more ∙ column done key (length done) k (f .keys) (omega (arith, h .key-room, same));
+      rows : room ≤ length key → room ≤ length mark → Filled g p (marked key mark m) done → Filled g p (marked (set key (length done) k) (set mark (length done) x) (m + 1)) (done ++ k ∷ [])
+      rows a b f = record {
+        keys = ap (λ (i : ℕ). take i (set key (length done) k)) one-more ∙ column done key (length done) k (f .keys) (omega (arith, a, same));
         marks =
             ap (λ (i : ℕ). take i (set mark (length done) x)) one-more
-            ∙ column (marks done) mark (length done) x (f .marks) (omega (arith, h .mark-room, same))
+            ∙ column (marks done) mark (length done) x (f .marks) (omega (arith, b, same))
             ∙ ap (λ (y : ℕ). marks done ++ y ∷ []) (is ∙ ap₂ markOf is-sum is-split)
             ∙ sym (map-join (λ k. markOf (sizeOf g p k) (splitting g p k)) done (k ∷ []));
       }
 
+  -- a column does not reach
+  pub row-counted : m < room → min (length key) (length mark) ≤ m → Holds g p room (marked key mark (m + 1)) (done ++ k ∷ [])
+  row-counted l e = record {
+    bounded = h .bounded;
+    counted = omega (arith, one-more, h .counted);
+    filled = λ r i j. absurd (omega (arith, l, e, i, j));
+  }
+
   pub row-full : room ≤ m → Holds g p room (marked key mark (room + 1)) (done ++ k ∷ [])
   row-full l = record {
-    key-room = h .key-room;
-    mark-room = h .mark-room;
+    bounded = h .bounded;
     counted = omega (arith, one-more, h .counted);
-    filled = λ r. absurd (omega (arith, one-more, h .counted));
+    filled = λ r i j. absurd (omega (arith, r, one-more, h .counted));
   }

@@ -34,12 +34,11 @@ pub record Filled (g : Rule) (p : Points) (s : Marked) (done : List ℕ) : Type 
   pub keys : take (length done) (s .key) ≡ done
   pub marks : take (length done) (s .mark) ≡ map (λ k. markOf (sizeOf g p k) (splitting g p k)) done
 
--- the nodes `done` were put: they are counted, and where there is room for all both columns begin with them
+-- the nodes `done` were put: they are counted, and where there is room for all both columns begin with them, if they have that room
 pub record Holds (g : Rule) (p : Points) (room : ℕ) (s : Marked) (done : List ℕ) : Type 0 where
-  pub key-room : room ≤ length (s .key)
-  pub mark-room : room ≤ length (s .mark)
+  pub bounded : room ≤ 1048576
   pub counted : s .number ≡ min (length done) (room + 1)
-  pub filled : length done ≤ room → Filled g p s done
+  pub filled : length done ≤ room → room ≤ length (s .key) → room ≤ length (s .mark) → Filled g p s done
 
 -- one row more was put: cell k with its sources, and whether it splits
 abbrev pub PutsRow : ℕ → ℕ → ℕ → Bool → Marked → Marked → Type 0

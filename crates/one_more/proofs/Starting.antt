@@ -85,13 +85,13 @@ module _ (b : Box) (limit : ℕ) (keep : Bool) (sources point : List Float) (s :
     pub all-started : (order room : ℕ) (z : Sizes) (sums w w′ key mark : List ℕ) (n : ℕ) (out : Started) → length sums ≡ order → rowsOf b sources + 1 ≤ order
         → LaidOut (asksAlone b limit keep (longerOf b sources point)) room z w sums
         → Grows (ruleOf (asksAlone b limit keep (longerOf b sources point))) (setting z sums) w w′ (marked key mark n)
-        → out .outcome ≡ ask (leb n (z .room)) (Room 3) → (out .outcome ≡ Done → (out .rows ≡ z .sources) × (out .nodes ≡ n))
+        → out .outcome ≡ ask (leb n (z .room)) (Room 3) → (out .outcome ≡ Done → (out .rows ≡ z .sources) × (out .nodes ≡ n)) → room ≤ length key → room ≤ length mark
         → (out .outcome ≡ buildOutcome (asksAlone b limit keep (longerOf b sources point)) work order room)
         × (out .outcome ≡ Done → TreeStarted (asksAlone b limit keep (longerOf b sources point)) room (out .rows) (out .nodes) w′ sums key mark)
-    all-started order room z sums w w′ key mark n out len h l g e f = (
+    all-started order room z sums w w′ key mark n out len h l g e f i j = (
       e ∙ late-so a work order room (laid-done order h) n (z .room) (nodes (ruleOf a) (sourceCodes (setting z sums) w) (targetCodes (setting z sums) w))
           (keys-asked a (setting z sums) w w′ (marked key mark n) (l .coded) g (l .sources-are) (l .nodes-are)) (l .room-is) (g .counted),
       λ d. let fits = leb-true n (z .room) (asked (leb n (z .room)) (Room 3) (sym e ∙ d)) in
           subst (λ (m : ℕ). TreeStarted a m (out .rows) (out .nodes) w′ sums key mark) (l .room-is)
-          (tree-started a (setting z sums) w w′ (marked key mark n) (l .coded) g (l .sources-are) (l .nodes-are) sums (out .rows) (out .nodes) (f d .0) (f d .1) fits (l .fits)),
+          (tree-started a (setting z sums) w w′ (marked key mark n) (l .coded) g (l .sources-are) (l .nodes-are) sums (out .rows) (out .nodes) (f d .0) (f d .1) fits (l .fits) (omega (arith, i, l .room-is)) (omega (arith, j, l .room-is))),
     )

@@ -92,7 +92,7 @@ fn start(
     key: &mut [u64],
     mark: &mut [usize],
 ) -> Started
-    requires { ⌜ Sound b (now sources) (now point) × (room ≤ length (now key)) × (room ≤ length (now mark)) ⌝ }
+    requires { ⌜ Sound b (now sources) (now point) × (room ≤ 1048576) × (room ≤ length (now key)) × (room ≤ length (now mark)) ⌝ }
     ensures { λ r. ⌜ r .outcome ≡ buildOutcome (asksAlone b limit keep (longerOf b (now (sources .entry)) (now (point .entry))))
         (length (now (work .entry))) (length (now (indices .entry))) room ⌝ }
     ensures { λ r. ⌜ r .put ≡ isDone (r .outcome) ⌝ }

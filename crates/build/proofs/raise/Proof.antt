@@ -20,13 +20,13 @@ node-room-requires : tie.Need-node-room-requires
 node-room-requires c κs = search needs
 
 start-requires : tie.Need-start-requires
-start-requires c κs = let n = c .before .before .before .before .node-room .ensures in (omega (arith, n), omega (arith, n))
+start-requires c κs = let n = c .before .before .before .before .node-room .ensures in omega (arith, n)
 
 fill-or-clear-requires : tie.Need-fill-or-clear-requires
 fill-or-clear-requires c κs = let a = c .before .before .before .before .before .before .before .before .before .before .before .before .before .before .before .before .before .before .before .before .before .before .before .before .before .before .before .before .args in let s = c .before .before .before .before .before .before .before .before .before .before .before .before .before .before .start in let n = c .before .before .before .before .before .before .before .before .before .before .before .before .before .before .before .before .before .before .before .node-room .ensures in
     let from = slices (s .last .1 .1 .1 .1 .1 .1 .1 .1 .1 .0) (s .last .1 .1 .1 .1 .1 .1 .1 .1 .1 .1 .0) (s .last .1 .1 .1 .1 .1 .1 .1 .1 .1 .1 .1 .0) (now (a .own)) (now (a .begin)) (s .last .1 .1 .1 .1 .1 .1 .1 .1 .1 .1 .1 .1 .0) in
     let long : Long (rooms (now (a .work)) (now (a .indices)) (now (a .key)) (now (a .own)) (now (a .begin)) (now (a .total))) from = record { work = s .kept .1 .1 .1 .1 .1 .1 .1 .1 .1 .0; order = s .kept .1 .1 .1 .1 .1 .1 .1 .1 .1 .1 .0; keys = s .kept .1 .1 .1 .1 .1 .1 .1 .1 .1 .1 .1 .0; own = refl; begins = refl; totals = s .kept .1 .1 .1 .1 .1 .1 .1 .1 .1 .1 .1 .1 .0 } in
-    λ e. rows-put (asksAt (a .b) (a .limit) (a .order) (a .keep) (now (a .sources)) (now (a .targets)) (a .sited) (a .grid)) (c .before .before .before .before .before .before .before .before .before .before .before .before .before .before .before .before .before .before .before .node-room .result) (s .result .rows) (s .result .nodes) (rooms (now (a .work)) (now (a .indices)) (now (a .key)) (now (a .own)) (now (a .begin)) (now (a .total))) from long n (s .ensures .1 .1 (done-is (s .result .outcome) (sym (s .ensures .1 .0) ∙ e)))
+    λ e. rows-put (asksAt (a .b) (a .limit) (a .order) (a .keep) (now (a .sources)) (now (a .targets)) (a .sited) (a .grid)) (c .before .before .before .before .before .before .before .before .before .before .before .before .before .before .before .before .before .before .before .node-room .result) (s .result .rows) (s .result .nodes) (rooms (now (a .work)) (now (a .indices)) (now (a .key)) (now (a .own)) (now (a .begin)) (now (a .total))) from long n (s .ensures .1 .1 .1 (done-is (s .result .outcome) (sym (s .ensures .1 .0) ∙ e)) (omega (arith, n)) (omega (arith, n)))
 
 answer-of-requires : tie.Need-answer-of-requires
 answer-of-requires c κs = search needs
@@ -55,7 +55,7 @@ returns c = let a = c .before .before .before .before .before .before .before .b
     let long : Long (rooms (now (a .work)) (now (a .indices)) (now (a .key)) (now (a .own)) (now (a .begin)) (now (a .total))) from = record { work = s .kept .1 .1 .1 .1 .1 .1 .1 .1 .1 .0; order = s .kept .1 .1 .1 .1 .1 .1 .1 .1 .1 .1 .0; keys = s .kept .1 .1 .1 .1 .1 .1 .1 .1 .1 .1 .1 .0; own = refl; begins = refl; totals = s .kept .1 .1 .1 .1 .1 .1 .1 .1 .1 .1 .1 .1 .0 } in
     let e = c .before .before .before .before .before .before .before .before .before .before .before .before .before .fill-or-clear in
     let to = slices (e .last .1 .1 .1 .0) (e .last .1 .1 .1 .1 .0) (e .last .1 .1 .1 .1 .1 .0) (e .last .1 .1 .1 .1 .1 .1 .0) (e .last .1 .1 .1 .1 .1 .1 .1 .0) (e .last .1 .1 .1 .1 .1 .1 .1 .1 .0) in
-    let all = ended (asksAt (a .b) (a .limit) (a .order) (a .keep) (now (a .sources)) (now (a .targets)) (a .sited) (a .grid)) (rooms (now (a .work)) (now (a .indices)) (now (a .key)) (now (a .own)) (now (a .begin)) (now (a .total))) from to long (s .result .outcome) (s .result .put) (c .before .before .before .before .before .before .before .before .before .before .before .before .before .before .before .before .before .before .before .before .before .before .before .before .before .before .before .before .before .before .before .before .before .node-room .result) (s .result .rows) (s .result .nodes) (e .result) n (s .ensures .0) (s .ensures .1 .0) (s .ensures .1 .1) (e .ensures .0) (e .ensures .1) in
+    let all = ended (asksAt (a .b) (a .limit) (a .order) (a .keep) (now (a .sources)) (now (a .targets)) (a .sited) (a .grid)) (rooms (now (a .work)) (now (a .indices)) (now (a .key)) (now (a .own)) (now (a .begin)) (now (a .total))) from to long (s .result .outcome) (s .result .put) (c .before .before .before .before .before .before .before .before .before .before .before .before .before .before .before .before .before .before .before .before .before .before .before .before .before .before .before .before .before .before .before .before .before .node-room .result) (s .result .rows) (s .result .nodes) (e .result) n (s .ensures .0) (s .ensures .1 .0) (λ d. s .ensures .1 .1 .1 d (omega (arith, n)) (omega (arith, n))) (e .ensures .0) (e .ensures .1) in
     (c .answer-of .ensures ∙ all .0, all .1)
 
 pub raise-spec : {M : Type 1} → statement M

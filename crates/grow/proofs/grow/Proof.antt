@@ -18,10 +18,10 @@ use Rattle.parting.proofs.deal_root.Reads as deal-root-reads
 use Rattle.grow.proofs.grow_children.Reads as grow-children-reads
 
 deal-root-requires : tie.Need-deal-root-requires
-deal-root-requires c κs = let s = c .before .before .before .before .before .pre in (s .0, s .3)
+deal-root-requires c κs = let s = c .before .before .before .before .before .pre in (s .0, s .2)
 
 grow-children-requires : tie.Need-grow-children-requires
-grow-children-requires c κs = let a = c .before .before .before .before .before .before .before .before .before .before .before .before .before .before .before .args in let s = c .before .before .before .before .before .before .before .before .before .before .before .before .before .before .before .pre in ((root-left (a .g) (s .0 .known), omega arith, ((pointsOf (setting (a .z) (now (a .sums))) (now (a .work))), [], [], (root-at (a .g) (setting (a .z) (now (a .sums))) (pointsOf (setting (a .z) (now (a .sums))) (now (a .work))) (c .before .before .before .before .before .before .before .before .before .deal-root .result .counts) (c .before .before .before .before .before .before .before .before .before .deal-root .result .to) (c .before .before .before .before .before .before .before .before .before .deal-root .last .1 .1 .1 .0) (now (a .key)) (now (a .mark)) (points-given (a .g) (setting (a .z) (now (a .sums))) (now (a .work)) (s .0)) (s .1) (s .2) (points-dealt (a .g) (setting (a .z) (now (a .sums))) (now (a .work)) (s .0) (c .before .before .before .before .before .before .before .before .before .deal-root .result .counts) (c .before .before .before .before .before .before .before .before .before .deal-root .result .to) (c .before .before .before .before .before .before .before .before .before .deal-root .last .1 .1 .1 .0) (c .before .before .before .before .before .before .before .before .before .deal-root .ensures))))), s .3)
+grow-children-requires c κs = let a = c .before .before .before .before .before .before .before .before .before .before .before .before .before .before .before .args in let s = c .before .before .before .before .before .before .before .before .before .before .before .before .before .before .before .pre in ((root-left (a .g) (s .0 .known), omega arith, ((pointsOf (setting (a .z) (now (a .sums))) (now (a .work))), [], [], (root-at (a .g) (setting (a .z) (now (a .sums))) (pointsOf (setting (a .z) (now (a .sums))) (now (a .work))) (c .before .before .before .before .before .before .before .before .before .deal-root .result .counts) (c .before .before .before .before .before .before .before .before .before .deal-root .result .to) (c .before .before .before .before .before .before .before .before .before .deal-root .last .1 .1 .1 .0) (now (a .key)) (now (a .mark)) (points-given (a .g) (setting (a .z) (now (a .sums))) (now (a .work)) (s .0)) (s .1) (points-dealt (a .g) (setting (a .z) (now (a .sums))) (now (a .work)) (s .0) (c .before .before .before .before .before .before .before .before .before .deal-root .result .counts) (c .before .before .before .before .before .before .before .before .before .deal-root .result .to) (c .before .before .before .before .before .before .before .before .before .deal-root .last .1 .1 .1 .0) (c .before .before .before .before .before .before .before .before .before .deal-root .ensures))))), s .2)
 
 same-length : tie.Need-same-length
 same-length c = c .before .before .before .before .before .before .grow-children .kept .1 .1 .1 .1 .1 .1 .1 .1 .1 .0 ∙ c .before .before .before .before .before .before .before .before .before .before .before .before .before .before .before .before .deal-root .kept .1 .1 .1 .0
@@ -33,7 +33,7 @@ same-length-3 : tie.Need-same-length-3
 same-length-3 c = c .before .before .before .before .before .before .grow-children .kept .1 .1 .1 .1 .1 .1 .1 .1 .1 .1 .1 .0
 
 returns : tie.Need-returns
-returns c = let a = c .before .before .before .before .before .before .before .before .before .before .before .before .before .before .before .before .before .before .before .before .before .before .args in let s = c .before .before .before .before .before .before .before .before .before .before .before .before .before .before .before .before .before .before .before .before .before .before .pre in grown (a .g) (setting (a .z) (now (a .sums))) (now (a .work)) (c .before .before .before .before .before .before .grow-children .last .1 .1 .1 .1 .1 .1 .1 .1 .1 .0) (marked (c .before .before .before .before .before .before .grow-children .last .1 .1 .1 .1 .1 .1 .1 .1 .1 .1 .0) (c .before .before .before .before .before .before .grow-children .last .1 .1 .1 .1 .1 .1 .1 .1 .1 .1 .1 .0) (c .before .before .before .before .before .before .grow-children .result)) (c .before .before .before .before .before .before .grow-children .kept .1 .1 .1 .1 .1 .1 .1 .1 .1 .0 ∙ c .before .before .before .before .before .before .before .before .before .before .before .before .before .before .before .before .deal-root .kept .1 .1 .1 .0) (c .before .before .before .before .before .before .grow-children .ensures (pointsOf (setting (a .z) (now (a .sums))) (now (a .work))) [] [] (root-at (a .g) (setting (a .z) (now (a .sums))) (pointsOf (setting (a .z) (now (a .sums))) (now (a .work))) (c .before .before .before .before .before .before .before .before .before .before .before .before .before .before .before .before .deal-root .result .counts) (c .before .before .before .before .before .before .before .before .before .before .before .before .before .before .before .before .deal-root .result .to) (c .before .before .before .before .before .before .before .before .before .before .before .before .before .before .before .before .deal-root .last .1 .1 .1 .0) (now (a .key)) (now (a .mark)) (points-given (a .g) (setting (a .z) (now (a .sums))) (now (a .work)) (s .0)) (s .1) (s .2) (points-dealt (a .g) (setting (a .z) (now (a .sums))) (now (a .work)) (s .0) (c .before .before .before .before .before .before .before .before .before .before .before .before .before .before .before .before .deal-root .result .counts) (c .before .before .before .before .before .before .before .before .before .before .before .before .before .before .before .before .deal-root .result .to) (c .before .before .before .before .before .before .before .before .before .before .before .before .before .before .before .before .deal-root .last .1 .1 .1 .0) (c .before .before .before .before .before .before .before .before .before .before .before .before .before .before .before .before .deal-root .ensures))))
+returns c = let a = c .before .before .before .before .before .before .before .before .before .before .before .before .before .before .before .before .before .before .before .before .before .before .args in let s = c .before .before .before .before .before .before .before .before .before .before .before .before .before .before .before .before .before .before .before .before .before .before .pre in grown (a .g) (setting (a .z) (now (a .sums))) (now (a .work)) (c .before .before .before .before .before .before .grow-children .last .1 .1 .1 .1 .1 .1 .1 .1 .1 .0) (marked (c .before .before .before .before .before .before .grow-children .last .1 .1 .1 .1 .1 .1 .1 .1 .1 .1 .0) (c .before .before .before .before .before .before .grow-children .last .1 .1 .1 .1 .1 .1 .1 .1 .1 .1 .1 .0) (c .before .before .before .before .before .before .grow-children .result)) (c .before .before .before .before .before .before .grow-children .kept .1 .1 .1 .1 .1 .1 .1 .1 .1 .0 ∙ c .before .before .before .before .before .before .before .before .before .before .before .before .before .before .before .before .deal-root .kept .1 .1 .1 .0) (c .before .before .before .before .before .before .grow-children .ensures (pointsOf (setting (a .z) (now (a .sums))) (now (a .work))) [] [] (root-at (a .g) (setting (a .z) (now (a .sums))) (pointsOf (setting (a .z) (now (a .sums))) (now (a .work))) (c .before .before .before .before .before .before .before .before .before .before .before .before .before .before .before .before .deal-root .result .counts) (c .before .before .before .before .before .before .before .before .before .before .before .before .before .before .before .before .deal-root .result .to) (c .before .before .before .before .before .before .before .before .before .before .before .before .before .before .before .before .deal-root .last .1 .1 .1 .0) (now (a .key)) (now (a .mark)) (points-given (a .g) (setting (a .z) (now (a .sums))) (now (a .work)) (s .0)) (s .1) (points-dealt (a .g) (setting (a .z) (now (a .sums))) (now (a .work)) (s .0) (c .before .before .before .before .before .before .before .before .before .before .before .before .before .before .before .before .deal-root .result .counts) (c .before .before .before .before .before .before .before .before .before .before .before .before .before .before .before .before .deal-root .result .to) (c .before .before .before .before .before .before .before .before .before .before .before .before .before .before .before .before .deal-root .last .1 .1 .1 .0) (c .before .before .before .before .before .before .before .before .before .before .before .before .before .before .before .before .deal-root .ensures))))
 
 pub grow-spec : {M : Type 1} → statement M
 grow-spec =

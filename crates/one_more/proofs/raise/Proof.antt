@@ -15,7 +15,7 @@ node-room-requires : tie.Need-node-room-requires
 node-room-requires c κs = search needs
 
 start-requires : tie.Need-start-requires
-start-requires c κs = let n = c .before .before .before .before .node-room .ensures in (c .before .before .before .before .before .before .before .before .before .before .before .before .before .pre, omega (arith, n), omega (arith, n))
+start-requires c κs = let n = c .before .before .before .before .node-room .ensures in (c .before .before .before .before .before .before .before .before .before .before .before .before .before .pre, omega (arith, n), omega (arith, n), omega (arith, n))
 
 fill-or-clear-requires : tie.Need-fill-or-clear-requires
 fill-or-clear-requires c κs = let a = c .before .before .before .before .before .before .before .before .before .before .before .before .before .before .before .before .before .before .before .before .before .before .before .before .before .before .before .before .args in let s = c .before .before .before .before .before .before .before .before .before .before .before .before .before .before .start in let n = c .before .before .before .before .before .before .before .before .before .before .before .before .before .before .before .before .before .before .before .node-room in
