@@ -2,7 +2,7 @@
 use mathlib.Core.Path.{_≡_}
 use mathlib.Core.Bool.{true}
 use mathlib.Core.List.{List, []}
-use Prim.Native.Nat.{ℕ, _≤_, _<_}
+use Prim.Native.Nat.{ℕ, suc, _≤_, _<_}
 use lib.Dec.{ltb}
 use lib.ListN.{length, getD}
 use Rattle.slices.specs.Lists.{Mem}
@@ -25,4 +25,5 @@ pub record Cut (d : ℕ) (keys : List ℕ) (cell from to : ℕ) : Type 0 where
   pub behind : (j : ℕ) → j < length keys → to ≤ j → getD keys j 0 ≡ cell → ⊥
   pub at : (j : ℕ) → j < length keys → from ≤ j → j < to → getD keys j 0 ≡ cell
   pub rises : from ≤ to
+  pub short : to ≤ suc from
   pub within : to ≤ length keys
