@@ -27,7 +27,7 @@ use Rattle.further.specs.Points.{Beside, SourcesRight, BuildOf}
 use Rattle.further.proofs.Columns.{columns-iff}
 
 -- each node comes before those after it
-abbrev Rising : ℕ → List ℕ → Type 0
+abbrev pub Rising : ℕ → List ℕ → Type 0
 Rising d xs = (i j : ℕ) → i < j → j < length xs → Earlier d (getD xs i 0) (getD xs j 0)
 
 module _ (d : ℕ) where
@@ -37,7 +37,7 @@ module _ (d : ℕ) where
   rest : (x : ℕ) (xs : List ℕ) → Rising d (x ∷ xs) → Rising d xs
   rest x xs h i j a b = h (suc i) (suc j) (omega arith) (omega arith)
 
-  same-order : (xs ys : List ℕ) → Rising d xs → Rising d ys → ((z : ℕ) → Mem z xs → Mem z ys) → ((z : ℕ) → Mem z ys → Mem z xs) → xs ≡ ys
+  pub same-order : (xs ys : List ℕ) → Rising d xs → Rising d ys → ((z : ℕ) → Mem z xs → Mem z ys) → ((z : ℕ) → Mem z ys → Mem z xs) → xs ≡ ys
   same-order [] [] a b f h = refl
   same-order [] (y ∷ ys) a b f h = absurd (not-suc-le-zero (h y (here y ys) .1))
   same-order (x ∷ xs) [] a b f h = absurd (not-suc-le-zero (f x (here x xs) .1))

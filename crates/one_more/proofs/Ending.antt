@@ -1,8 +1,8 @@
 -- What is left in the slices: after the judge has refused, and after the build of the longer list.
-use mathlib.Core.Path.{_≡_, sym, ap, _∙_}
+use mathlib.Core.Path.{_≡_, sym, ap, _∙_, subst}
 use mathlib.Core.List.{List}
 use Prim.Native.Nat.{ℕ}
-use lib.ListN.{replicate}
+use lib.ListN.{length, replicate}
 use Rattle.refusal.specs.declared.Refusal.{Refusal}
 use Rattle.refusal.specs.declared.Outcome.{Outcome}
 use Rattle.refusal.specs.declared.Outcome.the-variants.{Done, Refused}
@@ -11,7 +11,7 @@ use Rattle.refusal.proofs.Chain.{after-done, after-refused}
 use Rattle.build.specs.declared.Built.{Built}
 use Rattle.build.specs.declared.Built.the-variants.{Refused as NotBuilt}
 use Rattle.build.specs.Asked.{builtKeys, builtOwn, builtBegins, builtTotals, builtOrder}
-use Rattle.build.specs.Outcomes.{treeOr, Rooms, buildCheck, buildAnswer, orderLeft, keysLeft, ownLeft, beginsLeft, totalsLeft}
+use Rattle.build.specs.Outcomes.{treeOr, Rooms, rooms, buildCheck, buildAnswer, orderLeft, keysLeft, ownLeft, beginsLeft, totalsLeft}
 use Rattle.build.proofs.Answers.{refusal-so}
 use Rattle.one_more.specs.More.{More, longerBuild, judged, moreCheck, moreAnswer, orderMore, keysMore, ownMore, beginsMore, totalsMore}
 
@@ -60,3 +60,9 @@ module _ (q : More) (r : Rooms) (works orders keys owns begins totals : List ℕ
     where
       like : buildCheck (longerBuild q) r ≡ moreCheck q r → (m : ℕ) (answer slice : List ℕ) → slice ≡ left (buildCheck (longerBuild q) r) m answer → slice ≡ left (moreCheck q r) m answer
       like c m answer slice z = z ∙ ap (λ (x : Outcome). left x m answer) c
+
+-- the room in the work counts alone, and not what stands there
+pub with-work : (q : More) (work work′ order keys own begins totals : List ℕ) → length work′ ≡ length work → (answer : Built) (works orders keyed owns begun summed : List ℕ)
+    → Ended q (rooms work′ order keys own begins totals) answer works orders keyed owns begun summed → Ended q (rooms work order keys own begins totals) answer works orders keyed owns begun summed
+with-work q work work′ order keys own begins totals e answer works orders keyed owns begun summed h =
+    subst (λ (m : ℕ). Ended q (record { work = m; order = length order; keys = length keys; own = length own; begins = length begins; totals = length totals }) answer works orders keyed owns begun summed) e h

@@ -35,7 +35,7 @@ fn point_outcome(b: Box, point: [f64; 3], n: usize) -> Outcome
     Outcome::Done
 }
 
-// The refusals before the room is asked.
+// The refusals before the room is asked. The work holds anything after them.
 fn judge(
     b: Box,
     sources: &[f64],
@@ -47,6 +47,7 @@ fn judge(
     begin: &[usize],
     total: &[usize],
     indices: &[usize],
+    work: &mut [u64],
 ) -> Outcome
     ensures { λ r. ⌜ r ≡ judged (asksMore b (now (sources .entry)) point limit keep (columns (now (key .entry)) (now (own .entry)) (now (begin .entry)) (now (total .entry))) (now (indices .entry))) ⌝ }
 {
@@ -65,7 +66,7 @@ fn judge(
     if !tree::is_well_formed(axes, key, own, begin, total) {
         return Outcome::Refused(Refusal::Tree);
     }
-    if !was_built::is_build(b, limit, keep, sources, key, own, begin, total, indices) {
+    if !was_built::is_build_in(b, limit, keep, sources, key, own, begin, total, indices, work) {
         return Outcome::Refused(Refusal::NotBuilt);
     }
     point_outcome(b, point, n)
@@ -220,6 +221,7 @@ pub fn add_source(
         begin,
         total,
         indices,
+        work,
     );
     if let Outcome::Refused(refusal) = judged {
         filling::clear_keys(work, new_indices, new_key);

@@ -5,8 +5,8 @@ use mathlib.Core.List.{List, [], _∷_}
 use Prim.Native.Nat.{ℕ}
 use lib.Dec.{eqb}
 use lib.Ieee.{Float}
-use lib.ListN.{length, length-map}
-use lib.Seq.{ext-getD}
+use lib.ListN.{length, take, drop, length-map}
+use lib.Seq.{ext-getD, take-at}
 use borrow.Author.Tests.{eqb-true, eq-eqb}
 use native.Mathlib.Omega.{arith}
 use native.Mathlib.Nat.{zero-div}
@@ -15,7 +15,12 @@ use Rattle.slices.proofs.Lists.{getD-map}
 use Rattle.morton.specs.Keys.{axesKnown}
 use Rattle.space.specs.declared.Box.{Box}
 use Rattle.space.specs.Cells.{frameOf}
-use Rattle.space.specs.Rows.{rowsOf, rowsInside, codes16}
+use Rattle.refusal.specs.declared.Wall.{Wall}
+use Rattle.space.specs.declared.Rows.the-variants.{Inside, Outside}
+use Rattle.space.specs.Rows.{rowsOf, rowsInside, codes16, coded, firstOutside}
+use Rattle.space.proofs.Batches.{codes-length, one-outside}
+use Rattle.space.proofs.Batches as batches
+use Rattle.laying.proofs.Inside.{coded-all}
 use Rattle.laying.specs.Points.{codesOf}
 use Rattle.tree.specs.Columns.{Columns, columns}
 use Rattle.tree.specs.Totals.{totalIn, totalColumn}
@@ -30,6 +35,7 @@ use Rattle.points_right.specs.Points.{pointIn, PointsRight}
 use Rattle.growth.specs.declared.Rule.{Rule}
 use Rattle.growth.specs.Nodes.{nodes}
 use Rattle.growth.specs.Columns.{ownColumn, beginColumn, orderColumn}
+use Rattle.further.specs.Points.{SourcesRight}
 use Rattle.further.proofs.Ordered.{formed-iff}
 use Rattle.grown_right.specs.Grown.{Grown}
 use Rattle.grown_right.proofs.Judged.{grown-right, right-grown}
@@ -155,8 +161,35 @@ module _ (b : Box) (limit : ℕ) (keep : Bool) (sources : List Float) (keys own 
   by-growth true t p = sym (to p t)
   by-growth false t p = sym (refute (λ h. t (from h .1)))
 
+  -- by the codes of the sources
+  pub not-inside : (rowsInside b sources ≡ rowsOf b sources → ⊥) → false ≡ isBuild b limit keep sources (columns keys own begin total) order
+  unfolding isBuild
+  not-inside h = sym (refute (λ t. h (eqb-true (rowsInside b sources) (rowsOf b sources) (and-l _ _ t))))
+
+  module _ (codes : List ℕ) (e : codes ≡ codesOf b sources) where
+    pub not-codes : (SourcesRight (b .axes) codes keys own begin order → ⊥) → false ≡ isBuild b limit keep sources (columns keys own begin total) order
+    not-codes h = not-points (λ p. h (subst (λ (c : List ℕ). SourcesRight (b .axes) c keys own begin order) (sym e) (by-codes b sources keys own begin order p)))
+
+    pub coded-growth : (r : Bool) → Tells (Grown g keys total) r → rowsInside b sources ≡ rowsOf b sources → SourcesRight (b .axes) codes keys own begin order
+        → r ≡ isBuild b limit keep sources (columns keys own begin total) order
+    coded-growth r t ins p = by-growth r t (from-codes b sources keys own begin order ins (subst (λ (c : List ℕ). SourcesRight (b .axes) c keys own begin order) e p))
+
 -- what the tests ask of the tree
 pub tree-keys : (d : ℕ) (keys own begin total : List ℕ) → axesKnown d ≡ true → wellFormed d keys own begin total ≡ true → TreeKeys d keys × (length total ≡ length keys)
 tree-keys d keys own begin total known formed =
     let w = all-facts d keys own begin total formed in
     (record { axes = known; some = w .some; ascend = facts-ascend d keys (w .rows .tree .ascending); parents = facts-parents d keys (w .rows .tree .parents) }, w .totals)
+
+-- a source is outside
+pub not-all-in : (b : Box) (sources : List Float) (wall : Wall) → firstOutside (rowsOf b sources) (frameOf b) sources ≡ Outside wall → rowsInside b sources ≡ rowsOf b sources → ⊥
+not-all-in b sources wall e q = omega (arith, one-outside (rowsOf b sources) wall (frameOf b) sources e .1, q)
+
+-- the codes that were written, of sources that are all inside
+module _ (b : Box) (sources : List Float) (old work : List ℕ) (all : firstOutside (rowsOf b sources) (frameOf b) sources ≡ Inside) (e : work ≡ coded (rowsOf b sources) (frameOf b) sources old) where
+  pub all-in : rowsInside b sources ≡ rowsOf b sources
+  all-in = batches.all-inside (rowsOf b sources) (frameOf b) sources all
+
+  pub codes-first : take (rowsOf b sources) work ≡ codesOf b sources
+  codes-first =
+      ap (take (rowsOf b sources)) (e ∙ coded-all b sources old all)
+      ∙ take-at (codesOf b sources) (drop (rowsOf b sources) old) (rowsOf b sources) (codes-length (rowsOf b sources) (frameOf b) sources)
