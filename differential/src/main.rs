@@ -16,6 +16,7 @@ mod random;
 mod refusals;
 mod renumbered;
 mod runs;
+mod salvage;
 mod sums;
 mod swapped;
 mod tally;
@@ -87,6 +88,7 @@ const KINDS: &[Kind] = &[
     ("near-work", 3_000, near_work::near_work),
     ("sums", 800, sums::sums),
     ("balance", 6_000, balance::balance),
+    ("salvage", 6_000, salvage::salvage),
     ("well-formed", 20_000, refusals::trees_handed_in),
     ("refusals", 4_000, refusals::tree_calls),
     ("large", 1, refusals::large),

@@ -89,3 +89,22 @@ def balanced(axes, nodes):
     """The most nodes that the balanced tree of one of so many nodes can have. A cell that is split there is split in the given
     tree or touches one of its level that is, so there are at most 3 ** axes times as many."""
     return min(3 ** axes * max(nodes - 1, 0) + 1, MOST_NODES)
+
+
+def salvaged(keys):
+    """The most nodes that can be had of rows with these keys: the root, and for each key the cells on the way to it, itself
+    among them."""
+    if numpy:
+        levels = keys & 32767
+        return min(1 + int(levels[levels <= DEEPEST].sum()), MOST_NODES)
+    return min(1 + sum(key & 32767 for key in keys if key & 32767 <= DEEPEST), MOST_NODES)
+
+
+def runs(own, begin, entries):
+    """The most sources that can be had of rows with these counts and begins, where the order column has so many entries: all
+    runs that do not pass its end, as far as they count."""
+    if numpy:
+        # whole numbers of 64 bits that are at least 2 ** 63 are below 0 here, and past any order column
+        within = (own >= 0) & (begin >= 0) & (own <= entries) & (begin <= entries - own)
+        return min(int(own[within].sum()), MOST_POINTS)
+    return min(sum(count for count, start in zip(own, begin) if count >= 0 <= start and count + start <= entries), MOST_POINTS)

@@ -67,6 +67,7 @@ compile_error!(
 #[doc = include_str!("../README.md")]
 struct Readme;
 
+mod changes;
 pub mod ferreus;
 pub mod keys;
 pub mod lent;
@@ -79,6 +80,7 @@ mod room;
 mod rows;
 pub mod trees;
 
+pub use changes::Change;
 pub use lent::{Asked, Columns, Grid};
 pub use points::Bounds;
 pub use refusal::{Reason, Refusal, Wall};

@@ -151,6 +151,23 @@ pub(crate) fn balanced(axes: usize, nodes: usize) -> usize {
     below.saturating_add(1).min(MOST_NODES)
 }
 
+/// The most nodes that can be had of these rows: the root, and for each key the cells on the way to it, itself among them.
+pub(crate) fn salvaged(keys: &[u64]) -> usize {
+    let levels = keys.iter().map(|key| key % 32768);
+    let cells: u64 = levels.filter(|level| *level <= DEEPEST).sum();
+    (cells as usize).saturating_add(1).min(MOST_NODES)
+}
+
+/// The most sources that can be had of these rows: all runs that do not pass the order column's end, as far as they count.
+pub(crate) fn runs(own: &[usize], begin: &[usize], order: &[usize]) -> usize {
+    let ends = |(count, from): (&usize, &usize)| Some((*count, count.checked_add(*from)?));
+    let within = own.iter().zip(begin).filter_map(ends);
+    let within = within.filter(|(_, end)| *end <= order.len());
+    within.fold(0_usize, |sum, (count, _)| {
+        sum.saturating_add(count).min(MOST_POINTS)
+    })
+}
+
 /// What says that the U keys were short, and the V keys.
 pub(crate) const U_SHORT: Refusal = Refusal::new(Refusal::ROOM, 6);
 pub(crate) const V_SHORT: Refusal = Refusal::new(Refusal::ROOM, 7);
