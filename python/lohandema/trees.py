@@ -519,6 +519,27 @@ class Tree:
         u_starts, u_keys, v_starts, v_keys = [cut(one, count) for one, count in zip(columns, counts)]
         return Lists(self, Rows(u_starts, u_keys), Rows(v_starts, v_keys))
 
+    # Files
+
+    def to_file(self, lists=None, *, progress=False):
+        """The tree, its order and its lists as the bytes of a tree file, for another unit that shares the survey: it reads them
+        and need not build. The box is not in the file. Lists that are at hand are given as lists=; they, the
+        tree and the order are checked. Raises Refused 4 COUNT, 13 TREE, or 17 SECTION where the order is no arrangement or the
+        lists are not the tree's.
+
+        >>> tree = Tree.build([[0.5], [1.5], [6.5], [7.5]], Box([4.0], 4.0), limit=1)
+        >>> file = tree.to_file()
+        >>> len(file), list(file[-8:])
+        (472, [1, 0, 0, 0, 9, 0, 0, 0])
+        """
+        given = lent_lists(self.lists(progress=progress) if lists is None else lists)
+        file, written = bytearray(room.file(self, given)), ctypes.c_size_t()
+        lent = Lent(memoryview(file), 1)
+        with telling(progress, "the file of %d nodes" % len(self)):
+            call("write_tree", self.box.axes, *self._words(), *self._words("order"), *_words(given + [lent]),
+                 ctypes.byref(written))
+        return bytes(lent.view[:written.value])
+
 
 def _words(lent):
     """The addresses and lengths of what is lent."""
