@@ -14,6 +14,7 @@ from common import ROOT, some_points
 from lohandema import Box, Tree
 
 sys.path.append(os.path.join(ROOT, "tools", "tests"))
+import survey_file as house
 from tree_files import plain_file
 
 COLUMNS = ("key", "own", "begin", "total", "order")
@@ -107,6 +108,27 @@ class Tool(unittest.TestCase):
         self.assertEqual((result.returncode, result.stdout, result.stderr.count("\n")), (1, "", 1))
         self.assertIn("give --renumber SOURCES.csv, which numbers those that are left anew, or --csv without -o", result.stderr)
         self.assertFalse(os.path.exists(self.path("b.tree")))
+
+    def test_sample(self):
+        """The sample is the file of three-lines, cut, and its text what is told of it."""
+        survey = house.read_survey(os.path.join(ROOT, "samples", "three-lines.survey"))
+        tree = Tree.build([list(row) for row in survey.sources], Box(survey.centre, survey.radius), limit=survey.limit)
+        with open(os.path.join(ROOT, "samples", "three-lines-cut.tree"), "rb") as file:
+            cut = file.read()
+        self.assertEqual(cut, tree.to_file()[:20 * 57 + 4 * 43 + 2])
+        self.write("three-lines-cut.tree", cut)
+        told = self.run_tool("three-lines-cut.tree", "--axes", "2").stdout
+        with open(os.path.join(ROOT, "samples", "three-lines-cut.salvage"), encoding="utf-8") as file:
+            self.assertEqual(told, file.read())
+
+    def test_causes(self):
+        """Of a count that was cleared the one cause is told that it had."""
+        self.write("a.tree", plain_file(1, [0, 1, 2, 32769], [1, 1, 1, 2], [0, 0, 0, 1], [1, 1, 1, 1], [5, 6]))
+        told = self.run_tool("a.tree").stdout
+        for line in ("key 0 [level 0, cell 0]: its count was cleared, as it is the root (change 4)\n",
+                     "key 1 [level 1, cell 0]: its count was cleared, as it has children (change 4)\n",
+                     "key 32769 [level 1, cell 1]: its count was cleared, as its run passes the order column's end (change 4)\n"):
+            self.assertIn(line, told)
 
     def test_renumber(self):
         """The sources that are left get numbers of their own, by their old ones, and the file is a tree file again."""
