@@ -479,6 +479,27 @@ fn known(t: &mut Tally, r: &mut Random) {
     }
 }
 
+/// All inputs of so many rows over a few keys, counts and begins of one axis, with an order column of none to two entries.
+fn exhaustive(t: &mut Tally, rows: u32, begins: usize) {
+    let keys = [0, 1, 2, 32770, 32769, 17];
+    let each = keys.len() * 3 * begins;
+    for order in 0..3 {
+        for number in 0..each.pow(rows) {
+            let mut g = keys_alone(1, &[]);
+            g.order = (5..5 + order).collect();
+            let mut rest = number;
+            for _ in 0..rows {
+                let (one, more) = (rest % each, rest / each);
+                g.insert(g.key.len(), keys[one % 6], one / 6 % 3, one / 18);
+                rest = more;
+            }
+            let right = g.judged();
+            let (sources, nodes, changes) = right.as_ref().map_or((0, 0, 0), Had::sizes);
+            compare(t, &g, &right, Room::exact(sources, nodes, changes));
+        }
+    }
+}
+
 /// A thousand rows of one key, and as many of a key that is none.
 fn repeats(t: &mut Tally, r: &mut Random) {
     for axes in 1..=3 {
@@ -699,7 +720,10 @@ pub fn salvage(t: &mut Tally, r: &mut Random, case: u64) {
         known(t, r);
         repeats(t, r);
         overlaps(t);
+        exhaustive(t, 1, 4);
+        exhaustive(t, 2, if t.short() { 2 } else { 4 });
         if !t.short() {
+            exhaustive(t, 3, 2);
             many_nodes(t);
         }
     }
