@@ -102,7 +102,7 @@ class Tool(unittest.TestCase):
         self.assertIn("50 of 90 entries of the order column are there, as the file ends there", told)
         self.assertIn("had: %d nodes, %d sources, where the file had 90" % (self.rows, left), told)
         cleared = [node for node in self.tree.leaves().tolist() if self.tree.begin[node] + self.tree.own[node] > 50]
-        self.assertIn("%d count cleared" % len(cleared), told[-1])
+        self.assertIn("%d counts cleared" % len(cleared), told[-1])
         self.assertEqual(sum("its count was cleared" in line for line in told), len(cleared))
         result = self.run_tool("a.tree", "--axes", "2", "-o", "b.tree")
         self.assertEqual((result.returncode, result.stdout, result.stderr.count("\n")), (1, "", 1))
@@ -156,7 +156,7 @@ class Tool(unittest.TestCase):
             if key not in lost and self.tree.is_leaf(node):
                 self.assertEqual(cells[key], self.tree.own[node])
         self.assertTrue(all(key in lost for key in set(self.tree.key.tolist()) - set(cells)))
-        self.assertRegex(told[-1], r"^\d+ changes: 15 dropped as a repeat, ")
+        self.assertRegex(told[-1], r"^\d+ changes: 15 rows dropped as a repeat, ")
         self.assertFalse(any(line.startswith("key ") for line in told))
         self.assertIn("key 0 [level 0, cell 0,0]: a row was dropped, as an earlier one has this key (change 2)", self.had(spoilt))
 
