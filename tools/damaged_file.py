@@ -5,7 +5,9 @@ import array
 import re
 import struct
 import sys
+from collections import Counter
 from dataclasses import dataclass
+from itertools import accumulate
 
 from survey_file import DEEPEST, Refused, read_bytes, some
 
@@ -29,6 +31,14 @@ class Columns:
     # how many sources the file had, where it says so
     had: int
     told: list
+
+    def doubtful(self):
+        """The rows whose run has an entry that stands in the order column more than once, or is no source of so many as the file
+        had: a gap lies there, or anything else that is not the file's."""
+        times, most = Counter(self.order), 2 ** 32 if self.had is None else self.had
+        before = list(accumulate((times[one] > 1 or one >= most for one in self.order), initial=0))
+        return [row for row, (start, count) in enumerate(zip(self.begin, self.own))
+                if start + count < len(before) and before[start + count] > before[start]]
 
 
 def width(code):

@@ -3,6 +3,7 @@
 import csv
 import os
 import random
+import re
 import struct
 import subprocess
 import sys
@@ -159,6 +160,27 @@ class Tool(unittest.TestCase):
         self.assertRegex(told[-1], r"^\d+ changes: 15 rows dropped as a repeat, ")
         self.assertFalse(any(line.startswith("key ") for line in told))
         self.assertIn("key 0 [level 0, cell 0,0]: a row was dropped, as an earlier one has this key (change 2)", self.had(spoilt))
+
+    def test_doubtful(self):
+        """Room that was never written, behind the order column's beginning: what is copied from there is in doubt."""
+        for filler in (b"\0", b"\xff", b"\x05\0\0\0"):
+            end = 20 * self.rows + 4 * 50
+            spoilt = self.data[:end] + (filler * len(self.data))[:len(self.data) - end]
+            told = self.had(spoilt, "--axes", "2", "--csv", "cells.csv")
+            some = re.search(r"^the sources of (\d+) rows are in doubt, as some of them stand elsewhere too or are none; "
+                             "--drop-doubtful leaves them out$", "\n".join(told), re.M)
+            self.assertTrue(some, told)
+            self.assertIn("had: %d nodes, 90 sources" % self.rows, told)
+            told = self.had(spoilt, "--axes", "2", "--drop-doubtful", "--csv", "cells.csv", "-o", "b.tree", "--renumber", "was.csv")
+            self.assertEqual(sum("its count was left out, as its sources are in doubt" in line for line in told), int(some.group(1)))
+            for node, row in enumerate(self.table("cells.csv")):
+                sources = [int(one) for one in row["sources"].split()]
+                self.assertIn(sources, ([], self.tree.leaf_sources(node).tolist()))
+                # the leaf that does have the filler's source is in doubt with the others
+                if self.tree.begin[node] + self.tree.own[node] <= 50 and filler[0] not in self.tree.leaf_sources(node).tolist():
+                    self.assertEqual(len(sources), self.tree.own[node])
+            was = [int(row["was"]) for row in self.table("was.csv")]
+            self.assertEqual(was, sorted(set(was)))
 
     def test_refused(self):
         """More sources than a tree may have, as each of many rows has the whole order column."""
