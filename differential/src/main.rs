@@ -11,6 +11,7 @@ mod keys;
 mod limits;
 mod near_work;
 mod oracle;
+mod plain_salvage;
 mod points;
 mod random;
 mod refusals;

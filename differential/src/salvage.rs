@@ -1,175 +1,16 @@
-//! Salvage of columns, for which there is no Rust: beside a plain reading of request 8, row by row and cell by cell. Trees of
-//! the Rust and trees that nobody built, with rows gone, doubled and moved, keys that are none, counts and begins at and past
+//! Salvage of columns, for which there is no Rust: beside the plain reading of request 8 in plain_salvage.rs. Trees of the Rust
+//! and trees that nobody built, with rows gone, doubled and moved, keys that are none, counts and begins at and past
 //! the order column's end; and what is salvaged once more.
 use crate::inputs;
 use crate::keys::refused;
 use crate::oracle::{self, valid};
+use crate::plain_salvage::{BY_HAND, Given, Had, MOST, keys_alone};
 use crate::random::Random;
 use crate::refusals::{asked, left, lent_slice, well_formed};
 use crate::tally::Tally;
 use crate::trees::{axes_of, odd_tree};
-use ferreus_bbfmm::morton;
 use lohandema::trees::Tree;
 use lohandema::{Change, Refusal, lent};
-use std::collections::{HashMap, HashSet};
-
-const MOST: usize = 1_048_576;
-
-/// What is handed in.
-#[derive(Clone, Debug, Default)]
-struct Given {
-    axes: usize,
-    key: Vec<u64>,
-    own: Vec<usize>,
-    begin: Vec<usize>,
-    order: Vec<usize>,
-}
-
-/// What can be had of it: a tree, and each change by code and key.
-#[derive(Clone, Debug, Default, PartialEq)]
-struct Had {
-    key: Vec<u64>,
-    own: Vec<usize>,
-    begin: Vec<usize>,
-    total: Vec<usize>,
-    order: Vec<usize>,
-    changes: Vec<(u64, u64)>,
-}
-
-/// A cell and what is stored in it: itself, then its children ascending, each followed by its own.
-fn depth_first(axes: usize, cell: u64, cells: &HashSet<u64>, all: &mut Vec<u64>) {
-    all.push(cell);
-    for child in children(axes, cell) {
-        if cells.contains(&child) {
-            depth_first(axes, child, cells, all);
-        }
-    }
-}
-
-/// The children of a cell, ascending; none of a cell of the deepest level.
-fn children(axes: usize, cell: u64) -> Vec<u64> {
-    if oracle::level(cell) == 16 {
-        return vec![];
-    }
-    let d = oracle::dimensions(axes);
-    let mut all: Vec<u64> = morton::get_children(cell, &d).into_iter().collect();
-    all.sort_unstable();
-    all
-}
-
-impl Given {
-    fn of(tree: &Tree) -> Given {
-        Given {
-            axes: tree.axes(),
-            key: tree.key.clone(),
-            own: tree.own.clone(),
-            begin: tree.begin.clone(),
-            order: tree.order.clone(),
-        }
-    }
-
-    /// The row that a key keeps: the first that has it, if the key is valid.
-    fn kept_rows(&self) -> HashMap<u64, usize> {
-        let mut first = HashMap::new();
-        for (row, key) in self.key.iter().enumerate() {
-            if valid(self.axes, *key) {
-                first.entry(*key).or_insert(row);
-            }
-        }
-        first
-    }
-
-    /// Request 8, sentence by sentence.
-    fn salvaged(&self) -> Had {
-        // keep the valid keys of the input, add the root and all missing ancestors, and put them in order
-        let kept = self.kept_rows();
-        let mut cells = HashSet::from([0]);
-        for key in kept.keys() {
-            cells.extend(oracle::upwards(self.axes, *key));
-        }
-        let mut had = Had::default();
-        depth_first(self.axes, 0, &cells, &mut had.key);
-        // a node that now has children, the root, or a leaf whose run passes the order column's end gets count 0; every other
-        // run is copied to a new order column
-        let above = |key: &u64| oracle::upwards(self.axes, *key).nth(1);
-        let parted: HashSet<u64> = cells.iter().filter_map(above).collect();
-        for key in had.key.clone() {
-            let run = match kept.get(&key) {
-                Some(row) if key != 0 && !parted.contains(&key) => self.run(*row),
-                _ => &[],
-            };
-            had.own.push(run.len());
-            had.begin.push(had.order.len());
-            had.order.extend(run);
-        }
-        // totals are worked out afresh
-        let own: HashMap<u64, usize> = had.key.iter().copied().zip(had.own.clone()).collect();
-        let sums = oracle::totals(self.axes, own.iter().map(|(k, n)| (*k, *n)));
-        had.total = had.key.iter().map(|k| sums[k]).collect();
-        had.changes = self.changes(&kept, &had);
-        had
-    }
-
-    /// A row's run; empty if it passes the order column's end.
-    fn run(&self, row: usize) -> &[usize] {
-        let (from, count) = (self.begin[row] as u128, self.own[row] as u128);
-        if from + count <= self.order.len() as u128 {
-            &self.order[self.begin[row]..self.begin[row] + self.own[row]]
-        } else {
-            &[]
-        }
-    }
-
-    /// Each change: by code, then input row, or key for 3.
-    fn changes(&self, kept: &HashMap<u64, usize>, had: &Had) -> Vec<(u64, u64)> {
-        let node: HashMap<u64, usize> = had.key.iter().copied().zip(0..).collect();
-        let mut all = vec![];
-        for (row, key) in self.key.iter().enumerate() {
-            if !valid(self.axes, *key) {
-                all.push((1, *key));
-            } else if kept[key] != row {
-                all.push((2, *key));
-            } else {
-                if self.own[row] > 0 && had.own[node[key]] == 0 {
-                    all.push((4, *key));
-                }
-                if self.begin[row] != had.begin[node[key]] {
-                    all.push((5, *key));
-                }
-            }
-        }
-        let mut added: Vec<u64> = had.key.clone();
-        added.retain(|key| !kept.contains_key(key));
-        added.sort_unstable();
-        all.extend(added.into_iter().map(|key| (3, key)));
-        // the sort leaves rows of one code, and the added keys, as they stand
-        all.sort_by_key(|(code, _)| *code);
-        all
-    }
-
-    /// The refusals before the room is looked at, and what can be had.
-    fn judged(&self) -> Result<Had, Refusal> {
-        asked((1..=3).contains(&self.axes), (1, 0))?;
-        let rows = self.key.len();
-        asked(self.own.len() == rows && self.begin.len() == rows, (3, 0))?;
-        let had = self.salvaged();
-        asked(had.order.len() <= MOST, (13, 0))?;
-        Ok(had)
-    }
-}
-
-impl Had {
-    /// As it is handed in again.
-    fn again(&self, axes: usize) -> Given {
-        Given {
-            axes,
-            key: self.key.clone(),
-            own: self.own.clone(),
-            begin: self.begin.clone(),
-            order: self.order.clone(),
-        }
-    }
-}
 
 /// What is lent to the call: the order column; key, own, begin and total; codes and changed keys.
 #[derive(Clone)]
@@ -250,12 +91,6 @@ impl Room {
             && *total == left(total.len(), &had.total)
             && *codes == left(codes.len(), &numbers)
             && *changed == left(changed.len(), &keys)
-    }
-}
-
-impl Had {
-    fn sizes(&self) -> (usize, usize, usize) {
-        (self.order.len(), self.key.len(), self.changes.len())
     }
 }
 
@@ -365,116 +200,50 @@ fn comes_back(t: &mut Tally, tree: &Tree) {
     t.same("comes back", ours, same, || show(&g));
 }
 
-/// An input with counts that are all 0.
-fn keys_alone(axes: usize, key: &[u64]) -> Given {
-    Given {
-        axes,
-        key: key.to_vec(),
-        own: vec![0; key.len()],
-        begin: vec![0; key.len()],
-        order: vec![],
+/// The plain reading and the call on what was worked out by hand.
+fn known(t: &mut Tally, r: &mut Random) {
+    for (rows, order, changes, new_order) in BY_HAND {
+        let mut g = keys_alone(1, &[]);
+        for (at, (key, own, begin)) in rows.iter().enumerate() {
+            g.insert(at, *key, *own, *begin);
+        }
+        g.order = order.to_vec();
+        let had = g.salvaged();
+        t.same("by hand", &had.changes[..], changes, || show(&g));
+        t.same("by hand, order", &had.order[..], new_order, || show(&g));
+        all_of(t, r, &g);
     }
 }
 
-/// Inputs whose changes were worked out by hand: what is changed, and the order column.
-fn known(t: &mut Tally, r: &mut Random) {
-    let one = |key: &[u64], own: &[usize], begin: &[usize], order: &[usize]| Given {
-        axes: 1,
-        key: key.to_vec(),
-        own: own.to_vec(),
-        begin: begin.to_vec(),
-        order: order.to_vec(),
-    };
-    let most = usize::MAX;
-    let cases: Vec<(Given, Vec<(u64, u64)>, Vec<usize>)> = vec![
-        // nothing: the root alone
-        (one(&[], &[], &[], &[]), vec![(3, 0)], vec![]),
-        // added keys by their value, and not by node
-        (
-            one(&[65539, 131075], &[0; 2], &[0; 2], &[]),
-            vec![(3, 0), (3, 1), (3, 32769), (3, 32770), (3, 65538)],
-            vec![],
-        ),
-        // a begin at the end of all numbers: a row may be in 4 and 5
-        (
-            one(&[1], &[1], &[most], &[7]),
-            vec![(3, 0), (4, 1), (5, 1)],
-            vec![],
-        ),
-        // a run that ends with the column stays, and one that passes it by one does not
-        (
-            one(&[0, 1], &[0, 2], &[0, 1], &[5, 6, 7]),
-            vec![(5, 1)],
-            vec![6, 7],
-        ),
-        (
-            one(&[0, 1], &[0, 2], &[0, 2], &[5, 6, 7]),
-            vec![(4, 1), (5, 1)],
-            vec![],
-        ),
-        // a count of 0 with a begin past the end: nothing is cleared
-        (one(&[0, 1], &[0, 0], &[0, 9], &[]), vec![(5, 1)], vec![]),
-        // a root with a count
-        (one(&[0, 1], &[1, 1], &[0, 0], &[8]), vec![(4, 0)], vec![8]),
-        // an invalid key twice is 1 twice; the first row of a key is kept
-        (
-            one(&[2, 17, 17, 2, 0], &[1, 1, 1, 2, 0], &[0; 5], &[4, 5]),
-            vec![(1, 17), (1, 17), (2, 2), (3, 1)],
-            vec![4],
-        ),
-        // a node whose child comes later, and two leaves over one run
-        (
-            one(&[0, 1, 32769, 2], &[0, 2, 2, 2], &[0, 0, 0, 0], &[3, 9]),
-            vec![(4, 1), (5, 32769)],
-            vec![3, 9, 3, 9],
-        ),
-        // level order comes out depth first
-        (
-            one(&[0, 1, 32769, 2], &[0, 0, 1, 1], &[0, 0, 0, 1], &[5, 6]),
-            vec![(5, 32769), (5, 2)],
-            vec![6, 5],
-        ),
-        // runs are read where they began, and not where they begin now
-        (
-            one(&[0, 1, 32769], &[0, 1, 1], &[0, 2, 0], &[5, 6, 7]),
-            vec![(5, 1), (5, 32769)],
-            vec![7, 5],
-        ),
-    ];
-    for (g, changes, order) in &cases {
-        let had = g.salvaged();
-        t.same("by hand", &had.changes, changes, || show(g));
-        t.same("by hand, order", &had.order, order, || show(g));
-        all_of(t, r, g);
-    }
-    // keys that are none: level 17, codes too large, the largest number
+/// Keys that are none: of level 17, with a code that is too large, the largest number.
+fn no_keys(t: &mut Tally, r: &mut Random) {
     for axes in 1..=3 {
-        let wide = 1_u64 << axes;
-        let bad = [
-            17,
-            17 * 32768 + 17,
-            wide * 32768 + 1,
-            32768,
-            u64::MAX,
-            32767,
-            1 << 63,
-        ];
+        let wide = 32768 << axes;
+        let bad = [17, 17 * 32769, wide + 1, 32768, u64::MAX, 32767, 1 << 63];
         let g = keys_alone(axes, &bad);
-        let mut right: Vec<(u64, u64)> = bad.iter().map(|key| (1, *key)).collect();
+        let mut right = bad.map(|key| (1, key)).to_vec();
         right.push((3, 0));
         t.same("by hand", g.salvaged().changes, right, || show(&g));
         all_of(t, r, &g);
     }
-    for (axes, own) in [(0, 1), (4, 0), (most, 1)] {
+}
+
+/// Other numbers of axes, and columns of several lengths.
+fn no_columns(t: &mut Tally, r: &mut Random) {
+    let wrong = [
+        (0, 1, 1, 1),
+        (4, 0, 1, 1),
+        (usize::MAX, 1, 2, 1),
+        (2, 2, 1, 3),
+        (2, 1, 2, 3),
+        (2, 0, 1, 3),
+        (2, 1, 0, 3),
+        (2, 2, 2, 3),
+    ];
+    for (axes, own, begin, number) in wrong {
         let mut g = keys_alone(axes, &[0]);
-        g.own = vec![0; own];
-        t.same("by hand", g.judged(), refused(1, 0), || show(&g));
-        all_of(t, r, &g);
-    }
-    for (own, begin) in [(2, 1), (1, 2), (0, 1), (1, 0), (2, 2)] {
-        let mut g = keys_alone(2, &[0]);
         (g.own, g.begin) = (vec![0; own], vec![0; begin]);
-        t.same("by hand", g.judged(), refused(3, 0), || show(&g));
+        t.same("by hand", g.judged(), refused(number, 0), || show(&g));
         all_of(t, r, &g);
     }
 }
@@ -718,6 +487,8 @@ impl Given {
 pub fn salvage(t: &mut Tally, r: &mut Random, case: u64) {
     if case == 0 {
         known(t, r);
+        no_keys(t, r);
+        no_columns(t, r);
         repeats(t, r);
         overlaps(t);
         exhaustive(t, 1, 4);
