@@ -71,6 +71,9 @@ lohandema_ended lohandema_check_sums(size_t axes, TREE, const size_t *indices, s
     size_t readings_len, const size_t *u_starts, size_t u_starts_len, const uint64_t *u_keys, size_t u_keys_len,
     const size_t *v_starts, size_t v_starts_len, const uint64_t *v_keys, size_t v_keys_len, uint64_t *sums, size_t sums_len,
     size_t *leaves, size_t *additions);
+lohandema_ended lohandema_write_tree(size_t axes, TREE, const size_t *indices, size_t indices_len, const size_t *u_starts,
+    size_t u_starts_len, const uint64_t *u_keys, size_t u_keys_len, const size_t *v_starts, size_t v_starts_len,
+    const uint64_t *v_keys, size_t v_keys_len, uint8_t *file, size_t file_len, size_t *written);
 """
 
 # What the shared library has beside them (c/library.c)

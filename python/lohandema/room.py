@@ -89,3 +89,12 @@ def balanced(axes, nodes):
     """The most nodes that the balanced tree of one of so many nodes can have. A cell that is split there is split in the given
     tree or touches one of its level that is, so there are at most 3 ** axes times as many."""
     return min(3 ** axes * max(nodes - 1, 0) + 1, MOST_NODES)
+
+
+def file(tree, lists):
+    """The bytes of a tree's file: eight a key, four for each other number, and the trailer of nine entries. The lists are lent:
+    starts and keys of U and of V."""
+    u_starts, u_keys, v_starts, v_keys = [one.entries for one in lists]
+    keys = len(tree.key) + u_keys + v_keys
+    numbers = len(tree.own) + len(tree.begin) + len(tree.total) + len(tree.order) + u_starts + v_starts
+    return 8 * keys + 4 * numbers + 9 * 12 + 8
