@@ -102,6 +102,17 @@ class Tree:
         del lent
         return cls._of(box, [cut(one, count.value) for one in columns] + [cut(indices, rows)])
 
+    @classmethod
+    def count_nodes(cls, points, box=None, **words):
+        """How many nodes the tree of points has: exactly, where room.most_nodes gives a bound. It takes what Tree.build takes, and
+        refuses what that refuses. The tree is built and let go, since nothing else tells the number; so where the tree is wanted
+        too, build it and ask len(tree).
+
+        >>> Tree.count_nodes([[0.5], [1.5], [6.5], [7.5]], Box([4.0], 4.0), limit=1)
+        9
+        """
+        return len(cls.build(points, box, **words))
+
     def balanced(self, points, *, progress=False):
         """The balanced tree of this one, which has all children or none of each cell, as a build with keep_empty has: the one
         with the fewest cells that contains all of these, has all children or none of each cell, and no two leaves more than one
@@ -287,13 +298,11 @@ class Tree:
         >>> [tree.level_nodes(level) for level in range(tree.depth + 1)]
         [[0], [1, 5], [2], [3, 4]]
         """
-        level, found, node = whole(level, "level"), [], 0
-        while True:
-            node = library.lohandema_next_of_level(*self._words("key"), level, node)
-            if node == len(self):
-                return found
-            found.append(node)
-            node += 1
+        level = whole(level, "level")
+        if numpy:
+            # of a level that no key can have there is none, whatever the size of the number
+            return numpy.flatnonzero(self.levels() == level).tolist() if level <= 32767 else []
+        return [node for node, key in enumerate(self.key.tolist()) if key & 32767 == level]
 
     def levels(self):
         """The level of each node."""
@@ -522,8 +531,8 @@ class Tree:
     # Files
 
     def to_file(self, lists=None, *, progress=False):
-        """The tree, its order and its lists as the bytes of a tree file, for another unit that shares the survey: it reads them
-        and need not build. The box is not in the file. Lists that are at hand are given as lists=; they, the
+        """The tree, its order and its lists as the bytes of a tree file, for another unit that shares the survey.
+        The box is not in the file. Lists that are at hand are given as lists=; they, the
         tree and the order are checked. Raises Refused 4 COUNT, 13 TREE, or 17 SECTION where the order is no arrangement or the
         lists are not the tree's.
 

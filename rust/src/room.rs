@@ -61,6 +61,22 @@ impl Asked<'_> {
     pub fn most_nodes(&self) -> usize {
         most_nodes(self)
     }
+
+    /// How many nodes the tree has that [`Tree::build`] makes of this: exactly, where [`most_nodes`](Asked::most_nodes) is a bound.
+    /// The tree is built and let go, since nothing else tells the number; so where the tree is wanted too, build it and ask
+    /// how many keys it has.
+    ///
+    /// ```
+    /// use lohandema::{Asked, Bounds};
+    /// let bounds = Bounds::new(&[4.0], 4.0);
+    /// assert_eq!(Asked::new(&bounds, &[0.5, 1.5, 6.5, 7.5], 1).count_nodes(), Ok(9));
+    /// ```
+    ///
+    /// # Errors
+    /// As [`Tree::build`].
+    pub fn count_nodes(&self) -> Result<usize, Refusal> {
+        Tree::build(*self).map(|tree| tree.key.len())
+    }
 }
 
 /// The same with so many targets.
