@@ -9,8 +9,8 @@ use lib.Dec.{eqb}
 use lib.ListN.{length, getD, set, drop, replicate, length-set, length-map, length-replicate, drop-of-length-le}
 use lib.Seq.{getD-set-same, getD-set-other, drop-cons, ext-getD}
 use borrow.Author.Tests.{eq-eqb, ne-eqb}
-use Rattle.slices.specs.Lists.{Mem}
-use Rattle.slices.proofs.Lists.{getD-map}
+use Rattle.slices.specs.Lists.{Mem, range}
+use Rattle.slices.proofs.Lists.{getD-map, getD-range}
 use Rattle.slices.proofs.Tests.{clash}
 use Rattle.tree.specs.Nodes.{stored, ownOf}
 use Rattle.tree.proofs.Members.{mem-stored}
@@ -91,6 +91,16 @@ module _ (d : ℕ) (key rows column out₀ : List ℕ) (f : Fillable d key rows 
           ap (λ x. getD (set out node (getD column i 0)) x 0) z
           ∙ getD-set-same out node (getD column i 0) 0 (omega (arith, s .placed))
           ∙ sym (row-more rows column i (getD key q 0) row-at (f .rowed) true (eq-eqb (getD rows i 0) (getD key q 0) (sym (ap (λ x. getD key x 0) z ∙ en))))
+
+-- the column of the rows' numbers, counted from 1
+number-of : (n i number : ℕ) → i < n → number ≡ suc i → number ≡ getD (range 1 n) i 0
+number-of n i number l e = omega (arith, getD-range 1 n i l)
+
+pub from-number : (d : ℕ) (key rows out₀ : List ℕ) → Fillable d key rows (range 1 (length rows)) out₀ → (out : List ℕ) (n i : ℕ) → From key rows (range 1 (length rows)) out n → n ≡ suc i
+    → (node : ℕ) → node < length key → getD key node 0 ≡ getD rows i 0 → From key rows (range 1 (length rows)) (set out node n) i
+from-number d key rows out₀ f out n i s e node l en =
+    let h : i < length rows = omega (arith, s .within) in
+    subst (λ z. From key rows (range 1 (length rows)) (set out node z) i) (sym (number-of (length rows) i n h e)) (from-node d key rows (range 1 (length rows)) out₀ f out n i s e node l en)
 
 pub from-all : (key rows column out : List ℕ) (i : ℕ) → From key rows column out i → i ≤ 0 → out ≡ map (ownOf rows column) key
 from-all key rows column out i s h =

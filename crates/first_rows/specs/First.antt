@@ -4,6 +4,7 @@ use mathlib.Core.Bool.{true}
 use mathlib.Core.List.{List}
 use Prim.Native.Nat.{ℕ}
 use lib.ListN.{length}
+use Rattle.slices.specs.Lists.{range}
 use Rattle.morton.specs.Keys.{axesKnown}
 use Rattle.tree.specs.WellFormed.{keysAscend}
 
@@ -13,3 +14,7 @@ pub record Fillable (d : ℕ) (key rows column out : List ℕ) : Type 0 where
   pub ascend : keysAscend d key ≡ true
   pub rowed : length column ≡ length rows
   pub placed : length out ≡ length key
+
+-- the same with the rows' numbers, counted from 1, as the column
+abbrev pub Numberable : ℕ → (key rows out : List ℕ) → Type 0
+Numberable d key rows out = Fillable d key rows (range 1 (length rows)) out

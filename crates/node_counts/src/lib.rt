@@ -5,7 +5,7 @@ ghost use lib.Dec.{leb};
 ghost use Rattle.node_counts.specs.Counts.{countsKept, Countable};
 
 // Whether a run does not pass the end of so many entries. `begin + own` may be past the largest number, so the room is compared instead.
-fn run_fits(begin: usize, own: usize, entries: usize) -> bool
+pub fn run_fits(begin: usize, own: usize, entries: usize) -> bool
     ensures { λ r. ⌜ r ≡ leb (begin + own) entries ⌝ }
 {
     if entries < begin {

@@ -1,0 +1,4 @@
+pub mod Ordered
+pub mod Added
+pub mod Coded
+pub mod Listed
