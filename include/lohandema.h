@@ -411,7 +411,8 @@ lohandema_ended lohandema_balance_tree(const double centre[3], double radius, si
  * nodes, sources and changes: how many entries new_key, new_own, new_begin and new_total, then new_indices, and then codes and
  * changed have. codes and changed: each change (enum above) and its key, by code and then by row, or by key for cells that were
  * added. Totals are worked out anew and not listed. There are at most as many sources as all runs have entries that do not pass
- * the end, nodes as all levels of keys together and one more, and changes as nodes and two a row.
+ * the end, nodes as all levels of keys together and one more, and changes as nodes and two a row. Lend so many: where the new
+ * columns are short, it may take the square of the rows to tell whether the sources would be too many.
  * Refused 1, 3 (key, own and begin differ in length), 13 (there would be more than 1,048,576 sources), 8 (2 new_indices, 3 new
  * columns, 10 codes or changed). */
 lohandema_ended lohandema_salvage(size_t axes, const uint64_t *key, size_t key_len, const size_t *own, size_t own_len,

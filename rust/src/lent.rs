@@ -766,6 +766,7 @@ pub fn balance_tree(
 /// to `indices`; the root, a node that has children, and a leaf whose run passes the order column's end get the count 0. Each
 /// change goes into `codes` and `changed`, its code and its key ([`Change`](crate::Change)): by code, then by row, or by key
 /// for cells that were added. `key`, `own` and `begin` may have any rows. Answers how many nodes, sources and changes there are.
+/// Where the new columns are short, it may take the square of the rows to tell whether the sources would be too many.
 ///
 /// # Errors
 /// [`DIMS`](Refusal::DIMS); [`SHAPE`](Refusal::SHAPE) if `key`, `own` and `begin` differ in length; [`TREE`](Refusal::TREE) if
