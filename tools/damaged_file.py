@@ -89,8 +89,9 @@ def by_trailer(data):
         if not length <= back <= start or code <= LAST and length % width(code):
             raise ValueError("the section with the code %d is not inside the file or not of whole entries" % code)
         places[code] = (start - back, start - back + length)
-    if set(places) < set(range(1, LAST + 1)):
-        raise ValueError("it lacks one of the codes 1 to %d" % LAST)
+    for code in range(1, LAST + 1):
+        if code not in places:
+            raise ValueError("it lacks the code %d" % code)
     return axes, {code: entries(data, *places[code], code) for code in (KEYS, OWN, BEGINS, TOTALS, ORDER)}
 
 

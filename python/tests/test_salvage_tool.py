@@ -16,6 +16,7 @@ from lohandema import Box, Tree
 
 sys.path.append(os.path.join(ROOT, "tools", "tests"))
 import survey_file as house
+from damaged_file import read_columns
 from tree_files import plain_file
 
 COLUMNS = ("key", "own", "begin", "total", "order")
@@ -160,6 +161,27 @@ class Tool(unittest.TestCase):
         self.assertRegex(told[-1], r"^\d+ changes: 15 rows dropped as a repeat, ")
         self.assertFalse(any(line.startswith("key ") for line in told))
         self.assertIn("key 0 [level 0, cell 0,0]: a row was dropped, as an earlier one has this key (change 2)", self.had(spoilt))
+
+    def test_any_damage(self):
+        """Bytes gone, cleared or changed anywhere: a tree comes out, or a sentence."""
+        made, had = random.Random(5), 0
+        for _ in range(400):
+            data = bytearray(self.data)
+            for _ in range(made.randrange(1, 6)):
+                start = made.randrange(len(data))
+                end = min(start + made.choice([1, 4, 16, 64, 512]), len(data))
+                filler = made.choice([b"\0", b"\xff", b"\x07\x01"])
+                data[start:end] = made.choice([b"", (filler * 512)[:end - start]])
+            self.write("a.tree", data)
+            try:
+                found = read_columns(self.path("a.tree"), made.choice([None, 2, 2]))
+                found.doubtful()
+                tree, _ = Tree.salvage(Box([0.0] * found.axes, 1.0), found.key, found.own, found.begin, found.order)
+                self.assertTrue(tree.is_well_formed())
+                had += 1
+            except house.Refused as refused:
+                self.assertIn("; ", str(refused))
+        self.assertTrue(100 < had < 390, had)
 
     def test_doubtful(self):
         """Room that was never written, behind the order column's beginning: what is copied from there is in doubt."""
