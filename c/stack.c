@@ -165,20 +165,6 @@ static void write_tree(void)
     free(file);
 }
 
-static void is_arrangement(void)
-{
-    last.number = lohandema_is_arrangement(order, points, points) ? 0 : 99;
-}
-
-/* With empty cells, which the tree has that build_tree has just built; u_starts to v_keys are free by now. */
-static void balance_tree(void)
-{
-    size_t count;
-    uint64_t depth;
-    last = lohandema_balance_tree(BOX, sources, axes * points, COLUMNS, order, points, work, 2 * POINTS, indices, points,
-                                  u_keys, KEYS, new_own, KEYS, new_begin, KEYS, new_total, KEYS, &count, &depth);
-}
-
 /* Of every row twice, so that half of them are dropped, and the whole order column. */
 static void salvage(void)
 {
@@ -193,6 +179,20 @@ static void salvage(void)
                              &entries, &changes);
     if (last.number == 0 && (count != nodes || entries != points || changes != nodes))
         last.number = 99;
+}
+
+static void is_arrangement(void)
+{
+    last.number = lohandema_is_arrangement(order, points, points) ? 0 : 99;
+}
+
+/* With empty cells, which the tree has that build_tree has just built; u_starts to v_keys are free by now. */
+static void balance_tree(void)
+{
+    size_t count;
+    uint64_t depth;
+    last = lohandema_balance_tree(BOX, sources, axes * points, COLUMNS, order, points, work, 2 * POINTS, indices, points,
+                                  u_keys, KEYS, new_own, KEYS, new_begin, KEYS, new_total, KEYS, &count, &depth);
 }
 
 static void keys_of_one(lohandema_ended (*call)(size_t, uint64_t, uint64_t *, size_t *), uint64_t of)
@@ -326,9 +326,9 @@ static struct {
     {"sum_check", sum_check, 96 * KIB, 0},
     {"check_sums", check_sums, LOHANDEMA_STACK, 0},
     {"write_tree", write_tree, 96 * KIB, 0},
+    {"salvage", salvage, 8 * KIB, 0},
     {"is_arrangement", is_arrangement, 32 * KIB, 0},
     {"balance_tree", balance_tree, LOHANDEMA_STACK, 0},
-    {"salvage", salvage, 8 * KIB, 0},
     {"get_neighbours", get_neighbours, 8 * KIB, 0},
     {"get_children", get_children, 8 * KIB, 0},
     {"get_siblings", get_siblings, 8 * KIB, 0},

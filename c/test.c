@@ -109,9 +109,9 @@ int main(void)
     test_near_work();
     test_totals();
     test_order();
+    test_salvage();
     test_sums();
     test_balance();
-    test_salvage();
     test_null();
     printf("%u checks, %u failed\n", made, failed);
     return failed == 0 ? 0 : 1;

@@ -287,52 +287,7 @@ static void sums(void)
     EXPECT(leaves == 0 && additions == 0);
 }
 
-/* With every slice lent, and without each in turn. */
-static void balancing(void)
-{
-    const size_t order[2] = {0, 1};
-    uint64_t work[4] = {0}, keys[3] = {0}, depth = 7;
-    size_t indices[2] = {0}, owns[3] = {0}, begins[3] = {0}, totals[3] = {0}, nodes = 7;
-    ENDED(lohandema_balance_tree(centre, 4.0, 1, NULL, 0, ROOT, NULL, 0, NULL, 0, NULL, 0, keys, 3, owns, 3, begins, 3,
-                                 totals, 3, &nodes, &depth),
-          0, 0);
-    EXPECT(nodes == 1 && depth == 1);
-    ENDED(lohandema_balance_tree(centre, 4.0, 1, NULL, 0, NO_COLUMNS, NULL, 0, NULL, 0, NULL, 0, NO_COLUMNS, &nodes, &depth),
-          LOHANDEMA_TREE, 0);
-    EXPECT(nodes == 0 && depth == 0);
-    ENDED(lohandema_balance_tree(centre, 4.0, 1, NULL, 0, ROOT, NULL, 0, NULL, 0, NULL, 0, NO_COLUMNS, &nodes, &depth),
-          LOHANDEMA_ROOM, LOHANDEMA_ROOM_NODES);
-    ENDED(lohandema_balance_tree(centre, 4.0, 1, NULL, 0, COLUMNS, order, 2, work, 4, indices, 2, keys, 3, owns, 3, begins, 3,
-                                 totals, 3, &nodes, &depth),
-          LOHANDEMA_NOTBUILT, 0);
-    ENDED(lohandema_balance_tree(centre, 4.0, 1, halves, 2, COLUMNS, NULL, 0, work, 4, indices, 2, keys, 3, owns, 3, begins,
-                                 3, totals, 3, &nodes, &depth),
-          LOHANDEMA_NOTBUILT, 0);
-    ENDED(lohandema_balance_tree(centre, 4.0, 1, halves, 2, COLUMNS, order, 2, NULL, 0, indices, 2, keys, 3, owns, 3, begins,
-                                 3, totals, 3, &nodes, &depth),
-          LOHANDEMA_ROOM, LOHANDEMA_ROOM_WORK);
-    ENDED(lohandema_balance_tree(centre, 4.0, 1, halves, 2, COLUMNS, order, 2, work, 4, NULL, 0, keys, 3, owns, 3, begins, 3,
-                                 totals, 3, &nodes, &depth),
-          LOHANDEMA_ROOM, LOHANDEMA_ROOM_ORDER);
-    ENDED(lohandema_balance_tree(centre, 4.0, 1, halves, 2, COLUMNS, order, 2, work, 4, indices, 2, NULL, 0, owns, 3, begins,
-                                 3, totals, 3, &nodes, &depth),
-          LOHANDEMA_ROOM, LOHANDEMA_ROOM_NODES);
-    ENDED(lohandema_balance_tree(centre, 4.0, 1, halves, 2, COLUMNS, order, 2, work, 4, indices, 2, keys, 3, NULL, 0, begins,
-                                 3, totals, 3, &nodes, &depth),
-          LOHANDEMA_ROOM, LOHANDEMA_ROOM_NODES);
-    ENDED(lohandema_balance_tree(centre, 4.0, 1, halves, 2, COLUMNS, order, 2, work, 4, indices, 2, keys, 3, owns, 3, NULL, 0,
-                                 totals, 3, &nodes, &depth),
-          LOHANDEMA_ROOM, LOHANDEMA_ROOM_NODES);
-    ENDED(lohandema_balance_tree(centre, 4.0, 1, halves, 2, COLUMNS, order, 2, work, 4, indices, 2, keys, 3, owns, 3, begins,
-                                 3, NULL, 0, &nodes, &depth),
-          LOHANDEMA_ROOM, LOHANDEMA_ROOM_NODES);
-    ENDED(lohandema_balance_tree(centre, 4.0, 1, halves, 2, COLUMNS, order, 2, work, 4, indices, 2, keys, 3, owns, 3, begins,
-                                 3, totals, 3, &nodes, &depth),
-          0, 0);
-    EXPECT(nodes == 3 && depth == 1 && STARTS_WITH(keys, key));
-}
-
-/* The same; and with nothing to be read, which the root is had of. */
+/* With every slice lent, and without each in turn; and with nothing to be read, which the root is had of. */
 static void salvages(void)
 {
     const size_t order[2] = {0, 1};
@@ -386,6 +341,51 @@ static void salvages(void)
           LOHANDEMA_ROOM, LOHANDEMA_ROOM_CHANGES);
 }
 
+/* With every slice lent, and without each in turn. */
+static void balancing(void)
+{
+    const size_t order[2] = {0, 1};
+    uint64_t work[4] = {0}, keys[3] = {0}, depth = 7;
+    size_t indices[2] = {0}, owns[3] = {0}, begins[3] = {0}, totals[3] = {0}, nodes = 7;
+    ENDED(lohandema_balance_tree(centre, 4.0, 1, NULL, 0, ROOT, NULL, 0, NULL, 0, NULL, 0, keys, 3, owns, 3, begins, 3,
+                                 totals, 3, &nodes, &depth),
+          0, 0);
+    EXPECT(nodes == 1 && depth == 1);
+    ENDED(lohandema_balance_tree(centre, 4.0, 1, NULL, 0, NO_COLUMNS, NULL, 0, NULL, 0, NULL, 0, NO_COLUMNS, &nodes, &depth),
+          LOHANDEMA_TREE, 0);
+    EXPECT(nodes == 0 && depth == 0);
+    ENDED(lohandema_balance_tree(centre, 4.0, 1, NULL, 0, ROOT, NULL, 0, NULL, 0, NULL, 0, NO_COLUMNS, &nodes, &depth),
+          LOHANDEMA_ROOM, LOHANDEMA_ROOM_NODES);
+    ENDED(lohandema_balance_tree(centre, 4.0, 1, NULL, 0, COLUMNS, order, 2, work, 4, indices, 2, keys, 3, owns, 3, begins, 3,
+                                 totals, 3, &nodes, &depth),
+          LOHANDEMA_NOTBUILT, 0);
+    ENDED(lohandema_balance_tree(centre, 4.0, 1, halves, 2, COLUMNS, NULL, 0, work, 4, indices, 2, keys, 3, owns, 3, begins,
+                                 3, totals, 3, &nodes, &depth),
+          LOHANDEMA_NOTBUILT, 0);
+    ENDED(lohandema_balance_tree(centre, 4.0, 1, halves, 2, COLUMNS, order, 2, NULL, 0, indices, 2, keys, 3, owns, 3, begins,
+                                 3, totals, 3, &nodes, &depth),
+          LOHANDEMA_ROOM, LOHANDEMA_ROOM_WORK);
+    ENDED(lohandema_balance_tree(centre, 4.0, 1, halves, 2, COLUMNS, order, 2, work, 4, NULL, 0, keys, 3, owns, 3, begins, 3,
+                                 totals, 3, &nodes, &depth),
+          LOHANDEMA_ROOM, LOHANDEMA_ROOM_ORDER);
+    ENDED(lohandema_balance_tree(centre, 4.0, 1, halves, 2, COLUMNS, order, 2, work, 4, indices, 2, NULL, 0, owns, 3, begins,
+                                 3, totals, 3, &nodes, &depth),
+          LOHANDEMA_ROOM, LOHANDEMA_ROOM_NODES);
+    ENDED(lohandema_balance_tree(centre, 4.0, 1, halves, 2, COLUMNS, order, 2, work, 4, indices, 2, keys, 3, NULL, 0, begins,
+                                 3, totals, 3, &nodes, &depth),
+          LOHANDEMA_ROOM, LOHANDEMA_ROOM_NODES);
+    ENDED(lohandema_balance_tree(centre, 4.0, 1, halves, 2, COLUMNS, order, 2, work, 4, indices, 2, keys, 3, owns, 3, NULL, 0,
+                                 totals, 3, &nodes, &depth),
+          LOHANDEMA_ROOM, LOHANDEMA_ROOM_NODES);
+    ENDED(lohandema_balance_tree(centre, 4.0, 1, halves, 2, COLUMNS, order, 2, work, 4, indices, 2, keys, 3, owns, 3, begins,
+                                 3, NULL, 0, &nodes, &depth),
+          LOHANDEMA_ROOM, LOHANDEMA_ROOM_NODES);
+    ENDED(lohandema_balance_tree(centre, 4.0, 1, halves, 2, COLUMNS, order, 2, work, 4, indices, 2, keys, 3, owns, 3, begins,
+                                 3, totals, 3, &nodes, &depth),
+          0, 0);
+    EXPECT(nodes == 3 && depth == 1 && STARTS_WITH(keys, key));
+}
+
 void test_null(void)
 {
     builds();
@@ -396,8 +396,8 @@ void test_null(void)
     lists();
     list_sizes();
     near_work();
+    salvages();
     files();
     sums();
     balancing();
-    salvages();
 }

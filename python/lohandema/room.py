@@ -30,25 +30,6 @@ def most_nodes(axes, sources, targets, limit, order, keep_empty):
     return min(1 + stored, MOST_NODES)
 
 
-def salvaged(keys):
-    """The most nodes that can be had of rows with these keys: the root, and for each key the cells on the way to it, itself
-    among them."""
-    if numpy:
-        levels = keys & 32767
-        return min(1 + int(levels[levels <= DEEPEST].sum()), MOST_NODES)
-    return min(1 + sum(key & 32767 for key in keys if key & 32767 <= DEEPEST), MOST_NODES)
-
-
-def runs(own, begin, entries):
-    """The most sources that can be had of rows with these counts and begins, where the order column has so many entries: all
-    runs that do not pass its end, as far as they count."""
-    if numpy:
-        # whole numbers of 64 bits that are at least 2 ** 63 are below 0 here, and past any order column
-        within = (own >= 0) & (begin >= 0) & (own <= entries) & (begin <= entries - own)
-        return min(int(own[within].sum()), MOST_POINTS)
-    return min(sum(count for count, start in zip(own, begin) if count >= 0 <= start and count + start <= entries), MOST_POINTS)
-
-
 def lists(tree):
     """How many keys the U rows and the V rows of a tree may have: a first guess.
 
@@ -93,6 +74,25 @@ def families(axes, keys):
             last[level] = parent, count
             sizes.append(count)
     return max(1, len(sizes)), float(sum(size * size for [size] in sizes))
+
+
+def salvaged(keys):
+    """The most nodes that can be had of rows with these keys: the root, and for each key the cells on the way to it, itself
+    among them."""
+    if numpy:
+        levels = keys & 32767
+        return min(1 + int(levels[levels <= DEEPEST].sum()), MOST_NODES)
+    return min(1 + sum(key & 32767 for key in keys if key & 32767 <= DEEPEST), MOST_NODES)
+
+
+def runs(own, begin, entries):
+    """The most sources that can be had of rows with these counts and begins, where the order column has so many entries: all
+    runs that do not pass its end, as far as they count."""
+    if numpy:
+        # whole numbers of 64 bits that are at least 2 ** 63 are below 0 here, and past any order column
+        within = (own >= 0) & (begin >= 0) & (own <= entries) & (begin <= entries - own)
+        return min(int(own[within].sum()), MOST_POINTS)
+    return min(sum(count for count, start in zip(own, begin) if count >= 0 <= start and count + start <= entries), MOST_POINTS)
 
 
 def capped(keys):

@@ -168,6 +168,25 @@ impl Tree {
         ))
     }
 
+    /// The tree of these columns, as they are.
+    pub fn from_columns(
+        bounds: Bounds,
+        key: Vec<u64>,
+        own: Vec<usize>,
+        begin: Vec<usize>,
+        total: Vec<usize>,
+        order: Vec<usize>,
+    ) -> Tree {
+        Tree {
+            bounds,
+            key,
+            own,
+            begin,
+            total,
+            order,
+        }
+    }
+
     /// What can be had of damaged columns, and each change that it took: a tree of the valid keys, the root and all cells that
     /// hold one of them. A repeated key keeps its first row. A leaf keeps its count and its run of the order column; the root, a
     /// node that has children, and a leaf whose run passes the order column's end get the count 0. The tree is well formed, and
@@ -227,25 +246,6 @@ impl Tree {
         let changes = pairs.map(|(code, key)| Change::new(code, key)).collect();
         let tree = Tree::from_columns(bounds, key, own, begin, total, order);
         Ok((tree, changes))
-    }
-
-    /// The tree of these columns, as they are.
-    pub fn from_columns(
-        bounds: Bounds,
-        key: Vec<u64>,
-        own: Vec<usize>,
-        begin: Vec<usize>,
-        total: Vec<usize>,
-        order: Vec<usize>,
-    ) -> Tree {
-        Tree {
-            bounds,
-            key,
-            own,
-            begin,
-            total,
-            order,
-        }
     }
 
     /// The number of axes, those of the box.
