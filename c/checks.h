@@ -58,6 +58,7 @@ void test_sizes(void);
 void test_near_work(void);
 void test_totals(void);
 void test_order(void);
+void test_salvage(void);
 void test_sums(void);
 void test_balance(void);
 void test_more(void);

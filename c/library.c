@@ -13,3 +13,5 @@ const char *lohandema_library_reason_name(uint64_t reason) { return lohandema_re
 const char *lohandema_library_reason_cure(uint64_t reason) { return lohandema_reason_cure(reason); }
 
 const char *lohandema_library_room_name(uint64_t value) { return lohandema_room_name(value); }
+
+const char *lohandema_library_change_sentence(uint64_t code) { return lohandema_change_sentence(code); }

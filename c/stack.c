@@ -20,6 +20,8 @@ static uint64_t work[3 * POINTS], key[NODES], u_keys[KEYS], v_keys[KEYS], output
 static size_t order[POINTS], own[NODES], begin[NODES], total[NODES], u_starts[NODES + 1], v_starts[NODES + 1];
 static size_t starts[NODES + 1], indices[POINTS], nodes;
 static size_t new_own[KEYS], new_begin[KEYS], new_total[KEYS];
+static uint64_t twice[2 * NODES];
+static size_t twice_own[2 * NODES], twice_begin[2 * NODES];
 static size_t points, limit;
 static int64_t readings[POINTS];
 static lohandema_ended last;
@@ -161,6 +163,22 @@ static void write_tree(void)
     if (last.number == 0 && written != bytes)
         last.number = 99;
     free(file);
+}
+
+/* Of every row twice, so that half of them are dropped, and the whole order column. */
+static void salvage(void)
+{
+    size_t count, entries, changes;
+    for (size_t i = 0; i < nodes; i++) {
+        twice[i] = twice[nodes + i] = key[i];
+        twice_own[i] = twice_own[nodes + i] = own[i];
+        twice_begin[i] = twice_begin[nodes + i] = begin[i];
+    }
+    last = lohandema_salvage(axes, twice, 2 * nodes, twice_own, 2 * nodes, twice_begin, 2 * nodes, order, points, indices, points,
+                             u_keys, KEYS, new_own, KEYS, new_begin, KEYS, new_total, KEYS, v_keys, KEYS, cells, NODES, &count,
+                             &entries, &changes);
+    if (last.number == 0 && (count != nodes || entries != points || changes != nodes))
+        last.number = 99;
 }
 
 static void is_arrangement(void)
@@ -326,6 +344,7 @@ static struct {
     {"sum_check", sum_check, 96 * KIB, 0},
     {"check_sums", check_sums, LOHANDEMA_STACK, 0},
     {"write_tree", write_tree, 96 * KIB, 0},
+    {"salvage", salvage, 8 * KIB, 0},
     {"is_arrangement", is_arrangement, 32 * KIB, 0},
     {"balance_tree", balance_tree, LOHANDEMA_STACK, 0},
     {"build_tree without targets", build_without_targets, 48 * KIB, 0},

@@ -80,6 +80,8 @@ void test_names(void)
     EXPECT(strstr(lohandema_refusal_sentence(LOHANDEMA_READING), "a reading") != NULL);
     EXPECT(strstr(lohandema_refusal_sentence(LOHANDEMA_SHAPE), "not whole points, or the readings are not as many") != NULL);
     EXPECT(strstr(lohandema_refusal_sentence(LOHANDEMA_SHAPE), "one reading for each source") != NULL);
+    EXPECT(strstr(lohandema_refusal_sentence(LOHANDEMA_SHAPE), "the columns to salvage differ in length") != NULL);
+    EXPECT(strstr(lohandema_refusal_sentence(LOHANDEMA_TREE), "those to salvage have more than 1048576 sources") != NULL);
     EXPECT(strstr(lohandema_refusal_sentence(LOHANDEMA_NOTLEAF), "a key to group, or the node to check") != NULL);
     EXPECT(strstr(lohandema_refusal_sentence(LOHANDEMA_NOTLEAF), "the key's index or the node's number") != NULL);
     EXPECT(strstr(lohandema_refusal_sentence(21), "knows no refusal") != NULL);
@@ -107,6 +109,7 @@ int main(void)
     test_near_work();
     test_totals();
     test_order();
+    test_salvage();
     test_sums();
     test_balance();
     test_more();

@@ -287,6 +287,60 @@ static void sums(void)
     EXPECT(leaves == 0 && additions == 0);
 }
 
+/* With every slice lent, and without each in turn; and with nothing to be read, which the root is had of. */
+static void salvages(void)
+{
+    const size_t order[2] = {0, 1};
+    uint64_t keys[3] = {0}, codes[1] = {0}, changed[1] = {0};
+    size_t indices[2] = {0}, owns[3] = {0}, begins[3] = {0}, totals[3] = {0}, nodes = 7, sources = 7, changes = 7;
+    ENDED(lohandema_salvage(1, NULL, 0, NULL, 0, NULL, 0, NULL, 0, NULL, 0, NO_COLUMNS, NULL, 0, NULL, 0, &nodes, &sources,
+                            &changes),
+          LOHANDEMA_ROOM, LOHANDEMA_ROOM_NODES);
+    EXPECT(nodes == 0 && sources == 0 && changes == 0);
+    ENDED(lohandema_salvage(1, NULL, 0, NULL, 0, NULL, 0, NULL, 0, NULL, 0, keys, 1, owns, 1, begins, 1, totals, 1, NULL, 0, NULL,
+                            0, &nodes, &sources, &changes),
+          LOHANDEMA_ROOM, LOHANDEMA_ROOM_CHANGES);
+    ENDED(lohandema_salvage(1, NULL, 0, NULL, 0, NULL, 0, NULL, 0, NULL, 0, keys, 1, owns, 1, begins, 1, totals, 1, codes, 1,
+                            NULL, 0, &nodes, &sources, &changes),
+          LOHANDEMA_ROOM, LOHANDEMA_ROOM_CHANGES);
+    ENDED(lohandema_salvage(1, NULL, 0, NULL, 0, NULL, 0, NULL, 0, NULL, 0, keys, 1, owns, 1, begins, 1, totals, 1, codes, 1,
+                            changed, 1, &nodes, &sources, &changes),
+          0, 0);
+    EXPECT(nodes == 1 && sources == 0 && changes == 1 && codes[0] == 3);
+    ENDED(lohandema_salvage(1, key, 3, NULL, 0, begin, 3, order, 2, indices, 2, keys, 3, owns, 3, begins, 3, totals, 3, NULL, 0,
+                            NULL, 0, &nodes, &sources, &changes),
+          LOHANDEMA_SHAPE, 0);
+    ENDED(lohandema_salvage(1, key, 3, own, 3, NULL, 0, order, 2, indices, 2, keys, 3, owns, 3, begins, 3, totals, 3, NULL, 0,
+                            NULL, 0, &nodes, &sources, &changes),
+          LOHANDEMA_SHAPE, 0);
+    ENDED(lohandema_salvage(1, NULL, 0, own, 3, begin, 3, order, 2, indices, 2, keys, 3, owns, 3, begins, 3, totals, 3, NULL, 0,
+                            NULL, 0, &nodes, &sources, &changes),
+          LOHANDEMA_SHAPE, 0);
+    ENDED(lohandema_salvage(1, key, 3, own, 3, begin, 3, order, 2, NULL, 0, keys, 3, owns, 3, begins, 3, totals, 3, NULL, 0, NULL,
+                            0, &nodes, &sources, &changes),
+          LOHANDEMA_ROOM, LOHANDEMA_ROOM_ORDER);
+    ENDED(lohandema_salvage(1, key, 3, own, 3, begin, 3, order, 2, indices, 2, NULL, 0, owns, 3, begins, 3, totals, 3, NULL, 0,
+                            NULL, 0, &nodes, &sources, &changes),
+          LOHANDEMA_ROOM, LOHANDEMA_ROOM_NODES);
+    ENDED(lohandema_salvage(1, key, 3, own, 3, begin, 3, order, 2, indices, 2, keys, 3, NULL, 0, begins, 3, totals, 3, NULL, 0,
+                            NULL, 0, &nodes, &sources, &changes),
+          LOHANDEMA_ROOM, LOHANDEMA_ROOM_NODES);
+    ENDED(lohandema_salvage(1, key, 3, own, 3, begin, 3, order, 2, indices, 2, keys, 3, owns, 3, NULL, 0, totals, 3, NULL, 0,
+                            NULL, 0, &nodes, &sources, &changes),
+          LOHANDEMA_ROOM, LOHANDEMA_ROOM_NODES);
+    ENDED(lohandema_salvage(1, key, 3, own, 3, begin, 3, order, 2, indices, 2, keys, 3, owns, 3, begins, 3, NULL, 0, NULL, 0, NULL,
+                            0, &nodes, &sources, &changes),
+          LOHANDEMA_ROOM, LOHANDEMA_ROOM_NODES);
+    /* a tree has no changes, and its runs without an order column pass its end */
+    ENDED(lohandema_salvage(1, key, 3, own, 3, begin, 3, order, 2, indices, 2, keys, 3, owns, 3, begins, 3, totals, 3, NULL, 0,
+                            NULL, 0, &nodes, &sources, &changes),
+          0, 0);
+    EXPECT(nodes == 3 && sources == 2 && changes == 0 && STARTS_WITH(keys, key) && STARTS_WITH(indices, order));
+    ENDED(lohandema_salvage(1, key, 3, own, 3, begin, 3, NULL, 0, NULL, 0, keys, 3, owns, 3, begins, 3, totals, 3, NULL, 0, NULL,
+                            0, &nodes, &sources, &changes),
+          LOHANDEMA_ROOM, LOHANDEMA_ROOM_CHANGES);
+}
+
 /* With every slice lent, and without each in turn. */
 static void balancing(void)
 {
@@ -383,6 +437,7 @@ void test_null(void)
     lists();
     list_sizes();
     near_work();
+    salvages();
     files();
     sums();
     balancing();

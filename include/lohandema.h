@@ -120,7 +120,7 @@ enum {
 };
 
 /* The values of 8 ROOM; the lowest that is short is told. 1 is the work of a build, the work or row of
- * lohandema_get_list_sizes, and the sums of lohandema_check_sums. 10 is kept for the call that salvages columns. */
+ * lohandema_get_list_sizes, and the sums of lohandema_check_sums. */
 enum {
     LOHANDEMA_ROOM_WORK = 1,
     LOHANDEMA_ROOM_ORDER = 2,
@@ -151,8 +151,9 @@ static inline const char *lohandema_refusal_sentence(uint64_t number)
         "the call was not refused",
         "the number of axes is not 1, 2 or 3 (or the extents are not 2, 4 or 6 numbers): pass 1 to 3 axes",
         "the box is outside its domain: give a radius from 0.25 to 1048576 and centre coordinates of at most 16777216 in size",
-        "the coordinates are not whole points, or the readings are not as many as the tree has sources: pass as many "
-        "coordinates for each point as there are axes, and one reading for each source",
+        "the coordinates are not whole points, or the readings are not as many as the tree has sources, or the columns to "
+        "salvage differ in length: pass as many coordinates for each point as there are axes, one reading for each source, and "
+        "key, own and begin of one length",
         "there are more than 1048576 points or keys, or more than a tree file holds (1048576 nodes, 16777216 keys of a list, "
         "4294967295 bytes of sections): pass fewer",
         "the order is not from 1 to 64: pass such an order, or no targets",
@@ -165,8 +166,9 @@ static inline const char *lohandema_refusal_sentence(uint64_t number)
         "the root has no parent and no siblings: ask of a key of level 1 or more",
         "a cell of level 16 has no children: ask of a key of a level below 16",
         "no leaf holds a point that is inside, and the value is its index: build with keep_empty, or take the point out",
-        "the columns are not a well-formed tree: pass all four (key, own, begin and total) as the build of this version wrote "
-        "them, each cut to its number of nodes",
+        "the columns are not a well-formed tree, or those to salvage have more than 1048576 sources: pass all four (key, own, "
+        "begin and total) as the build of this version wrote them, each cut to its number of nodes, or to the salvage "
+        "fewer rows",
         "a key to group, or the node to check, is not a leaf's, and the value is the key's index or the node's number: pass "
         "keys that the lookup in this tree answered, or the number of a leaf",
         "the survey file breaks its rules: write it anew as docs/RULES.md says",
@@ -203,6 +205,28 @@ static inline const char *lohandema_room_name(size_t value)
                                            "V starts", "U keys", "V keys",        "points",       "sourced cells",
                                            "changes",  "file"};
     return value < 12 ? slices[value] : "unknown";
+}
+
+/* What a salvage of columns changed. */
+enum {
+    LOHANDEMA_CHANGE_NOT_VALID = 1,
+    LOHANDEMA_CHANGE_REPEATED = 2,
+    LOHANDEMA_CHANGE_ADDED = 3,
+    LOHANDEMA_CHANGE_CLEARED = 4,
+    LOHANDEMA_CHANGE_MOVED = 5
+};
+
+/* What such a code says of its key, in a sentence for people. Never NULL. */
+static inline const char *lohandema_change_sentence(uint64_t code)
+{
+    static const char *const sentences[6] = {
+        "nothing was changed",
+        "a row was dropped, as this is no valid key",
+        "a row was dropped, as an earlier one has this key",
+        "this cell was added, as it is the root or holds another",
+        "its count was cleared, as it is the root, has children, or its run passes the order column's end",
+        "its begin was changed to the sum of the counts before it"};
+    return code < 6 ? sentences[code] : "it was changed in a way that this version does not know";
 }
 
 /* ---- Keys
@@ -402,6 +426,25 @@ lohandema_ended lohandema_balance_tree(const double centre[3], double radius, si
                                        size_t new_key_len, size_t *new_own, size_t new_own_len, size_t *new_begin,
                                        size_t new_begin_len, size_t *new_total, size_t new_total_len, size_t *nodes,
                                        uint64_t *depth);
+
+/* What can be had of damaged columns. key, own and begin are rows of any number that may hold anything, and so may indices, the
+ * order column. The tree has the valid keys, the root, and all cells that hold one of them. A repeated key keeps its first row. A
+ * leaf keeps its count, and its run, own entries of indices from begin on, is copied to new_indices; the root, a node that has
+ * children, and a leaf whose run passes the end of indices get the count 0. The tree is well formed; one that was so, with
+ * indices as long as its total, comes back the same with no change.
+ * nodes, sources and changes: how many entries new_key, new_own, new_begin and new_total, then new_indices, and then codes and
+ * changed have. codes and changed: each change (enum above) and its key, by code and then by row, or by key for cells that were
+ * added. Totals are worked out anew and not listed. There are at most as many sources as all runs have entries that do not pass
+ * the end, nodes as all levels of keys together and one more, and changes as nodes and two a row. Lend so many: where the new
+ * columns are short, it may take the square of the rows to tell whether the sources would be too many.
+ * Refused 1, 3 (key, own and begin differ in length), 13 (there would be more than 1,048,576 sources), 8 (2 new_indices, 3 new
+ * columns, 10 codes or changed). */
+lohandema_ended lohandema_salvage(size_t axes, const uint64_t *key, size_t key_len, const size_t *own, size_t own_len,
+                                  const size_t *begin, size_t begin_len, const size_t *indices, size_t indices_len,
+                                  size_t *new_indices, size_t new_indices_len, uint64_t *new_key, size_t new_key_len,
+                                  size_t *new_own, size_t new_own_len, size_t *new_begin, size_t new_begin_len,
+                                  size_t *new_total, size_t new_total_len, uint64_t *codes, size_t codes_len,
+                                  uint64_t *changed, size_t changed_len, size_t *nodes, size_t *sources, size_t *changes);
 
 /* Whether the columns are a well-formed tree (docs/RULES.md); false for axes other than 1 to 3. Never refused. */
 bool lohandema_is_well_formed(size_t axes, const uint64_t *key, size_t key_len, const size_t *own, size_t own_len,

@@ -12,12 +12,14 @@ mod limits;
 mod near_work;
 mod one_more;
 mod oracle;
+mod plain_salvage;
 mod points;
 mod random;
 mod refusals;
 mod renumbered;
 mod room;
 mod runs;
+mod salvage;
 mod sums;
 mod swapped;
 mod tally;
@@ -88,6 +90,7 @@ const KINDS: &[Kind] = &[
     ("tree-file", 4_000, files::tree_file),
     ("near-work", 3_000, near_work::near_work),
     ("sums", 800, sums::sums),
+    ("salvage", 6_000, salvage::salvage),
     ("balance", 6_000, balance::balance),
     ("one-more", 10_000, one_more::one_more),
     ("well-formed", 20_000, refusals::trees_handed_in),

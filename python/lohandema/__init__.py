@@ -20,6 +20,7 @@ run, keeps no state, and needs at most 128 KiB of stack. An array that is lent t
 
 from . import keys
 from .boxes import Box
+from .changes import Change
 from .grids import Grid
 from .library import VERSION as __version__
 from .library import NoLibrary
@@ -27,4 +28,4 @@ from .refusal import Refused
 from .rows import Lists, Rows
 from .trees import Tree
 
-__all__ = ["Box", "Grid", "Lists", "NoLibrary", "Refused", "Rows", "Tree", "keys"]
+__all__ = ["Box", "Change", "Grid", "Lists", "NoLibrary", "Refused", "Rows", "Tree", "keys"]

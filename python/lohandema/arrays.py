@@ -38,12 +38,12 @@ _release_buffer.argtypes, _release_buffer.restype = [ctypes.POINTER(_Buffer)], N
 
 
 class Lent:
-    """Entries that are lent to calls: their address, and the view that keeps them where they are."""
+    """Entries that are lent to calls, of eight bytes or of so many: their address, and the view that keeps them where they are."""
 
     __slots__ = ("view", "address", "entries")
 
-    def __init__(self, view):
-        self.view, self.entries = view, view.nbytes // 8
+    def __init__(self, view, size=8):
+        self.view, self.entries = view, view.nbytes // size
         buffer = _Buffer()
         _get_buffer(view, buffer, 0)
         self.address = buffer.address if self.entries else None

@@ -50,6 +50,11 @@ lohandema_ended lohandema_balance_tree(BOX, const double *points, size_t points_
     size_t indices_len, uint64_t *work, size_t work_len, size_t *new_indices, size_t new_indices_len, uint64_t *new_key,
     size_t new_key_len, size_t *new_own, size_t new_own_len, size_t *new_begin, size_t new_begin_len, size_t *new_total,
     size_t new_total_len, size_t *nodes, uint64_t *depth);
+lohandema_ended lohandema_salvage(size_t axes, const uint64_t *key, size_t key_len, const size_t *own, size_t own_len,
+    const size_t *begin, size_t begin_len, const size_t *indices, size_t indices_len, size_t *new_indices,
+    size_t new_indices_len, uint64_t *new_key, size_t new_key_len, size_t *new_own, size_t new_own_len, size_t *new_begin,
+    size_t new_begin_len, size_t *new_total, size_t new_total_len, uint64_t *codes, size_t codes_len, uint64_t *changed,
+    size_t changed_len, size_t *nodes, size_t *sources, size_t *changes);
 bool lohandema_is_well_formed(size_t axes, TREE);
 uint64_t lohandema_depth_of(const uint64_t *key, size_t key_len);
 bool lohandema_find_node(size_t axes, const uint64_t *key, size_t key_len, uint64_t wanted, size_t *node);
@@ -75,10 +80,13 @@ lohandema_ended lohandema_check_sums(size_t axes, TREE, const size_t *indices, s
     size_t readings_len, const size_t *u_starts, size_t u_starts_len, const uint64_t *u_keys, size_t u_keys_len,
     const size_t *v_starts, size_t v_starts_len, const uint64_t *v_keys, size_t v_keys_len, uint64_t *sums, size_t sums_len,
     size_t *leaves, size_t *additions);
+lohandema_ended lohandema_write_tree(size_t axes, TREE, const size_t *indices, size_t indices_len, const size_t *u_starts,
+    size_t u_starts_len, const uint64_t *u_keys, size_t u_keys_len, const size_t *v_starts, size_t v_starts_len,
+    const uint64_t *v_keys, size_t v_keys_len, uint8_t *file, size_t file_len, size_t *written);
 """
 
 # What the shared library has beside them (c/library.c)
-WORDS = ["refusal_name", "refusal_sentence", "reason_name", "reason_cure", "room_name"]
+WORDS = ["refusal_name", "refusal_sentence", "reason_name", "reason_cure", "room_name", "change_sentence"]
 
 
 class Ended(ctypes.Structure):

@@ -76,6 +76,25 @@ def families(axes, keys):
     return max(1, len(sizes)), float(sum(size * size for [size] in sizes))
 
 
+def salvaged(keys):
+    """The most nodes that can be had of rows with these keys: the root, and for each key the cells on the way to it, itself
+    among them."""
+    if numpy:
+        levels = keys & 32767
+        return min(1 + int(levels[levels <= DEEPEST].sum()), MOST_NODES)
+    return min(1 + sum(key & 32767 for key in keys if key & 32767 <= DEEPEST), MOST_NODES)
+
+
+def runs(own, begin, entries):
+    """The most sources that can be had of rows with these counts and begins, where the order column has so many entries: all
+    runs that do not pass its end, as far as they count."""
+    if numpy:
+        # whole numbers of 64 bits that are at least 2 ** 63 are below 0 here, and past any order column
+        within = (own >= 0) & (begin >= 0) & (own <= entries) & (begin <= entries - own)
+        return min(int(own[within].sum()), MOST_POINTS)
+    return min(sum(count for count, start in zip(own, begin) if count >= 0 <= start and count + start <= entries), MOST_POINTS)
+
+
 def capped(keys):
     return min(math.ceil(keys), MOST_KEYS)
 
@@ -95,3 +114,12 @@ def one_more(axes, nodes):
     """The most nodes that a tree of so many nodes can have with one source more. Of each level there is one cell that holds it,
     and only such a cell gets children."""
     return min(nodes + (DEEPEST << axes), MOST_NODES)
+
+
+def file(tree, lists):
+    """The bytes of a tree's file: eight a key, four for each other number, and the trailer of nine entries. The lists are lent:
+    starts and keys of U and of V."""
+    u_starts, u_keys, v_starts, v_keys = [one.entries for one in lists]
+    keys = len(tree.key) + u_keys + v_keys
+    numbers = len(tree.own) + len(tree.begin) + len(tree.total) + len(tree.order) + u_starts + v_starts
+    return 8 * keys + 4 * numbers + 9 * 12 + 8

@@ -5,6 +5,7 @@ import ctypes
 from . import room
 from .arrays import Lent, Points, column, cut, flag, numpy, packed, shown, signed_wholes, three, whole, wholes
 from .boxes import Box
+from .changes import Change
 from .grids import Grid
 from .keys import children as children_of
 from .library import call, library
@@ -13,6 +14,10 @@ from .refusal import Refused
 from .rows import Lists, Rows
 
 COLUMNS = ("key", "own", "begin", "total", "order")
+# What is said of a salvage that has more than a tree may have
+TOO_MUCH = {8: "what can be had has more than 1048576 nodes: pass the rows of a part of the box at a time",
+            13: "what can be had has more than 1048576 sources, as runs overlap or the order column is longer: pass fewer rows "
+                "at a time"}
 
 
 class Tree:
@@ -97,6 +102,17 @@ class Tree:
         del lent
         return cls._of(box, [cut(one, count.value) for one in columns] + [cut(indices, rows)])
 
+    @classmethod
+    def count_nodes(cls, points, box=None, **words):
+        """How many nodes the tree of points has: exactly, where room.most_nodes gives a bound. It takes what Tree.build takes, and
+        refuses what that refuses. The tree is built and let go, since nothing else tells the number; so where the tree is wanted
+        too, build it and ask len(tree).
+
+        >>> Tree.count_nodes([[0.5], [1.5], [6.5], [7.5]], Box([4.0], 4.0), limit=1)
+        9
+        """
+        return len(cls.build(points, box, **words))
+
     def balanced(self, points, *, progress=False):
         """The balanced tree of this one, which has all children or none of each cell, as a build with keep_empty has: the one
         with the fewest cells that contains all of these, has all children or none of each cell, and no two leaves more than one
@@ -163,6 +179,53 @@ class Tree:
         call(name, *words, *self._words(*COLUMNS), *_words([work] + lent), ctypes.byref(count), ctypes.byref(depth))
         del lent
         return self._of(self.box, [cut(one, count.value) for one in columns] + [cut(indices, rows)])
+
+    @classmethod
+    def salvage(cls, box, key, own, begin, order, *, progress=False):
+        """What can be had of damaged columns: a tree of the valid keys, the root and all cells that hold one of them, and a list
+        of the changes, each with its code and key.
+
+        A repeated key keeps its first row. A leaf keeps its count and its run of the order column; the root, a node that has
+        children, and a leaf whose run passes the order column's end get the count 0. Totals are worked out anew, and not listed.
+        The tree is well formed; one that was so, with an order column as long as its total, comes back the same with no change.
+        The columns are int64 or uint64 arrays, or lists of ints, and may hold anything; of the box only the axes are looked at.
+
+        Raises Refused with 3 where key, own and begin differ in length, 13 where there would be more than 1,048,576 sources, or
+        8 where there would be more than 1,048,576 nodes.
+
+        >>> tree, changes = Tree.salvage(Box([4.0], 4.0), [0, 3, 3, 32769], [0, 2, 1, 2], [0, 1, 1, 3], [4, 0, 3, 1])
+        >>> tree.key.tolist(), tree.own.tolist(), tree.order.tolist()
+        ([0, 1, 2, 3, 32769], [0, 0, 0, 2, 0], [0, 3])
+        >>> print(*changes[:2], sep="\\n")
+        key 3: a row was dropped, as an earlier one has this key (change 2)
+        key 1: this cell was added, as it is the root or holds another (change 3)
+        """
+        check_box(box)
+        given = [wholes(one, name) for name, one in (("key", key), ("own", own), ("begin", begin), ("order", order))]
+        with telling(progress, "what can be had of %d rows" % given[0].entries):
+            return cls._salvaged(box, given)
+
+    @classmethod
+    def _salvaged(cls, box, given):
+        """With room for the most that can be had."""
+        key, own, begin, order = given
+        if not key.entries == own.entries == begin.entries:
+            raise Refused(3, sentence="key, own and begin have %d, %d and %d entries: pass as many of each, one a row"
+                          % (key.entries, own.entries, begin.entries))
+        nodes = room.salvaged(shown(key))
+        columns = [column(room.runs(shown(own), shown(begin), order.entries))] + [column(nodes) for _ in range(4)]
+        columns += [column(2 * key.entries + nodes) for _ in range(2)]
+        lent = [Lent(memoryview(one)) for one in columns]
+        counts = [ctypes.c_size_t() for _ in range(3)]
+        try:
+            call("salvage", box.axes, *_words(given + lent), *map(ctypes.byref, counts))
+        except Refused as refused:
+            raise Refused(refused.number, refused.value, sentence=TOO_MUCH.get(refused.number)) from None
+        del lent
+        count, sources, changes = [one.value for one in counts]
+        order, key, own, begin, total = [cut(one, used) for one, used in zip(columns, [sources] + 4 * [count])]
+        listed = [cut(one, changes).tolist() for one in columns[5:]]
+        return cls._of(box, [key, own, begin, total, order]), [Change(code, of % 2 ** 64) for code, of in zip(*listed)]
 
     @classmethod
     def from_columns(cls, box, key, own, begin, total, order):
@@ -271,13 +334,11 @@ class Tree:
         >>> [tree.level_nodes(level) for level in range(tree.depth + 1)]
         [[0], [1, 5], [2], [3, 4]]
         """
-        level, found, node = whole(level, "level"), [], 0
-        while True:
-            node = library.lohandema_next_of_level(*self._words("key"), level, node)
-            if node == len(self):
-                return found
-            found.append(node)
-            node += 1
+        level = whole(level, "level")
+        if numpy:
+            # of a level that no key can have there is none, whatever the size of the number
+            return numpy.flatnonzero(self.levels() == level).tolist() if level <= 32767 else []
+        return [node for node, key in enumerate(self.key.tolist()) if key & 32767 == level]
 
     def levels(self):
         """The level of each node."""
@@ -502,6 +563,27 @@ class Tree:
         counts = [len(self) + 1, u.value, len(self) + 1, v.value]
         u_starts, u_keys, v_starts, v_keys = [cut(one, count) for one, count in zip(columns, counts)]
         return Lists(self, Rows(u_starts, u_keys), Rows(v_starts, v_keys))
+
+    # Files
+
+    def to_file(self, lists=None, *, progress=False):
+        """The tree, its order and its lists as the bytes of a tree file, for another unit that shares the survey.
+        The box is not in the file. Lists that are at hand are given as lists=; they, the
+        tree and the order are checked. Raises Refused 4 COUNT, 13 TREE, or 17 SECTION where the order is no arrangement or the
+        lists are not the tree's.
+
+        >>> tree = Tree.build([[0.5], [1.5], [6.5], [7.5]], Box([4.0], 4.0), limit=1)
+        >>> file = tree.to_file()
+        >>> len(file), list(file[-8:])
+        (472, [1, 0, 0, 0, 9, 0, 0, 0])
+        """
+        given = lent_lists(self.lists(progress=progress) if lists is None else lists)
+        file, written = bytearray(room.file(self, given)), ctypes.c_size_t()
+        lent = Lent(memoryview(file), 1)
+        with telling(progress, "the file of %d nodes" % len(self)):
+            call("write_tree", self.box.axes, *self._words(), *self._words("order"), *_words(given + [lent]),
+                 ctypes.byref(written))
+        return bytes(lent.view[:written.value])
 
 
 def _words(lent):

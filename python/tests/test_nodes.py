@@ -6,6 +6,7 @@ import unittest
 from common import some_points
 
 from lohandema import Box, Tree
+from lohandema.library import library
 
 
 def trees():
@@ -47,6 +48,17 @@ class Nodes(unittest.TestCase):
             levels = list(tree.levels())
             for level in range(tree.depth + 2):
                 self.assertEqual(tree.level_nodes(level), [n for n in range(len(tree)) if levels[n] == level])
+                self.assertEqual(tree.level_nodes(level), self.by_calls(tree, level))
+            for level in (17, 32767, 32768, 2 ** 63, 2 ** 64 - 1):
+                self.assertEqual(tree.level_nodes(level), [])
+
+    def by_calls(self, tree, level):
+        """The same by the library's call, node by node."""
+        found, node = [], library.lohandema_next_of_level(*tree._words("key"), level, 0)
+        while node < len(tree):
+            found.append(node)
+            node = library.lohandema_next_of_level(*tree._words("key"), level, node + 1)
+        return found
 
     def test_past_the_nodes(self):
         tree = Tree.build([[0.5], [7.5]], Box([4.0], 4.0), limit=1)

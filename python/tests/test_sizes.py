@@ -24,6 +24,22 @@ class Sizes(unittest.TestCase):
             tree.list_sizes()
         self.assertEqual(caught.exception.number, 13)
 
+    def test_count_nodes(self):
+        """The nodes of the build, with the words that it takes and the refusals that it has; no more than the bound."""
+        made = random.Random(9)
+        for axes in (1, 2, 3):
+            points, targets = some_points(made, axes, 60), some_points(made, axes, 200)
+            box = Box([0.0] * axes, 4.0)
+            for words in ({"limit": 1}, {"limit": 3, "keep_empty": True},
+                          {"limit": 2, "keep_empty": True, "targets": targets, "order": 2}):
+                nodes = Tree.count_nodes(points, box, **words)
+                self.assertEqual(nodes, len(Tree.build(points, box, **words)))
+                self.assertLessEqual(nodes, room.most_nodes(axes, 60, 200 if "targets" in words else 0, words["limit"],
+                                                            words.get("order", 1), "keep_empty" in words))
+        with self.assertRaises(Refused) as caught:
+            Tree.count_nodes([[9.0]], Box([4.0], 4.0))
+        self.assertEqual(caught.exception.number, 6)
+
     def test_most_nodes(self):
         """As the header's: 0 for other axes, large numbers as the most that count; what is no number is refused."""
         for words, most in (((1, 4, 0, 1, 1, False), 63), ((4, 4, 0, 1, 1, True), 0), ((0, 4, 0, 1, 1, True), 0),

@@ -121,7 +121,7 @@ class Recorded(unittest.TestCase):
             with self.assertRaises(Refused) as caught:
                 tree.check_sums(readings, of)
             self.assertEqual((caught.exception.number, caught.exception.value), told)
-        with self.assertRaisesRegex(Refused, "or the readings are not as many as the tree has sources: .* one reading for each source"):
+        with self.assertRaisesRegex(Refused, "or the readings are not as many as the tree has sources, or .* one reading for each source"):
             tree.check_sums([1, 2, 3])
         for readings in ([1, 2, 3, 2 ** 63], [1, 2, 3, 0.5], "1234", [True, 1, 2, 3], None):
             with self.assertRaises((TypeError, ValueError)):

@@ -440,6 +440,66 @@ pub fn check_sums(
     answered(ended, checked)
 }
 
+/// What can be had of damaged columns: the tree of the valid keys of `key`, the root and all cells that hold one of them. A
+/// repeated key keeps its first row. A leaf keeps its count, and its run, so many entries of `order` from its begin on, is copied
+/// to `indices`; the root, a node that has children, and a leaf whose run passes the order column's end get the count 0. Each
+/// change goes into `codes` and `changed`, its code and its key ([`Change`](crate::Change)): by code, then by row, or by key
+/// for cells that were added. `key`, `own` and `begin` may have any rows. Answers how many nodes, sources and changes there are.
+/// Where the new columns are short, it may take the square of the rows to tell whether the sources would be too many.
+///
+/// # Errors
+/// [`DIMS`](Refusal::DIMS); [`SHAPE`](Refusal::SHAPE) if `key`, `own` and `begin` differ in length; [`TREE`](Refusal::TREE) if
+/// the tree would have more than 1,048,576 sources; [`ROOM`](Refusal::ROOM) 2, 3 and 10.
+#[allow(clippy::too_many_arguments)] // columns that are read, and a tree and its changes that are written
+pub fn salvage(
+    axes: usize,
+    key: &[u64],
+    own: &[usize],
+    begin: &[usize],
+    order: &[usize],
+    indices: &mut [usize],
+    new_key: &mut [u64],
+    new_own: &mut [usize],
+    new_begin: &mut [usize],
+    new_total: &mut [usize],
+    codes: &mut [u64],
+    changed: &mut [u64],
+) -> Result<(usize, usize, usize), Refusal> {
+    let (mut nodes, mut sources, mut changes) = (0, 0, 0);
+    // SAFETY: columns and order are read with their own lengths; the seven slices, lent to us alone, are written within theirs.
+    let ended = unsafe {
+        raw::lohandema_salvage(
+            axes,
+            key.as_ptr(),
+            key.len(),
+            own.as_ptr(),
+            own.len(),
+            begin.as_ptr(),
+            begin.len(),
+            order.as_ptr(),
+            order.len(),
+            indices.as_mut_ptr(),
+            indices.len(),
+            new_key.as_mut_ptr(),
+            new_key.len(),
+            new_own.as_mut_ptr(),
+            new_own.len(),
+            new_begin.as_mut_ptr(),
+            new_begin.len(),
+            new_total.as_mut_ptr(),
+            new_total.len(),
+            codes.as_mut_ptr(),
+            codes.len(),
+            changed.as_mut_ptr(),
+            changed.len(),
+            &mut nodes,
+            &mut sources,
+            &mut changes,
+        )
+    };
+    answered(ended, (nodes, sources, changes))
+}
+
 /// Writes the file of a tree and its lists, and answers its length; the rest of `file` becomes 0. The file is as long as
 /// [`Tree::to_file`](crate::Tree::to_file)'s.
 ///

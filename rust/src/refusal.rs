@@ -76,8 +76,8 @@ impl Refusal {
     pub const DIMS: u64 = 1;
     /// The box is outside its domain.
     pub const BOX: u64 = 2;
-    /// The coordinates are not whole points, those of a single point are not one for each axis, or the readings are not as
-    /// many as the tree has sources.
+    /// The coordinates are not whole points, those of a single point are not one for each axis, the readings are not as many
+    /// as the tree has sources, or the columns to salvage differ in length.
     pub const SHAPE: u64 = 3;
     /// There are more than 1,048,576 points or keys to group, or more than a tree file holds.
     pub const COUNT: u64 = 4;
@@ -90,8 +90,7 @@ impl Refusal {
     pub const POINT: u64 = 7;
     /// A lent slice is short. The value says which: 1 work (of a build, of the list sizes, or the sums of the sum check),
     /// 2 order, 3 a node column, 4 U starts, 5 V starts, 6 U keys, 7 V keys, 8 the output of a lookup, the starts or indices
-    /// of a grouping or near work's counts, 9 sourced cells, 10 the list of changes of a salvage (no call of this crate has
-    /// one), 11 the file of a tree.
+    /// of a grouping or near work's counts, 9 sourced cells, 10 the list of changes of a salvage, 11 the file of a tree.
     pub const ROOM: u64 = 8;
     /// A key or level is not valid, or an anchor is off its level.
     pub const KEY: u64 = 9;
@@ -101,7 +100,8 @@ impl Refusal {
     pub const DEEP: u64 = 11;
     /// A point is in the box, but no leaf of the tree holds it; the value is its index.
     pub const UNSTORED: u64 = 12;
-    /// The columns are not a well-formed tree; a wrong total is enough, or nodes that do not stand depth first.
+    /// The columns are not a well-formed tree; a wrong total is enough, or nodes that do not stand depth first. Of a salvage:
+    /// the tree would have more than 1,048,576 sources.
     pub const TREE: u64 = 13;
     /// A key to group, or the node to check, is not a leaf's; the value is the lowest index of such keys, or the node's number.
     pub const NOTLEAF: u64 = 14;
@@ -151,7 +151,7 @@ impl Refusal {
             }
             2 => "the order column is short: lend one entry for each source",
             3 => {
-                "a node column is short: lend one entry for each node, or, where the most that count (1048576) were lent, raise the limit of a cell"
+                "a node column is short: lend one entry for each node, or, where the most that count (1048576) were lent, hand fewer rows to a salvage or raise the limit of a cell"
             }
             4 => "the U starts are short: lend one entry more than there are nodes",
             5 => "the V starts are short: lend one entry more than there are nodes",
@@ -165,7 +165,9 @@ impl Refusal {
                 "the lookup output, the grouping's starts or indices, or near work's counts are short: lend one output or index for each point, one start more than there are nodes, one count for each node"
             }
             9 => "the sourced cells are short: lend one entry for each node",
-            10 => "the list of changes is short: lend more entries",
+            10 => {
+                "the list of changes is short: lend two entries for each row and one for each node"
+            }
             11 => {
                 "the file of the tree is short: lend 8 bytes for each key, 4 for each other number, and 116"
             }
@@ -185,7 +187,7 @@ impl Refusal {
                 "the box is outside its domain: give a radius from 0.25 to 1048576 and a centre that is finite and at most 16777216 in size on each axis"
             }
             Refusal::SHAPE => {
-                "the coordinates are not whole points, or the readings are not as many as the tree has sources: give as many coordinates for each point as there are axes, and one reading for each source"
+                "the coordinates are not whole points, or the readings are not as many as the tree has sources, or the columns to salvage differ in length: give as many coordinates for each point as there are axes, one reading for each source, and key, own and begin of one length"
             }
             Refusal::COUNT => {
                 "there are more than 1048576 points or keys, or more than a tree file holds (1048576 nodes, 16777216 keys of a list, 4294967295 bytes of sections): hand in fewer at a time"
@@ -204,7 +206,7 @@ impl Refusal {
                 "a cell of level 16 has no children: ask for those of a cell of level 15 or less"
             }
             Refusal::TREE => {
-                "the columns are not a well-formed tree: hand in all four (key, own, begin and total) as a build of this version wrote them, each cut to its number of nodes"
+                "the columns are not a well-formed tree, or those to salvage have more than 1048576 sources: hand in all four (key, own, begin and total) as a build of this version wrote them, each cut to its number of nodes, or to the salvage fewer rows"
             }
             Refusal::FILE => "the survey file breaks its rules: write the file anew",
             Refusal::GRID => {

@@ -61,6 +61,22 @@ impl Asked<'_> {
     pub fn most_nodes(&self) -> usize {
         most_nodes(self)
     }
+
+    /// How many nodes the tree has that [`Tree::build`] makes of this: exactly, where [`most_nodes`](Asked::most_nodes) is a bound.
+    /// The tree is built and let go, since nothing else tells the number; so where the tree is wanted too, build it and ask
+    /// how many keys it has.
+    ///
+    /// ```
+    /// use lohandema::{Asked, Bounds};
+    /// let bounds = Bounds::new(&[4.0], 4.0);
+    /// assert_eq!(Asked::new(&bounds, &[0.5, 1.5, 6.5, 7.5], 1).count_nodes(), Ok(9));
+    /// ```
+    ///
+    /// # Errors
+    /// As [`Tree::build`].
+    pub fn count_nodes(&self) -> Result<usize, Refusal> {
+        Tree::build(*self).map(|tree| tree.key.len())
+    }
 }
 
 /// The same with so many targets.
@@ -149,6 +165,23 @@ pub(crate) fn balanced(axes: usize, nodes: usize) -> usize {
     let times = [1, 3, 9, 27][axes.min(3)];
     let below = nodes.saturating_sub(1).saturating_mul(times);
     below.saturating_add(1).min(MOST_NODES)
+}
+
+/// The most nodes that can be had of these rows: the root, and for each key the cells on the way to it, itself among them.
+pub(crate) fn salvaged(keys: &[u64]) -> usize {
+    let levels = keys.iter().map(|key| key % 32768);
+    let cells: u64 = levels.filter(|level| *level <= DEEPEST).sum();
+    (cells as usize).saturating_add(1).min(MOST_NODES)
+}
+
+/// The most sources that can be had of these rows: all runs that do not pass the order column's end, as far as they count.
+pub(crate) fn runs(own: &[usize], begin: &[usize], order: &[usize]) -> usize {
+    let ends = |(count, from): (&usize, &usize)| Some((*count, count.checked_add(*from)?));
+    let within = own.iter().zip(begin).filter_map(ends);
+    let within = within.filter(|(_, end)| *end <= order.len());
+    within.fold(0_usize, |sum, (count, _)| {
+        sum.saturating_add(count).min(MOST_POINTS)
+    })
 }
 
 /// What says that the U keys were short, and the V keys.

@@ -1,5 +1,6 @@
 //! Trees: nodes depth first, a cell, then its children ascending, each followed by its own; in columns.
 
+use crate::changes::Change;
 use crate::keys;
 use crate::lent::{self, Asked, Columns, Grid};
 use crate::limits::MOST_KEYS;
@@ -242,6 +243,67 @@ impl Tree {
             total,
             order,
         }
+    }
+
+    /// What can be had of damaged columns, and each change that it took: a tree of the valid keys, the root and all cells that
+    /// hold one of them. A repeated key keeps its first row. A leaf keeps its count and its run of the order column; the root, a
+    /// node that has children, and a leaf whose run passes the order column's end get the count 0. The tree is well formed, and
+    /// one that was well formed, with an order column as long as its total, comes back the same with no change. The rows may
+    /// hold anything; of the box only the axes are looked at.
+    ///
+    /// ```
+    /// use lohandema::{Bounds, Change, Tree};
+    /// // the row of cell 1 is lost, that of 3 is there twice, and the order column ends early
+    /// let bounds = Bounds::new(&[4.0], 4.0);
+    /// let (key, own, begin) = ([0, 3, 3, 32769], [0, 2, 1, 2], [0, 1, 1, 3]);
+    /// let (tree, changes) = Tree::salvage(bounds, &key, &own, &begin, &[4, 0, 3, 1])?;
+    /// assert!(tree.is_well_formed());
+    /// assert_eq!((&tree.key[..], tree.leaf_sources(3)), (&[0, 1, 2, 3, 32769][..], &[0, 3][..]));
+    /// let told: Vec<_> = changes.iter().map(|change| (change.code, change.key)).collect();
+    /// assert_eq!(told, [(2, 3), (3, 1), (3, 2), (4, 32769), (5, 3), (5, 32769)]);
+    /// assert_eq!(
+    ///     changes[1].to_string(),
+    ///     "key 1: this cell was added, as it is the root or holds another (change 3)"
+    /// );
+    /// # Ok::<(), lohandema::Refusal>(())
+    /// ```
+    ///
+    /// # Errors
+    /// As [`lent::salvage`]; [`ROOM`](Refusal::ROOM) only, with 3, if the tree has more than 1,048,576 nodes.
+    pub fn salvage(
+        bounds: Bounds,
+        key: &[u64],
+        own: &[usize],
+        begin: &[usize],
+        order: &[usize],
+    ) -> Result<(Tree, Vec<Change>), Refusal> {
+        let (sources, nodes) = (room::runs(own, begin, order), room::salvaged(key));
+        let mut indices = vec![0; sources];
+        let (mut new_key, mut new_own) = (vec![0; nodes], vec![0; nodes]);
+        let (mut new_begin, mut new_total) = (vec![0; nodes], vec![0; nodes]);
+        let changes = 2 * key.len() + nodes;
+        let (mut codes, mut changed) = (vec![0; changes], vec![0; changes]);
+        let (nodes, sources, changes) = lent::salvage(
+            bounds.axes,
+            key,
+            own,
+            begin,
+            order,
+            &mut indices,
+            &mut new_key,
+            &mut new_own,
+            &mut new_begin,
+            &mut new_total,
+            &mut codes,
+            &mut changed,
+        )?;
+        let (key, own) = (room::cut(new_key, nodes), room::cut(new_own, nodes));
+        let (begin, total) = (room::cut(new_begin, nodes), room::cut(new_total, nodes));
+        let order = room::cut(indices, sources);
+        let pairs = codes.into_iter().zip(changed).take(changes);
+        let changes = pairs.map(|(code, key)| Change::new(code, key)).collect();
+        let tree = Tree::from_columns(bounds, key, own, begin, total, order);
+        Ok((tree, changes))
     }
 
     /// The number of axes, those of the box.

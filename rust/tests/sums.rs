@@ -92,7 +92,7 @@ fn what_is_not_the_trees_is_refused() {
 fn the_sentences_speak_of_readings_and_of_the_node() {
     let (tree, lists, readings) = survey(2, 60);
     let short = tree.check_sums(&lists, &readings[1..]).unwrap_err();
-    let cause = "or the readings are not as many as the tree has sources: ";
+    let cause = "or the readings are not as many as the tree has sources, or ";
     assert!(short.to_string().contains(cause), "{short}");
     assert!(short.to_string().contains("one reading for each source"));
     let node = tree.key.len() + 2;
