@@ -59,6 +59,7 @@ void test_near_work(void);
 void test_totals(void);
 void test_order(void);
 void test_sums(void);
+void test_files(void);
 void test_balance(void);
 void test_null(void);
 

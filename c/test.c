@@ -108,6 +108,7 @@ int main(void)
     test_totals();
     test_order();
     test_sums();
+    test_files();
     test_balance();
     test_null();
     printf("%u checks, %u failed\n", made, failed);

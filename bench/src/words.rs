@@ -3,13 +3,14 @@ use std::env;
 use std::process::exit;
 use std::slice;
 
-const CALLS: [&str; 9] = [
+const CALLS: [&str; 10] = [
     "build",
     "lookup",
     "lists",
     "near_work",
     "check_sums",
     "balance",
+    "files",
     "coding",
     "growth",
     "clearing",

@@ -79,7 +79,7 @@ mod room;
 mod rows;
 pub mod trees;
 
-pub use lent::{Asked, Columns, Grid};
+pub use lent::{Asked, Columns, Grid, Held};
 pub use points::Bounds;
 pub use refusal::{Reason, Refusal, Wall};
 pub use trees::{Checked, Groups, Leaf, Lists, Rows, Sums, Tree};
