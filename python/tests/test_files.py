@@ -4,6 +4,7 @@ tools/tree-file writes and lists."""
 import array
 import os
 import random
+import re
 import struct
 import subprocess
 import sys
@@ -45,8 +46,10 @@ class Written(unittest.TestCase):
             self.assertEqual(tree.to_file(lists), file)
 
     def test_root(self):
-        """The smallest file there is."""
-        self.assertEqual(len(Tree.build([], Box([4.0], 4.0)).to_file()), 152)
+        """The smallest file there is, as docs/RULES.md has it."""
+        page = read("docs", "RULES.md").split("## The tree file\n")[1]
+        told = "".join(re.findall(r"^    ([0-9a-f ]+)$", page, re.M)).replace(" ", "")
+        self.assertEqual((len(told) // 2, bytes.fromhex(told)), (152, Tree.build([], Box([4.0], 4.0)).to_file()))
 
     def refused(self, number, tree, lists):
         with self.assertRaises(Refused) as caught:
@@ -162,6 +165,7 @@ class Tool(unittest.TestCase):
         self.assertIn("a.tree: 333 nodes, 1261 readings, 2544 keys in the U rows and 5112 keys in the V rows, %d bytes\n" % size,
                       said)
         self.assertEqual(self.done("list", "a.tree").stdout.split("\n")[0], "tree 2 333 5 1261 71865")
+        self.assertIn("{:,} bytes".format(size), read("docs", "TUTORIAL.md"))
 
     def test_refused(self):
         survey = os.path.join(ROOT, "samples", "example.survey")

@@ -14,7 +14,7 @@
 //! - [`keys`]: level, parent, children, neighbours, touching, encode and decode.
 //! - [`points`]: the box, a point's cell, the float test of two cells.
 //! - [`trees`]: a tree, its leaves, children and levels, the sources of a cell, lookup, grouping, sourced cells, lists, the
-//!   sums of a leaf.
+//!   sums of a leaf, tree files.
 //! - [`lent`]: the calls that write, on slices of the caller's own: nothing is allocated.
 //! - [`limits`]: how much the calls take.
 //! - [`ferreus`]: tree and lists in the sets and maps of `ferreus_bbfmm`, for those who come from there.
