@@ -22,7 +22,8 @@ fn beside(report: &Report, named: Named, points: &[f64], runs: usize) {
     );
     let mut read = Room::new(tree.order.len(), tree.key.len());
     let mut rows = room_for(&lists, 0);
-    read.read(&file, &mut rows);
+    let held = read.read(&file, &mut rows);
+    assert_eq!((held.nodes, held.v), (tree.key.len(), lists.v.keys.len()));
     assert!(read.holds(&tree) && rows == lists);
     let mut built = Room::new(tree.order.len(), tree.key.len());
     let mut made: Lists = room_for(&lists, 0);

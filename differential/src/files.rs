@@ -3,19 +3,20 @@
 use crate::file_faults as faults;
 use crate::inputs;
 use crate::keys::refused;
-use crate::oracle;
+use crate::oracle::{self, level};
 use crate::plain_file::{self as plain, Draft, Room};
 use crate::random::Random;
 use crate::refusals::left;
 use crate::tally::Tally;
 use crate::trees::{axes_of, flat, odd_tree, rust_rows, show};
+use ferreus_bbfmm::morton;
 use lohandema::lent::{self, Held};
 use lohandema::points::Bounds;
 use lohandema::trees::{Lists, Rows, Tree};
 use lohandema::{Asked, Refusal};
 
 /// The plain reader looks at each pair of nodes, so a file with more of them is compared with what was written alone.
-const MOST_BY_PAIRS: usize = 250;
+const MOST_BY_PAIRS: usize = 420;
 
 /// The writer's answer for a right tree, and for an order column and lists with one fault.
 fn compare_written(t: &mut Tally, r: &mut Random, tree: &Tree, lists: &Lists, input: &str) {
@@ -144,7 +145,10 @@ fn compare_in(t: &mut Tally, what: &str, file: &[u8], told: &Told, room: &Room) 
     let mut slices = Slices::lent(room);
     let ours = slices.read(file);
     let ours = ours.map(|held| [held.axes, held.nodes, held.sources, held.u, held.v]);
-    let input = || format!("{what}, room {room:?}, file {file:?}");
+    let input = || {
+        let shown = &file[..file.len().min(4096)];
+        format!("{what}, room {room:?}, file {shown:?}")
+    };
     t.same("read", ours, right, input);
     t.same("what reading leaves", slices, after, input);
 }
@@ -326,8 +330,53 @@ fn chosen(t: &mut Tally, r: &mut Random) {
     }
 }
 
+/// A cell and those inside it to level 10, depth first, as long as there are not so many.
+fn put_cells(key: u64, most: usize, keys: &mut Vec<u64>) {
+    if keys.len() == most {
+        return;
+    }
+    keys.push(key);
+    if level(key) < 10 {
+        let children = morton::get_children(key, &oracle::dimensions(2));
+        children
+            .iter()
+            .for_each(|child| put_cells(*child, most, keys));
+    }
+}
+
+/// As many nodes as count, and one more, which no room is enough for; without sources, so that all rows are empty.
+fn most_nodes(t: &mut Tally) {
+    for nodes in [1_048_576, 1_048_577] {
+        let mut key = vec![];
+        put_cells(0, nodes, &mut key);
+        let zeros = || vec![0; nodes];
+        let any = oracle::any_box(2);
+        let tree = Tree::from_columns(any, key, zeros(), zeros(), zeros(), vec![]);
+        let rows = || Rows {
+            starts: vec![0; nodes + 1],
+            keys: vec![],
+        };
+        let lists = Lists {
+            u: rows(),
+            v: rows(),
+        };
+        let (file, needed) = (
+            Draft::of(&tree, &lists).file(),
+            plain::needed(&tree, &lists),
+        );
+        let longer = needed.map(|entries| entries + 1);
+        let told = Ok((tree, lists));
+        for room in [needed, longer, [0; 9]] {
+            compare_in(t, "most nodes", &file, &told, &room);
+        }
+    }
+}
+
 pub fn tree_file(t: &mut Tally, r: &mut Random, case: u64) {
     if case == 0 {
+        if !t.short() {
+            most_nodes(t);
+        }
         return chosen(t, r);
     }
     let (tree, u, v, shown) = if case % 2 == 0 {
