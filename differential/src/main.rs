@@ -5,6 +5,7 @@ mod builds;
 mod differences;
 mod face;
 mod file_faults;
+mod file_reading;
 mod files;
 mod grids;
 mod inputs;
