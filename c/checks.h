@@ -60,6 +60,7 @@ void test_totals(void);
 void test_order(void);
 void test_salvage(void);
 void test_sums(void);
+void test_files(void);
 void test_balance(void);
 void test_more(void);
 void test_null(void);

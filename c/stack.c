@@ -18,7 +18,7 @@ static size_t axes;
 static double sources[3 * POINTS], targets[3 * POINTS];
 static uint64_t work[3 * POINTS], key[NODES], u_keys[KEYS], v_keys[KEYS], output[POINTS], cells[NODES];
 static size_t order[POINTS], own[NODES], begin[NODES], total[NODES], u_starts[NODES + 1], v_starts[NODES + 1];
-static size_t starts[NODES + 1], indices[POINTS], nodes;
+static size_t starts[NODES + 1], read_starts[NODES + 1], indices[POINTS], nodes;
 static size_t new_own[KEYS], new_begin[KEYS], new_total[KEYS];
 static uint64_t twice[2 * NODES];
 static size_t twice_own[2 * NODES], twice_begin[2 * NODES];
@@ -179,6 +179,24 @@ static void salvage(void)
                              &entries, &changes);
     if (last.number == 0 && (count != nodes || entries != points || changes != nodes))
         last.number = 99;
+}
+
+/* The same file read again; the slices of the tree itself stay as they are. */
+static void read_tree(void)
+{
+    size_t bytes = 8 * (nodes + u_starts[nodes] + v_starts[nodes]) + 4 * (5 * nodes + points + 2) + 116;
+    size_t found_axes, found, sources_found, u, v;
+    uint8_t *file = malloc(bytes);
+    uint64_t *near = malloc(8 * KEYS), *far = malloc(8 * KEYS);
+    lohandema_write_tree(axes, COLUMNS, order, points, LISTS, file, bytes, &found);
+    last = lohandema_read_tree(file, bytes, indices, points, cells, NODES, new_own, NODES, new_begin, NODES, new_total, NODES,
+                               starts, NODES + 1, near, KEYS, read_starts, NODES + 1, far, KEYS, &found_axes, &found,
+                               &sources_found, &u, &v);
+    if (last.number == 0 && (found != nodes || sources_found != points || u != u_starts[nodes] || v != v_starts[nodes]))
+        last.number = 99;
+    free(file);
+    free(near);
+    free(far);
 }
 
 static void is_arrangement(void)
@@ -345,6 +363,7 @@ static struct {
     {"check_sums", check_sums, LOHANDEMA_STACK, 0},
     {"write_tree", write_tree, 96 * KIB, 0},
     {"salvage", salvage, 8 * KIB, 0},
+    {"read_tree", read_tree, 96 * KIB, 0},
     {"is_arrangement", is_arrangement, 32 * KIB, 0},
     {"balance_tree", balance_tree, LOHANDEMA_STACK, 0},
     {"build_tree without targets", build_without_targets, 48 * KIB, 0},

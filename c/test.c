@@ -111,6 +111,7 @@ int main(void)
     test_order();
     test_salvage();
     test_sums();
+    test_files();
     test_balance();
     test_more();
     test_null();

@@ -250,6 +250,41 @@ static void files(void)
           LOHANDEMA_TREE, 0);
 }
 
+static size_t read_counts[5];
+
+/* Reads the file of the root alone into slices of just its room; those that are NULL have no entries. */
+static lohandema_ended read_root(uint64_t *keys, size_t *owns, size_t *begins, size_t *totals, size_t *us, size_t *vs)
+{
+    const size_t starts[2] = {0, 0};
+    uint8_t file[152];
+    size_t written;
+    ENDED(lohandema_write_tree(1, ROOT, NULL, 0, starts, 2, NULL, 0, starts, 2, NULL, 0, file, sizeof file, &written), 0, 0);
+    return lohandema_read_tree(file, sizeof file, NULL, 0, keys, keys ? 1 : 0, owns, owns ? 1 : 0, begins, begins ? 1 : 0, totals,
+                               totals ? 1 : 0, us, us ? 2 : 0, NULL, 0, vs, vs ? 2 : 0, NULL, 0, &read_counts[0],
+                               &read_counts[1], &read_counts[2], &read_counts[3], &read_counts[4]);
+}
+
+/* No order and no list keys are lent; then each other slice in turn is left out, and then the file. */
+static void files_read(void)
+{
+    uint64_t keys[1] = {7};
+    size_t owns[1] = {7}, begins[1] = {7}, totals[1] = {7}, us[2] = {7, 7}, vs[2] = {7, 7};
+    const size_t counts[5] = {1, 1, 0, 0, 0};
+    ENDED(read_root(keys, owns, begins, totals, us, vs), 0, 0);
+    EXPECT(STARTS_WITH(read_counts, counts) && keys[0] == 0 && owns[0] == 0 && begins[0] == 0 && totals[0] == 0);
+    EXPECT(all_zero(us, sizeof us) && all_zero(vs, sizeof vs));
+    ENDED(read_root(NULL, owns, begins, totals, us, vs), LOHANDEMA_ROOM, LOHANDEMA_ROOM_NODES);
+    EXPECT(all_zero(read_counts, sizeof read_counts));
+    ENDED(read_root(keys, NULL, begins, totals, us, vs), LOHANDEMA_ROOM, LOHANDEMA_ROOM_NODES);
+    ENDED(read_root(keys, owns, NULL, totals, us, vs), LOHANDEMA_ROOM, LOHANDEMA_ROOM_NODES);
+    ENDED(read_root(keys, owns, begins, NULL, us, vs), LOHANDEMA_ROOM, LOHANDEMA_ROOM_NODES);
+    ENDED(read_root(keys, owns, begins, totals, NULL, vs), LOHANDEMA_ROOM, LOHANDEMA_ROOM_U_STARTS);
+    ENDED(read_root(keys, owns, begins, totals, us, NULL), LOHANDEMA_ROOM, LOHANDEMA_ROOM_V_STARTS);
+    ENDED(lohandema_read_tree(NULL, 0, NULL, 0, NULL, 0, NULL, 0, NULL, 0, NULL, 0, NULL, 0, NULL, 0, NULL, 0, NULL, 0,
+                              &read_counts[0], &read_counts[1], &read_counts[2], &read_counts[3], &read_counts[4]),
+          LOHANDEMA_SECTION, 0);
+}
+
 /* The extents of lohandema_calculate_tree_center_and_radius are tried with the points. */
 static void sums(void)
 {
@@ -439,6 +474,7 @@ void test_null(void)
     near_work();
     salvages();
     files();
+    files_read();
     sums();
     balancing();
     adding();

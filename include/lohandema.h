@@ -26,7 +26,7 @@
  * systems, and fails below it: pass the larger of the two.
  *   points_to_keys, get_interaction_lists, get_list_sizes, get_near_work, check_sums,
  *   balance_tree                                                                            128 KiB
- *   sum_check, lists_right, write_tree                                                       96 KiB
+ *   sum_check, lists_right, write_tree, read_tree                                            96 KiB
  *   build_tree, build_tree_on_grid, add_source                                               48 KiB
  *   get_sourced_cells, is_arrangement                                                        32 KiB
  *   every other call                                                                          8 KiB
@@ -593,6 +593,52 @@ lohandema_ended lohandema_write_tree(size_t axes, const uint64_t *key, size_t ke
                                      size_t u_starts_len, const uint64_t *u_keys, size_t u_keys_len,
                                      const size_t *v_starts, size_t v_starts_len, const uint64_t *v_keys,
                                      size_t v_keys_len, uint8_t *file, size_t file_len, size_t *written);
+
+/* Room that is enough for lohandema_read_tree: how many nodes, sources, U keys and V keys the trailer of a tree file says that there
+ * are, as far as they count. Of a good file these are the right ones. Of any other they are some, none more than file_len / 4:
+ * the call says what is wrong with it, whatever is lent. Worked out and not proved; c/test tries it. */
+static inline void lohandema_file_sizes(const uint8_t *file, size_t file_len, size_t *nodes, size_t *sources, size_t *u,
+                                        size_t *v)
+{
+    size_t numbers[3] = {0, 0, 0}, entries = 0, most;
+    *nodes = *sources = *u = *v = 0;
+    if (file_len < 8)
+        return;
+    for (size_t i = 1; i <= 4; i++)
+        entries = 256 * entries + file[file_len - i];
+    if (entries > (file_len - 8) / 12)
+        return;
+    for (const uint8_t *entry = file + (file_len - 8 - 12 * entries); entries > 0; entries--, entry += 12) {
+        for (size_t i = 0; i < 3; i++)
+            numbers[i] = entry[4 * i] + 256u * entry[4 * i + 1] + 65536u * entry[4 * i + 2] + (size_t)16777216 * entry[4 * i + 3];
+        most = numbers[2] < file_len ? numbers[2] : file_len;
+        if (numbers[0] == 1)
+            *nodes = most / 8 < LOHANDEMA_MOST_NODES ? most / 8 : LOHANDEMA_MOST_NODES;
+        if (numbers[0] == 5)
+            *sources = most / 4 < LOHANDEMA_MOST_POINTS ? most / 4 : LOHANDEMA_MOST_POINTS;
+        if (numbers[0] == 7)
+            *u = most / 8 < LOHANDEMA_MOST_LIST_KEYS ? most / 8 : LOHANDEMA_MOST_LIST_KEYS;
+        if (numbers[0] == 9)
+            *v = most / 8 < LOHANDEMA_MOST_LIST_KEYS ? most / 8 : LOHANDEMA_MOST_LIST_KEYS;
+    }
+}
+
+/* The tree of a file, with its order column and its lists: what lohandema_write_tree was given, and nothing is built. The file may
+ * be any bytes; what is answered is a well-formed tree with its own lists, as all of it is judged. The box is not in the file.
+ * A reader skips sections of the codes 10 to 31; the entries may stand in any order, and sections may share bytes or leave gaps.
+ *   indices            one entry a source
+ *   key to total       one entry a node each. The shortest of the four counts, at most 1,048,576 of its entries.
+ *   u_starts, v_starts one entry a node, and one more
+ *   u_keys, v_keys     the keys of each list; at most 16,777,216 entries count. lohandema_file_sizes (above) tells all of these.
+ * axes, nodes, sources, u and v: how many axes, nodes, sources, U keys and V keys there are, 0 after a refusal.
+ * Refused 17 (the trailer does not fit the file), 1, 17 (a code is 0 or above 31, or stands twice, one of 1 to 9 is missing, or
+ * a section is not inside the file or not whole entries), 13, 17 (the order column is no arrangement, or the lists are not the
+ * tree's), 8 (2 indices, 3 key, own, begin or total, 4 u_starts, 5 v_starts, 6 u_keys, 7 v_keys). All but 8 whatever is lent. */
+lohandema_ended lohandema_read_tree(const uint8_t *file, size_t file_len, size_t *indices, size_t indices_len, uint64_t *key,
+                                    size_t key_len, size_t *own, size_t own_len, size_t *begin, size_t begin_len,
+                                    size_t *total, size_t total_len, size_t *u_starts, size_t u_starts_len, uint64_t *u_keys,
+                                    size_t u_keys_len, size_t *v_starts, size_t v_starts_len, uint64_t *v_keys,
+                                    size_t v_keys_len, size_t *axes, size_t *nodes, size_t *sources, size_t *u, size_t *v);
 
 #ifdef __cplusplus
 }

@@ -4,6 +4,7 @@ mod balance;
 mod clock;
 mod coding;
 mod customer;
+mod files;
 mod grids;
 mod growth;
 mod near;
@@ -76,6 +77,7 @@ fn main() {
     sums::measure(&words, &report);
     balance::measure(&words, &report);
     one_more::measure(&words, &report);
+    files::measure(&words, &report);
     if words.limit.is_none() {
         worst::measure(&words, &report);
     }

@@ -1,6 +1,6 @@
 //! What a call is lent, made once.
 use lohandema::Refusal;
-use lohandema::lent::{self, Asked};
+use lohandema::lent::{self, Asked, Held};
 use lohandema::trees::{Lists, Tree};
 
 /// Lists as long as some others, or with at least so many keys each. All entries are written, so that no later call is the
@@ -98,6 +98,24 @@ impl Room {
             &mut self.begin,
             &mut self.total,
         )
+    }
+
+    /// The tree of a file, with its lists.
+    pub fn read(&mut self, file: &[u8], lists: &mut Lists) -> Held {
+        let (u, v) = (&mut lists.u, &mut lists.v);
+        lent::read_tree(
+            file,
+            &mut self.order,
+            &mut self.key,
+            &mut self.own,
+            &mut self.begin,
+            &mut self.total,
+            &mut u.starts,
+            &mut u.keys,
+            &mut v.starts,
+            &mut v.keys,
+        )
+        .expect("a tree's file, and room enough")
     }
 
     /// Whether these are the columns of a tree, and no more.

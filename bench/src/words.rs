@@ -11,6 +11,7 @@ const CALLS: [&str; 10] = [
     "check_sums",
     "balance",
     "one_more",
+    "files",
     "coding",
     "growth",
     "clearing",

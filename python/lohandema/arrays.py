@@ -265,6 +265,15 @@ def signed_wholes(given, name):
     return lent(view, name)
 
 
+def octets(given, name):
+    """The bytes of a file, lent: bytes, or an array of uint8 of one dimension."""
+    cure = "pass its bytes, as open(path, 'rb') reads them"
+    view = seen(given, name, cure)
+    if view.format not in ("B", "c") or view.ndim != 1 or not view.c_contiguous:
+        raise TypeError("%s is no row of bytes side by side: %s" % (name, cure))
+    return Lent(view, 1)
+
+
 # What goes out
 
 

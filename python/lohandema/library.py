@@ -83,6 +83,10 @@ lohandema_ended lohandema_check_sums(size_t axes, TREE, const size_t *indices, s
 lohandema_ended lohandema_write_tree(size_t axes, TREE, const size_t *indices, size_t indices_len, const size_t *u_starts,
     size_t u_starts_len, const uint64_t *u_keys, size_t u_keys_len, const size_t *v_starts, size_t v_starts_len,
     const uint64_t *v_keys, size_t v_keys_len, uint8_t *file, size_t file_len, size_t *written);
+lohandema_ended lohandema_read_tree(const uint8_t *file, size_t file_len, size_t *indices, size_t indices_len, uint64_t *key,
+    size_t key_len, size_t *own, size_t own_len, size_t *begin, size_t begin_len, size_t *total, size_t total_len,
+    size_t *u_starts, size_t u_starts_len, uint64_t *u_keys, size_t u_keys_len, size_t *v_starts, size_t v_starts_len,
+    uint64_t *v_keys, size_t v_keys_len, size_t *axes, size_t *nodes, size_t *sources, size_t *u, size_t *v);
 """
 
 # What the shared library has beside them (c/library.c)

@@ -2,6 +2,7 @@
 most nodes that it can have, and the lists a first guess that is seldom short. rust/src/room.rs reckons alike."""
 
 import math
+import struct
 
 from .arrays import flag, numpy, whole
 from .keys import reference_depth
@@ -123,3 +124,16 @@ def file(tree, lists):
     keys = len(tree.key) + u_keys + v_keys
     numbers = len(tree.own) + len(tree.begin) + len(tree.total) + len(tree.order) + u_starts + v_starts
     return 8 * keys + 4 * numbers + 9 * 12 + 8
+
+
+def held(file):
+    """How many nodes, sources, U keys and V keys a tree file says that it holds, as far as they count: of a good file those that
+    it has. Of any other they are some, and no more than it has bytes; the call that reads it says what is wrong with it, whatever
+    room there is."""
+    lengths = {}
+    if len(file) >= 8:
+        start = len(file) - 8 - 12 * struct.unpack("<I", file[-4:])[0]
+        for code, _, length in struct.iter_unpack("<3I", file[start:-8]) if start >= 0 else ():
+            lengths[code] = min(length, len(file))
+    counted = ((1, 8, MOST_NODES), (5, 4, MOST_POINTS), (7, 8, MOST_KEYS), (9, 8, MOST_KEYS))
+    return [min(lengths.get(code, 0) // width, most) for code, width, most in counted]

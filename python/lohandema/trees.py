@@ -3,7 +3,7 @@
 import ctypes
 
 from . import room
-from .arrays import Lent, Points, column, cut, flag, numpy, packed, shown, signed_wholes, three, whole, wholes
+from .arrays import Lent, Points, column, cut, flag, numpy, octets, packed, shown, signed_wholes, three, whole, wholes
 from .boxes import Box
 from .changes import Change
 from .grids import Grid
@@ -18,6 +18,11 @@ COLUMNS = ("key", "own", "begin", "total", "order")
 TOO_MUCH = {8: "what can be had has more than 1048576 nodes: pass the rows of a part of the box at a time",
             13: "what can be had has more than 1048576 sources, as runs overlap or the order column is longer: pass fewer rows "
                 "at a time"}
+# What a refusal says of a tree file, where the number's own sentence is of what a caller passes
+ANEW = ": write it anew from the survey, with tree.to_file or tools/tree-file"
+NOT_READ = {1: "the file is no tree file, or is damaged, as the axes that it names are not 1, 2 or 3" + ANEW,
+            13: "the file is damaged, as its columns are not a well-formed tree" + ANEW,
+            17: "the file is no tree file, or is damaged, or its order or its lists are not its tree's" + ANEW}
 
 
 class Tree:
@@ -567,8 +572,8 @@ class Tree:
     # Files
 
     def to_file(self, lists=None, *, progress=False):
-        """The tree, its order and its lists as the bytes of a tree file, for another unit that shares the survey.
-        The box is not in the file. Lists that are at hand are given as lists=; they, the
+        """The tree, its order and its lists as the bytes of a tree file, for another unit that shares the survey: it reads them
+        with Tree.from_file and need not build. The box is not in the file. Lists that are at hand are given as lists=; they, the
         tree and the order are checked. Raises Refused 4 COUNT, 13 TREE, or 17 SECTION where the order is no arrangement or the
         lists are not the tree's.
 
@@ -585,6 +590,29 @@ class Tree:
                  ctypes.byref(written))
         return bytes(lent.view[:written.value])
 
+    @classmethod
+    def from_file(cls, file, box, *, progress=False):
+        """The tree of a tree file and its lists, a pair: what to_file was given, and nothing is built. file is its bytes. The box
+        is not in the file; it is that with which the tree was built. Whatever the file holds, what comes out is a tree with its
+        own lists: columns, order and each row are judged. Raises Refused 17 SECTION, 1 DIMS, 13 TREE, or 8 ROOM where there are
+        more than 1,048,576 nodes or 16,777,216 keys in a list.
+
+        >>> tree = Tree.build([[0.5], [1.5], [6.5], [7.5]], Box([4.0], 4.0), limit=1)
+        >>> again, lists = Tree.from_file(tree.to_file(), tree.box)
+        >>> again, lists.near(3).tolist()
+        (Tree(Box([4.0], 4.0), 9 nodes, 4 sources), [3, 32771])
+        """
+        check_box(box)
+        given = octets(file, "file")
+        with telling(progress, "reading a tree file of %d bytes" % given.entries):
+            axes, columns = _held(given, *room.held(given.view))
+        if axes != box.axes:
+            raise Refused(1, sentence="the file has a tree of %d ax%ss, and the box has %d: pass the box with which it was built"
+                          % (axes, "i" if axes == 1 else "e", box.axes))
+        order, key, own, begin, total, u_starts, u_keys, v_starts, v_keys = columns
+        tree = cls._of(box, [key, own, begin, total, order])
+        return tree, Lists(tree, Rows(u_starts, u_keys), Rows(v_starts, v_keys))
+
 
 def _words(lent):
     """The addresses and lengths of what is lent."""
@@ -594,6 +622,24 @@ def _words(lent):
 def _kept(box, columns):
     """The tree of columns that were kept as bytes, by pickle."""
     return Tree._of(box, [shown(Lent(memoryview(column).cast("q"))) for column in columns])
+
+
+def _held(file, nodes, sources, near, far):
+    """The axes of a tree file, and its order, columns and lists, read with room for so many."""
+    columns = [column(entries) for entries in _sizes(nodes, sources, near, far)]
+    lent, counts = [Lent(memoryview(one)) for one in columns], [ctypes.c_size_t() for _ in range(5)]
+    try:
+        call("read_tree", file.address, file.entries, *_words(lent), *[ctypes.byref(one) for one in counts])
+    except Refused as refused:
+        raise Refused(refused.number, refused.value, sentence=NOT_READ.get(refused.number)) from None
+    del lent
+    axes, *found = [one.value for one in counts]
+    return axes, [cut(one, entries) for one, entries in zip(columns, _sizes(*found))]
+
+
+def _sizes(nodes, sources, near, far):
+    """The entries of the order, of each column, and of the starts and keys of U and V."""
+    return [sources, nodes, nodes, nodes, nodes, nodes + 1, near, nodes + 1, far]
 
 
 def _places(axes, keys):

@@ -1,15 +1,17 @@
-"""Tree files: what is written is what a plain writer, made from the text of the rules, writes; what
-tools/tree-file writes."""
+"""Tree files: what is written is what a plain writer, made from the text of the rules, writes, and is read again; what
+tools/tree-file writes and lists."""
 
+import array
 import os
 import random
+import re
 import struct
 import subprocess
 import sys
 import tempfile
 import unittest
 
-from common import ROOT, some_points
+from common import ROOT, numpy, read, some_points
 
 from lohandema import Box, Lists, Refused, Rows, Tree
 
@@ -44,8 +46,10 @@ class Written(unittest.TestCase):
             self.assertEqual(tree.to_file(lists), file)
 
     def test_root(self):
-        """The smallest file there is."""
-        self.assertEqual(len(Tree.build([], Box([4.0], 4.0)).to_file()), 152)
+        """The smallest file there is, as docs/RULES.md has it."""
+        page = read("docs", "RULES.md").split("## The tree file\n")[1]
+        told = "".join(re.findall(r"^    ([0-9a-f ]+)$", page, re.M)).replace(" ", "")
+        self.assertEqual((len(told) // 2, bytes.fromhex(told)), (152, Tree.build([], Box([4.0], 4.0)).to_file()))
 
     def refused(self, number, tree, lists):
         with self.assertRaises(Refused) as caught:
@@ -72,6 +76,56 @@ class Written(unittest.TestCase):
             tree.to_file([1, 2])
 
 
+def columns(tree, lists):
+    """All that a file holds."""
+    return [one.tolist() for one in (tree.key, tree.own, tree.begin, tree.total, tree.order, lists.u.starts, lists.u.entries,
+                                     lists.v.starts, lists.v.entries)]
+
+
+class Reading(unittest.TestCase):
+    def test_again(self):
+        """The columns, the order and the lists are those that were written, and serve as such."""
+        for tree in trees():
+            lists = tree.lists()
+            again, rows = Tree.from_file(tree.to_file(lists), tree.box)
+            self.assertEqual(columns(again, rows), columns(tree, lists))
+            self.assertIs(rows.tree, again)
+            self.assertEqual((again.box, again.is_well_formed(), len(rows.at_fault())), (tree.box, True, 0))
+            self.assertEqual(again.to_file(rows), tree.to_file(lists))
+
+    def test_bytes(self):
+        """Any row of bytes is taken as it is; what is none is refused with the cure."""
+        tree = Tree.build([[0.5], [7.5]], Box([4.0], 4.0), limit=1)
+        file = tree.to_file()
+        for given in (file, bytearray(file), memoryview(file), array.array("B", file)):
+            self.assertEqual(Tree.from_file(given, tree.box)[0].key.tolist(), [0, 1, 32769])
+        if numpy:
+            self.assertEqual(len(Tree.from_file(numpy.frombuffer(file, dtype=numpy.uint8), tree.box)[0]), 3)
+        for given in ("a.tree", list(file), memoryview(file)[::2], array.array("I", [1, 2])):
+            with self.assertRaisesRegex(TypeError, "^file .*pass its bytes, as open.path, 'rb'. reads them"):
+                Tree.from_file(given, tree.box)
+        with self.assertRaisesRegex(TypeError, "pass a Box"):
+            Tree.from_file(file, None)
+
+    def refused(self, number, said, file, box):
+        with self.assertRaises(Refused) as caught:
+            Tree.from_file(file, box)
+        self.assertEqual(caught.exception.number, number)
+        self.assertIn(said, str(caught.exception))
+
+    def test_damaged(self):
+        tree = Tree.build([[0.5, 0.5], [1.5, 3.5], [6.5, 7.5]], Box([4.0, 4.0], 4.0), limit=1)
+        file = tree.to_file()
+        for length in range(len(file)):
+            with self.assertRaises(Refused):
+                Tree.from_file(file[:length], tree.box)
+        self.refused(17, "the file is no tree file, or is damaged", b"", tree.box)
+        self.refused(17, "write it anew from the survey", file[:-4] + struct.pack("<I", 357913942), tree.box)
+        self.refused(1, "the axes that it names are not 1, 2 or 3", file[:-8] + struct.pack("<II", 4, 9), tree.box)
+        self.refused(13, "not a well-formed tree", b"\x01" + file[1:], tree.box)
+        self.refused(1, "the file has a tree of 2 axes, and the box has 1", file, Box([4.0], 4.0))
+
+
 class Tool(unittest.TestCase):
     """tools/tree-file over the library."""
 
@@ -88,6 +142,21 @@ class Tool(unittest.TestCase):
         self.assertEqual(result.returncode, 0, result.stderr)
         return result
 
+    def test_samples(self):
+        """The tree of a survey file, written and listed, is what ./listing prints of the survey."""
+        for name in ("example", "three-lines"):
+            said = self.done("write", os.path.join(ROOT, "samples", name + ".survey"), "-o", "a.tree")
+            self.assertEqual(said.stdout, "")
+            listed = self.done("list", "a.tree")
+            self.assertEqual((listed.stdout, listed.stderr), (read("samples", name + ".listing"), ""))
+
+    def test_targets(self):
+        """Of a survey with targets only near work differs, as the file has none."""
+        self.done("write", os.path.join(ROOT, "samples", "two-heights.survey"), "-o", "a.tree")
+        listed, right = [text.split("\n") for text in (self.done("list", "a.tree").stdout,
+                                                        read("samples", "two-heights.listing"))]
+        self.assertEqual((listed[0].split()[:5], listed[1:]), (right[0].split()[:5], right[1:]))
+
     def test_csv(self):
         said = self.done("write", os.path.join(ROOT, "samples", "flight-lines.csv"), "--columns=easting,northing", "--limit", "8",
                          "-o", "a.tree").stderr
@@ -95,6 +164,19 @@ class Tool(unittest.TestCase):
         size = os.path.getsize(os.path.join(self.folder.name, "a.tree"))
         self.assertIn("a.tree: 333 nodes, 1261 readings, 2544 keys in the U rows and 5112 keys in the V rows, %d bytes\n" % size,
                       said)
+        self.assertEqual(self.done("list", "a.tree").stdout.split("\n")[0], "tree 2 333 5 1261 71865")
+        self.assertIn("{:,} bytes".format(size), read("docs", "TUTORIAL.md"))
+
+    def test_refused(self):
+        survey = os.path.join(ROOT, "samples", "example.survey")
+        for words, said in ((("list", survey), "the axes that it names are not 1, 2 or 3"),
+                            (("list", os.path.join(ROOT, "README.md")), "the file is no tree file"),
+                            (("list", "none"), "none: No such file or directory")):
+            result = self.run_tool(*words)
+            self.assertEqual((result.returncode, result.stdout), (1, ""))
+            self.assertTrue(result.stderr.startswith("tree-file: " + words[1]), result.stderr)
+            self.assertIn(said, result.stderr)
+            self.assertEqual(result.stderr.count("\n"), 1, result.stderr)
 
 
 if __name__ == "__main__":

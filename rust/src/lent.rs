@@ -544,6 +544,80 @@ pub fn write_tree(
     answered(ended, written)
 }
 
+/// What a tree file held that was read.
+#[derive(Clone, Copy, Debug, Default, PartialEq, Eq, Hash)]
+#[must_use]
+#[non_exhaustive]
+pub struct Held {
+    /// The number of axes.
+    pub axes: usize,
+    /// The number of nodes: entries of each column.
+    pub nodes: usize,
+    /// The number of sources: entries of the order column.
+    pub sources: usize,
+    /// The number of keys in the near rows.
+    pub u: usize,
+    /// The number of keys in the far rows.
+    pub v: usize,
+}
+
+/// Reads the tree of a file, its order column and its lists, and answers how many entries each has. `order` needs as many
+/// entries as there are sources, each column as many as there are nodes, the starts one more each, and the keys their number.
+/// What is lent over becomes 0. The file may be any bytes: what is wrong with it is refused whatever is lent.
+///
+/// # Errors
+/// [`SECTION`](Refusal::SECTION) where the trailer does not fit the file; [`DIMS`](Refusal::DIMS) unless there are 1 to 3 axes;
+/// [`SECTION`](Refusal::SECTION) where a section breaks the rules; [`TREE`](Refusal::TREE) where the columns are not well formed;
+/// [`SECTION`](Refusal::SECTION) where the order column is no arrangement or the lists are not the tree's;
+/// [`ROOM`](Refusal::ROOM) 2 to 7, of the nodes also where there are more than 1,048,576, and of keys where there are more than
+/// 16,777,216 in a list.
+#[allow(clippy::too_many_arguments)] // the file, and a tree that is written with its lists
+pub fn read_tree(
+    file: &[u8],
+    order: &mut [usize],
+    key: &mut [u64],
+    own: &mut [usize],
+    begin: &mut [usize],
+    total: &mut [usize],
+    u_starts: &mut [usize],
+    u_keys: &mut [u64],
+    v_starts: &mut [usize],
+    v_keys: &mut [u64],
+) -> Result<Held, Refusal> {
+    let mut held = Held::default();
+    // SAFETY: the file is read with its own length; each slice, lent to us alone, is written within its own; `held` is ours.
+    let ended = unsafe {
+        raw::lohandema_read_tree(
+            file.as_ptr(),
+            file.len(),
+            order.as_mut_ptr(),
+            order.len(),
+            key.as_mut_ptr(),
+            key.len(),
+            own.as_mut_ptr(),
+            own.len(),
+            begin.as_mut_ptr(),
+            begin.len(),
+            total.as_mut_ptr(),
+            total.len(),
+            u_starts.as_mut_ptr(),
+            u_starts.len(),
+            u_keys.as_mut_ptr(),
+            u_keys.len(),
+            v_starts.as_mut_ptr(),
+            v_starts.len(),
+            v_keys.as_mut_ptr(),
+            v_keys.len(),
+            &mut held.axes,
+            &mut held.nodes,
+            &mut held.sources,
+            &mut held.u,
+            &mut held.v,
+        )
+    };
+    answered(ended, held)
+}
+
 /// What a build is asked.
 ///
 /// ```

@@ -14,7 +14,7 @@
 //! - [`keys`]: level, parent, children, neighbours, touching, encode and decode.
 //! - [`points`]: the box, a point's cell, the float test of two cells.
 //! - [`trees`]: a tree, its leaves, children and levels, the sources of a cell, lookup, grouping, sourced cells, lists, the
-//!   sums of a leaf, what can be had of damaged columns ([`Tree::salvage`]).
+//!   sums of a leaf, what can be had of damaged columns ([`Tree::salvage`]), tree files.
 //! - [`lent`]: the calls that write, on slices of the caller's own: nothing is allocated.
 //! - [`limits`]: how much the calls take.
 //! - [`ferreus`]: tree and lists in the sets and maps of `ferreus_bbfmm`, for those who come from there.
@@ -81,7 +81,7 @@ mod rows;
 pub mod trees;
 
 pub use changes::Change;
-pub use lent::{Asked, Columns, Grid};
+pub use lent::{Asked, Columns, Grid, Held};
 pub use points::Bounds;
 pub use refusal::{Reason, Refusal, Wall};
 pub use trees::{Checked, Groups, Leaf, Lists, Rows, Sums, Tree};

@@ -2,7 +2,7 @@
 //! the most nodes that it can have, and the lists a first guess that is seldom short.
 
 use crate::Refusal;
-use crate::lent::{Asked, Grid};
+use crate::lent::{Asked, Grid, Held};
 use crate::limits::{DEEPEST, MOST_KEYS, MOST_NODES, MOST_POINTS, V_ROW};
 use crate::points::reference_depth;
 use crate::rows::Lists;
@@ -157,6 +157,31 @@ pub(crate) fn file(tree: &Tree, lists: &Lists) -> usize {
     ]
     .map(|numbers| numbers.len());
     8 * keys.iter().sum::<usize>() + 4 * numbers.iter().sum::<usize>() + 9 * 12 + 8
+}
+
+/// How many entries a tree file says that it holds, as far as they count: of a good file those that it has. Of any other they
+/// are some, and no more than it has bytes; the call that reads it says what is wrong with it, whatever room there is.
+pub(crate) fn held(file: &[u8]) -> Held {
+    let mut held = Held::default();
+    let number =
+        |bytes: &[u8]| u32::from_le_bytes([bytes[0], bytes[1], bytes[2], bytes[3]]) as usize;
+    let Some((before, last)) = file.split_last_chunk::<8>() else {
+        return held;
+    };
+    let Some(start) = before.len().checked_sub(12 * number(&last[4..])) else {
+        return held;
+    };
+    for entry in before[start..].chunks_exact(12) {
+        let length = number(&entry[8..]).min(file.len());
+        match number(entry) {
+            1 => held.nodes = (length / 8).min(MOST_NODES),
+            5 => held.sources = (length / 4).min(MOST_POINTS),
+            7 => held.u = (length / 8).min(MOST_KEYS),
+            9 => held.v = (length / 8).min(MOST_KEYS),
+            _ => {}
+        }
+    }
+    held
 }
 
 /// The most nodes that the balanced tree of one of so many nodes can have. A cell that is split there is split in the given

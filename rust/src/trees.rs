@@ -594,6 +594,51 @@ impl Tree {
         Ok(file)
     }
 
+    /// The tree and the lists of a file, which are those that [`to_file`](Tree::to_file) was given: nothing is built. The box is not
+    /// in the file and is given, as it was for the build. Whatever the file holds, what is answered is a tree with its own
+    /// lists: the columns, the order and each row are judged.
+    ///
+    /// ```
+    /// use lohandema::{Asked, Bounds, Refusal, Tree};
+    /// let bounds = Bounds::new(&[4.0], 4.0);
+    /// let tree = Tree::build(Asked::new(&bounds, &[0.5, 1.5, 6.5, 7.5], 1))?;
+    /// let lists = tree.get_interaction_lists()?;
+    /// let mut file = tree.to_file(&lists)?;
+    /// assert_eq!(Tree::from_file(bounds, &file)?, (tree, lists));
+    /// file.pop();
+    /// assert_eq!(Tree::from_file(bounds, &file), Err(Refusal::new(Refusal::SECTION, 0)));
+    /// # Ok::<(), lohandema::Refusal>(())
+    /// ```
+    ///
+    /// # Errors
+    /// As [`lent::read_tree`]; [`ROOM`](Refusal::ROOM) only, with 3, 6 or 7, if there are more than 1,048,576 nodes or 16,777,216
+    /// keys in a list. Last [`DIMS`](Refusal::DIMS), if the file has other axes than the box.
+    pub fn from_file(bounds: Bounds, file: &[u8]) -> Result<(Tree, Lists), Refusal> {
+        let room = room::held(file);
+        let (mut order, mut key) = (vec![0; room.sources], vec![0; room.nodes]);
+        let (mut own, mut begin) = (vec![0; room.nodes], vec![0; room.nodes]);
+        let mut total = vec![0; room.nodes];
+        let mut u = Rows::with_room(room.nodes + 1, room.u);
+        let mut v = Rows::with_room(room.nodes + 1, room.v);
+        let held = lent::read_tree(
+            file,
+            &mut order,
+            &mut key,
+            &mut own,
+            &mut begin,
+            &mut total,
+            &mut u.starts,
+            &mut u.keys,
+            &mut v.starts,
+            &mut v.keys,
+        )?;
+        if held.axes != bounds.axes {
+            return Err(Refusal::new(Refusal::DIMS, 0));
+        }
+        let tree = Tree::from_columns(bounds, key, own, begin, total, order);
+        Ok((tree, Lists { u, v }))
+    }
+
     /// The near and far rows.
     ///
     /// # Errors

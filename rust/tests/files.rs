@@ -1,5 +1,5 @@
-//! The file of a tree, beside a plain writer made from document 02's text alone.
-use lohandema::{Asked, Bounds, Lists, Refusal, Tree, lent};
+//! The file of a tree, beside a plain writer made from document 02's text alone, and read again.
+use lohandema::{Asked, Bounds, Held, Lists, Refusal, Rows, Tree, lent};
 
 /// Whole numbers that look random.
 struct Numbers(u64);
@@ -77,6 +77,7 @@ fn files_are_the_plain_ones() {
                 let (tree, lists) = built(axes, &sources, limit);
                 let file = tree.to_file(&lists).unwrap();
                 assert_eq!(file, plain(&tree, &lists));
+                assert_eq!(Tree::from_file(tree.bounds, &file), Ok((tree, lists)));
             }
         }
     }
@@ -142,4 +143,126 @@ fn refusals_come_in_their_order() {
     assert_eq!(refused(1, &totals, &twice, &many), zero(Refusal::COUNT));
     many.v.keys.pop();
     assert_eq!(refused(1, &totals, &twice, &many), zero(Refusal::TREE));
+}
+
+/// What is lent to the reader: entries of order, key, own, begin, total, U starts and keys, V starts and keys.
+struct Slices {
+    order: Vec<usize>,
+    key: Vec<u64>,
+    columns: [Vec<usize>; 3],
+    lists: Lists,
+}
+
+impl Slices {
+    fn lent(room: [usize; 9]) -> Slices {
+        let rows = |starts, keys| Rows {
+            starts: vec![77; starts],
+            keys: vec![77; keys],
+        };
+        Slices {
+            order: vec![77; room[0]],
+            key: vec![77; room[1]],
+            columns: [vec![77; room[2]], vec![77; room[3]], vec![77; room[4]]],
+            lists: Lists {
+                u: rows(room[5], room[6]),
+                v: rows(room[7], room[8]),
+            },
+        }
+    }
+
+    fn read(&mut self, file: &[u8]) -> Result<Held, Refusal> {
+        let [own, begin, total] = &mut self.columns;
+        let Lists { u, v } = &mut self.lists;
+        lent::read_tree(
+            file,
+            &mut self.order,
+            &mut self.key,
+            own,
+            begin,
+            total,
+            &mut u.starts,
+            &mut u.keys,
+            &mut v.starts,
+            &mut v.keys,
+        )
+    }
+
+    fn all_zero(&self) -> bool {
+        let columns = self.columns.iter().chain([&self.order]);
+        let numbers = columns.chain([&self.lists.u.starts, &self.lists.v.starts]);
+        let keys = [&self.key, &self.lists.u.keys, &self.lists.v.keys];
+        numbers.flatten().all(|n| *n == 0) && keys.into_iter().flatten().all(|k| *k == 0)
+    }
+}
+
+#[test]
+fn short_slices_are_told_after_a_bad_list() {
+    let (tree, mut lists) = built(1, &[0.5, 1.5, 6.5, 7.5], 1);
+    let file = plain(&tree, &lists);
+    let exact = [4, 9, 9, 9, 9, 10, 8, 10, 2];
+    let mut slices = Slices::lent(exact.map(|entries| entries + 1));
+    let held = slices.read(&file).unwrap();
+    assert_eq!((held.axes, held.nodes, held.sources), (1, 9, 4));
+    assert_eq!((held.u, held.v), (8, 2));
+    assert_eq!((&slices.key[..9], slices.key[9]), (&tree.key[..], 0));
+    assert_eq!((&slices.order[..4], slices.order[4]), (&tree.order[..], 0));
+    assert_eq!(slices.lists.v.keys, [98306, 2, 0]);
+    lists.v.keys[1] = 32770;
+    let bad = plain(&tree, &lists);
+    for (i, value) in [2, 3, 3, 3, 3, 4, 6, 5, 7].into_iter().enumerate() {
+        let mut room = exact;
+        room[i] -= 1;
+        for (file, refusal) in [
+            (&file, Refusal::new(Refusal::ROOM, value)),
+            (&bad, Refusal::new(Refusal::SECTION, 0)),
+        ] {
+            let mut slices = Slices::lent(room);
+            assert_eq!(slices.read(file), Err(refusal));
+            assert!(slices.all_zero());
+        }
+    }
+}
+
+#[test]
+fn files_that_are_none_are_refused() {
+    let (tree, lists) = built(2, &[0.5, 0.5, 6.5, 7.5], 1);
+    let file = plain(&tree, &lists);
+    for length in 0..file.len() {
+        assert!(Tree::from_file(tree.bounds, &file[..length]).is_err());
+    }
+    let zero = |number| Err(Refusal::new(number, 0));
+    let one_axis = Bounds::new(&[4.0], 4.0);
+    assert_eq!(Tree::from_file(one_axis, &file), zero(Refusal::DIMS));
+    let changed = |place: usize, byte: u8| {
+        let mut other = file.clone();
+        other[place] = byte;
+        Tree::from_file(tree.bounds, &other)
+    };
+    let end = file.len();
+    assert_eq!(changed(end - 8, 4), zero(Refusal::DIMS));
+    assert_eq!(changed(end - 4, 8), zero(Refusal::SECTION));
+    assert_eq!(changed(end - 1, 255), zero(Refusal::SECTION));
+    assert_eq!(changed(8, 7), zero(Refusal::TREE));
+}
+
+#[test]
+fn bytes_that_nobody_reads_may_be_anything() {
+    let (tree, lists) = built(1, &[0.5, 1.5, 6.5, 7.5], 1);
+    let file = plain(&tree, &lists);
+    // a section of code 31 before the others: an entry more, and its bytes in front
+    let (body, trailer) = file.split_at(file.len() - 9 * 12 - 8);
+    let entry = [31_u32, body.len() as u32 + 5, 5].map(u32::to_le_bytes);
+    let (entries, last) = trailer.split_at(9 * 12);
+    let more = [
+        &[1, 2, 3, 4, 5],
+        body,
+        entries,
+        &entry.concat(),
+        &last[..4],
+        &10_u32.to_le_bytes(),
+    ];
+    assert_eq!(
+        Tree::from_file(tree.bounds, &more.concat()),
+        Ok((tree, lists))
+    );
 }

@@ -17,7 +17,7 @@ class TreeFile(ToolTest):
 
     def test_options(self):
         for message, words in (
-                ("give write, as in tree-file write SURVEY -o FILE", []),
+                ("give write or list, as in tree-file list FILE", []),
                 ("invalid choice", ["read", "a.tree"]),
                 ("required: FILE, -o/--out", ["write"]),
                 ("required: -o/--out", ["write", "example.survey"]),
@@ -25,7 +25,9 @@ class TreeFile(ToolTest):
                 ("-o stands twice", ["write", "example.survey", "-o", "out", "-o", "other"]),
                 ("a survey file has its own box, targets and figures; leave out --limit",
                  ["write", "example.survey", "--limit", "3", "-o", "out"]),
-                ("--centre and --radius go together", ["write", "example.csv", "--centre=4", "-o", "out"])):
+                ("--centre and --radius go together", ["write", "example.csv", "--centre=4", "-o", "out"]),
+                ("required: FILE", ["list"]),
+                ("unrecognized arguments: b.tree", ["list", "a.tree", "b.tree"])):
             self.refused(message, "tree-file", *words)
 
     def test_version(self):
@@ -47,3 +49,4 @@ class TreeFile(ToolTest):
     def test_no_library(self):
         self.refused("LOHANDEMA_LIBRARY is %s, and no file is there" % self.path("none.so"), "tree-file", "write", "example.survey",
                      "-o", "out")
+        self.refused("LOHANDEMA_LIBRARY is %s, and no file is there" % self.path("none.so"), "tree-file", "list", "example.survey")
