@@ -381,8 +381,8 @@ lohandema_ended lohandema_build_tree_on_grid(const double centre[3], double radi
                                              size_t begin_len, size_t *total, size_t total_len, size_t *nodes,
                                              uint64_t *depth);
 
-/* The tree of the former sources and one more, numbered after the last, from the tree that lohandema_build_tree made of the former
- * without targets: the tree, and its order column, that a build of the longer list would make. The lists are those that
+/* The tree of the former sources and one more, numbered after the last, from the tree that lohandema_build_tree made of the
+ * former without targets: the tree, and its order column, that a build of the longer list would make. The lists are those that
  * lohandema_get_interaction_lists makes of it.
  *   sources           the coordinates of the former sources; sources_len counts coordinates
  *   point             the new source. All three places must be there; the values past the axes do not matter
