@@ -66,7 +66,18 @@ fn judge(
     if !tree::is_well_formed(axes, key, own, begin, total) {
         return Outcome::Refused(Refusal::Tree);
     }
-    if !was_built::is_build_in(b, limit, keep, sources, key, own, begin, total, indices, work) {
+    if !was_built::is_build_in(
+        b,
+        limit,
+        keep,
+        sources,
+        key,
+        own,
+        begin,
+        total,
+        indices,
+        work,
+    ) {
         return Outcome::Refused(Refusal::NotBuilt);
     }
     point_outcome(b, point, n)

@@ -71,7 +71,6 @@ module _ (g : Rule) (s : List ℕ) (code cell : ℕ) (known : axesKnown (g .axes
       was-kept : 0 < levelOf k → kept g (further s code) [] k ≡ true → kept g s [] k ≡ true
       was-kept l kp = go (holds (g .axes) k code) refl
         where
-
           larger : levelOf k < levelOf cell → under (g .axes) k cell ≡ true → (levelOf (parent (g .axes) cell) ≡ 0) ⊎ ((levelOf (parent (g .axes) cell) < 16) × (g .limit < sourcesIn (g .axes) s (parent (g .axes) cell))) → kept g s [] k ≡ true
           larger q u (inl z) = absurd (omega (arith, l, q, z, level-parent (g .axes) cell))
           larger q u (inr (_, n)) = kept-some g s k

@@ -94,7 +94,6 @@ module _ (g : Rule) (s : List ℕ) (code cell : ℕ) (known : axesKnown (g .axes
   pub behind-all : (k : ℕ) → Mem k (drop to (nodes g s [])) → first (g .axes) cell + size (g .axes) cell ≤ first (g .axes) k
   behind-all k m = go (lt-or-le (levelOf k) (levelOf cell))
     where
-
       l : levelOf k ≤ 16
       l = level k (late k m .0)
 
