@@ -10,7 +10,12 @@ ghost use Rattle.exports_keys.specs.Told.{told};
 ghost use Rattle.exports_salvage.specs.Told.{salvagedEnd, nodesIn, sourcesIn, changesIn};
 
 // Tells the numbers of nodes, sources and changes.
-fn tell_salvaged(answer: Salvaged, nodes: &mut usize, sources: &mut usize, changes: &mut usize) -> Ended
+fn tell_salvaged(
+    answer: Salvaged,
+    nodes: &mut usize,
+    sources: &mut usize,
+    changes: &mut usize,
+) -> Ended
     ensures ended { λ r. ⌜ r ≡ told (salvagedEnd answer) ⌝ }
     ensures nodes { λ _. ⌜ now (nodes .exit) ≡ nodesIn answer ⌝ }
     ensures sources { λ _. ⌜ now (sources .exit) ≡ sourcesIn answer ⌝ }
