@@ -78,12 +78,60 @@ pub fn list_changes(
     requires { ⌜ Comparable (beside axes (now key) (now own) (now begin) (now nodes) (now counts) (now begins)) (now firsts) ⌝ }
     ensures { λ r. ⌜ ListedAll (beside axes (now (key .entry)) (now (own .entry)) (now (begin .entry)) (now (nodes .entry)) (now (counts .entry)) (now (begins .entry))) (now (codes .exit)) (now (changed .exit)) r ⌝ }
 {
-    let a = changed_rows::put_rows(1, axes, key, own, begin, nodes, counts, begins, firsts, changed, 0);
-    let b = changed_rows::put_rows(2, axes, key, own, begin, nodes, counts, begins, firsts, changed, a);
+    let a = changed_rows::put_rows(
+        1,
+        axes,
+        key,
+        own,
+        begin,
+        nodes,
+        counts,
+        begins,
+        firsts,
+        changed,
+        0,
+    );
+    let b = changed_rows::put_rows(
+        2,
+        axes,
+        key,
+        own,
+        begin,
+        nodes,
+        counts,
+        begins,
+        firsts,
+        changed,
+        a,
+    );
     let c = put_added(nodes, firsts, changed, b);
     sort_part(changed, b, c);
-    let d = changed_rows::put_rows(4, axes, key, own, begin, nodes, counts, begins, firsts, changed, c);
-    let e = changed_rows::put_rows(5, axes, key, own, begin, nodes, counts, begins, firsts, changed, d);
+    let d = changed_rows::put_rows(
+        4,
+        axes,
+        key,
+        own,
+        begin,
+        nodes,
+        counts,
+        begins,
+        firsts,
+        changed,
+        c,
+    );
+    let e = changed_rows::put_rows(
+        5,
+        axes,
+        key,
+        own,
+        begin,
+        nodes,
+        counts,
+        begins,
+        firsts,
+        changed,
+        d,
+    );
     if changed.len() < e {
         return e;
     }

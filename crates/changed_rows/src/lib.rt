@@ -7,7 +7,14 @@ ghost use Rattle.sourced.specs.Room.{Puts};
 ghost use Rattle.changed_rows.specs.Told.{beside, toldNode, toldRow, toldKeys, Comparable};
 
 // Whether the code, one of 2, 4 and 5, is told of a row with a valid key.
-fn node_told(code: u64, first: bool, own: usize, begin: usize, count: usize, new_begin: usize) -> bool
+fn node_told(
+    code: u64,
+    first: bool,
+    own: usize,
+    begin: usize,
+    count: usize,
+    new_begin: usize,
+) -> bool
     ensures { λ r. ⌜ r ≡ toldNode code first own begin count «new_begin» ⌝ }
 {
     if code == 2 {
@@ -53,7 +60,14 @@ fn row_told(
     match found {
         Found::At(node) => {
             let first = firsts[node] == row + 1;
-            node_told(code, first, own[row], begin[row], counts[node], begins[node])
+            node_told(
+                code,
+                first,
+                own[row],
+                begin[row],
+                counts[node],
+                begins[node],
+            )
         }
         Found::Nothing => false,
     }
@@ -79,7 +93,18 @@ pub fn put_rows(
     let mut n = from;
     let mut row = 0;
     while row < key.len() {
-        if row_told(code, axes, key, own, begin, nodes, counts, begins, firsts, row) {
+        if row_told(
+            code,
+            axes,
+            key,
+            own,
+            begin,
+            nodes,
+            counts,
+            begins,
+            firsts,
+            row,
+        ) {
             n = sourced::put(changed, n, key[row]);
             row += 1;
         } else {

@@ -183,8 +183,8 @@ module _ (i : Input) (ok : Readable i) where
           ap (λ (b : Bool). cond b (newCount i (keyAt i r)) 0) (lt-ltb 0 (count (λ k. eqb (nodeNumber (i .key) k) r) (newKeys i)) p) ∙ kept-count r l e
       go false e =
           let z = count-zero (λ k. eqb (nodeNumber (i .key) k) r) (newKeys i) (λ k m h.
-              let q = the-key r l k h in
-              clash (both (new-valid i ok (keyAt i r) (subst (λ y. Mem y (newKeys i)) q m)) (ap (λ (x : ℕ). eqb (nodeNumber (i .key) x) r) (sym q) ∙ h)) e) in
+          let q = the-key r l k h in
+          clash (both (new-valid i ok (keyAt i r) (subst (λ y. Mem y (newKeys i)) q m)) (ap (λ (x : ℕ). eqb (nodeNumber (i .key) x) r) (sym q) ∙ h)) e) in
           ap (λ (n : ℕ). cond (ltb 0 n) (newCount i (keyAt i r)) 0) z ∙ sym (dropped e)
 
   -- one node over all rows

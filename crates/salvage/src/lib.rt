@@ -54,7 +54,13 @@ fn clear_columns(own: &mut [usize], begin: &mut [usize], total: &mut [usize])
 }
 
 // Sets the node columns to 0 from n on.
-fn clear_nodes(n: usize, key: &mut [u64], own: &mut [usize], begin: &mut [usize], total: &mut [usize])
+fn clear_nodes(
+    n: usize,
+    key: &mut [u64],
+    own: &mut [usize],
+    begin: &mut [usize],
+    total: &mut [usize],
+)
     ensures { λ _. ⌜ now (key .exit) ≡ take n (now (key .entry)) ++ replicate (length (now (key .entry)) - n) 0 ⌝ }
     ensures { λ _. ⌜ now (own .exit) ≡ take n (now (own .entry)) ++ replicate (length (now (own .entry)) - n) 0 ⌝ }
     ensures { λ _. ⌜ now (begin .exit) ≡ take n (now (begin .entry)) ++ replicate (length (now (begin .entry)) - n) 0 ⌝ }

@@ -105,7 +105,17 @@ pub fn start(
     if begin.len() != key.len() {
         return unstarted(Refusal::Shape);
     }
-    let n = fill_nodes(axes, key, own, begin, order, room, new_key, new_own, new_begin);
+    let n = fill_nodes(
+        axes,
+        key,
+        own,
+        begin,
+        order,
+        room,
+        new_key,
+        new_own,
+        new_begin,
+    );
     if room < n {
         let counted = kept_sources::sources_outcome(axes, key, own, begin, order, places);
         if let Outcome::Refused(refusal) = counted {
