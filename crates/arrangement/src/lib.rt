@@ -6,10 +6,10 @@ ghost use Rattle.sums.specs.Tells.{Tells};
 ghost use Rattle.arrangement.specs.Windows.{AllBelow, OnceFrom};
 
 // The indices of a window: one bit each in 2,048 words.
-const WINDOW: usize = 131072;
+pub const WINDOW: usize = 131072;
 
 // The bit for place b of a word.
-fn bit_at(b: usize) -> u64
+pub fn bit_at(b: usize) -> u64
     requires { ⌜ b < 64 ⌝ }
     ensures { λ r. ⌜ r ≡ 2 ^ b ⌝ }
 {

@@ -44,7 +44,7 @@ module _ (code : ℕ) where
 
 -- ---- one section
 
-entry-most : (file : List ℕ) (n c : ℕ) → entryOf file n c ≤ n
+pub entry-most : (file : List ℕ) (n c : ℕ) → entryOf file n c ≤ n
 unfolding entryOf
 entry-most file zero c = omega arith
 entry-most file (suc n) c = go (eqb (codeAt file n) c) (entryOf file n c) (entry-most file n c)

@@ -47,7 +47,7 @@ pub fn comes_before(axes: usize, a: u64, b: u64) -> bool
 }
 
 // Whether key k may stand in the row after key p.
-fn may_follow(axes: usize, p: u64, k: u64) -> bool
+pub fn may_follow(axes: usize, p: u64, k: u64) -> bool
     requires { ⌜ axesKnown axes ≡ true ⌝ }
     ensures { λ r. ⌜ r ≡ follows axes p k ⌝ }
 {
@@ -72,7 +72,7 @@ fn may_follow(axes: usize, p: u64, k: u64) -> bool
 }
 
 // Whether the node with key p may own n sources, with key k in the next row.
-fn may_own(p: u64, k: u64, n: usize) -> bool
+pub fn may_own(p: u64, k: u64, n: usize) -> bool
     ensures { λ r. ⌜ r ≡ mayOwn p k n ⌝ }
 {
     if p % 32768 < k % 32768 {
