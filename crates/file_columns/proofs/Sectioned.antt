@@ -83,9 +83,10 @@ module _ (file : List ℕ) (fits : trailerFits file ≡ true) (known : axesKnown
   inside-of : (i : ℕ) → i < entriesIn file → (backAt file i ≤ trailer file) × (lengthAt file i ≤ backAt file i)
   inside-of i l =
       let e = every-at (entryGood file) (entriesIn file) (and-l (every (entriesIn file) (entryGood file)) (every 9 (λ c. ltb 0 (entryOf file (entriesIn file) (suc c)))) all) i l in
-      let h = and-l (isInside file i) (isWhole file i) (and-r (isNew file i) (isInside file i && isWhole file i) (and-r (codeTaken file i) (isNew file i && (isInside file i && isWhole file i)) e)) in
-      (leb-true (backAt file i) (trailer file) (and-l (leb (backAt file i) (trailer file)) (leb (lengthAt file i) (backAt file i)) h),
-      leb-true (lengthAt file i) (backAt file i) (and-r (leb (backAt file i) (trailer file)) (leb (lengthAt file i) (backAt file i)) h))
+      let h = and-l (isInside file i) (isWhole file i) (and-r (isNew file i) (isInside file i && isWhole file i) (and-r (codeTaken file i) (isNew file i && (isInside file i && isWhole file i)) e)) in (
+        leb-true (backAt file i) (trailer file) (and-l (leb (backAt file i) (trailer file)) (leb (lengthAt file i) (backAt file i)) h),
+        leb-true (lengthAt file i) (backAt file i) (and-r (leb (backAt file i) (trailer file)) (leb (lengthAt file i) (backAt file i)) h),
+      )
 
   width-cases : (w n : ℕ) (b : Bool) → w ≡ cond b 8 4 → w * (n / w) ≤ n
   width-cases w n true e = subst (λ k. k * (n / k) ≤ n) (sym e) (omega arith)

@@ -48,8 +48,8 @@ module _ (file : List ℕ) (ok : readable file ≡ Done) where
       let formed = formed-of (axesIn file) (columnIn file 1) (columnIn file 2) (columnIn file 3) (columnIn file 4) (parts .1) in
       let known = sections-passed file (parts .0) .1 in
       let w = demand.written (axesIn file) (columnIn file 1) (columnIn file 2) (columnIn file 3) formed known (columnIn file 6) (columnIn file 7) (columnIn file 8) (columnIn file 9)
-          (whole (uRow (axesIn file) (columnIn file 1) (columnIn file 2)) (columnIn file 6) (columnIn file 7) (flat .u-starts) (flat .u-keys))
-          (whole (vRow (axesIn file) (columnIn file 1) (columnIn file 2)) (columnIn file 8) (columnIn file 9) (flat .v-starts) (flat .v-keys)) in
+      (whole (uRow (axesIn file) (columnIn file 1) (columnIn file 2)) (columnIn file 6) (columnIn file 7) (flat .u-starts) (flat .u-keys))
+      (whole (vRow (axesIn file) (columnIn file 1) (columnIn file 2)) (columnIn file 8) (columnIn file 9) (flat .v-starts) (flat .v-keys)) in
       record {
         runs = demand.demand-3 (axesIn file) (columnIn file 1) (columnIn file 2) (columnIn file 3) formed known .0;
         once = w .0;
