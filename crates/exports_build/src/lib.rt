@@ -89,7 +89,8 @@ pub extern "C" fn lohandema_build_tree(
     tell_built(answer, nodes, depth)
 }
 
-fn grid_at(origin: &[f64; 3], spacing: &[f64; 3], shape: &[usize; 3]) -> Grid
+// The grid of a call from C.
+pub fn grid_at(origin: &[f64; 3], spacing: &[f64; 3], shape: &[usize; 3]) -> Grid
     ensures { λ r. ⌜ r ≡ gridAt (now (origin .entry)) (now (spacing .entry)) (now (shape .entry)) ⌝ }
 {
     let first = *origin;
