@@ -51,7 +51,7 @@ extern "C" {
 #endif
 
 /* The version of this header and of the archive that was made with it. */
-#define LOHANDEMA_VERSION "0.5.1"
+#define LOHANDEMA_VERSION "0.6.0"
 #define LOHANDEMA_VERSION_MAJOR 0
 #define LOHANDEMA_VERSION_MINOR 5
 #define LOHANDEMA_VERSION_PATCH 1

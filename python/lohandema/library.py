@@ -5,7 +5,7 @@ import os
 import re
 import sys
 
-VERSION = "0.5.1"
+VERSION = "0.6.0"
 FILE = "liblohandema.so"
 
 # The columns of a tree, as every call on one takes them
