@@ -42,14 +42,29 @@ static void build_tree(void)
 }
 
 /* A grid of 1,000 to 900,000 points, so close together that cells split on its account down to level 16. */
+static const double origin[3] = {20.0, 20.0, 20.0}, spacing[3] = {1e-5, 1e-5, 1e-5};
+static const size_t shape[3] = {1000, 30, 30};
+#define GRID origin, spacing, shape
+
 static void build_tree_on_grid(void)
 {
-    const double origin[3] = {20.0, 20.0, 20.0}, spacing[3] = {1e-5, 1e-5, 1e-5};
-    const size_t shape[3] = {1000, 30, 30};
     uint64_t depth;
-    last = lohandema_build_tree_on_grid(BOX, sources, axes * points, origin, spacing, shape, limit, 1, true, true, work,
-                                        2 * POINTS, order, points, key, NODES, own, NODES, begin, NODES, total, NODES,
-                                        &nodes, &depth);
+    last = lohandema_build_tree_on_grid(BOX, sources, axes * points, GRID, limit, 1, true, true, work, 2 * POINTS, order,
+                                        points, key, NODES, own, NODES, begin, NODES, total, NODES, &nodes, &depth);
+}
+
+static void count_nodes(void)
+{
+    size_t count;
+    last = lohandema_count_nodes(BOX, sources, axes * points, targets, axes * points, limit, 1, true, true, work, 3 * POINTS,
+                                 order, points, &count);
+}
+
+static void count_nodes_on_grid(void)
+{
+    size_t count;
+    last = lohandema_count_nodes_on_grid(BOX, sources, axes * points, GRID, limit, 1, true, true, work, 2 * POINTS, order,
+                                         points, &count);
 }
 
 static void is_well_formed(void)
@@ -342,6 +357,8 @@ static struct {
     size_t said, seen;
 } calls[] = {
     {"(nothing, for comparison)", nothing, 8 * KIB, 0},
+    {"count_nodes_on_grid", count_nodes_on_grid, 48 * KIB, 0},
+    {"count_nodes", count_nodes, 48 * KIB, 0},
     {"build_tree_on_grid", build_tree_on_grid, 48 * KIB, 0},
     {"build_tree", build_tree, 48 * KIB, 0},
     {"is_well_formed", is_well_formed, 8 * KIB, 0},

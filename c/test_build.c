@@ -1,4 +1,4 @@
-/* The build: a known tree, each refusal, and zeros in what was lent after a refusal. */
+/* The build: a known tree, each refusal, and zeros in what was lent after a refusal. Each is counted too. */
 #include "checks.h"
 
 #include <math.h>
@@ -28,8 +28,30 @@ static asked example(void)
     return a;
 }
 
+/* The nodes of the same are counted: refused as the build is, but for node columns that are short. */
+static void count_too(asked a, lohandema_ended built)
+{
+    static uint64_t room[ROOM];
+    static size_t order[ROOM];
+    size_t count = 77;
+    lohandema_ended ended;
+    fill_with_junk(room, sizeof room);
+    fill_with_junk(order, sizeof order);
+    ended = lohandema_count_nodes(centre, a.radius, a.axes, a.sources, a.sources_len, a.targets, a.targets_len, a.limit,
+                                  a.order, a.keep_empty, a.refine, room, a.work_len, order, a.indices_len, &count);
+    EXPECT(ZEROED(room, a.work_len) && ZEROED(order, a.indices_len));
+    if (built.number == LOHANDEMA_ROOM && built.value == LOHANDEMA_ROOM_NODES) {
+        ENDED(ended, 0, 0);
+        EXPECT(count > a.key_len || count > a.own_len || count > a.begin_len || count > a.total_len);
+    } else {
+        ENDED(ended, built.number, built.value);
+        EXPECT(ended.axis == built.axis && ended.reason == built.reason && count == nodes);
+    }
+}
+
 static lohandema_ended build(asked a)
 {
+    lohandema_ended ended;
     fill_with_junk(work, sizeof work);
     fill_with_junk(key, sizeof key);
     fill_with_junk(indices, sizeof indices);
@@ -38,9 +60,11 @@ static lohandema_ended build(asked a)
     fill_with_junk(total, sizeof total);
     nodes = 77;
     depth = 77;
-    return lohandema_build_tree(centre, a.radius, a.axes, a.sources, a.sources_len, a.targets, a.targets_len, a.limit,
-                                a.order, a.keep_empty, a.refine, work, a.work_len, indices, a.indices_len, key, a.key_len,
-                                own, a.own_len, begin, a.begin_len, total, a.total_len, &nodes, &depth);
+    ended = lohandema_build_tree(centre, a.radius, a.axes, a.sources, a.sources_len, a.targets, a.targets_len, a.limit,
+                                 a.order, a.keep_empty, a.refine, work, a.work_len, indices, a.indices_len, key, a.key_len,
+                                 own, a.own_len, begin, a.begin_len, total, a.total_len, &nodes, &depth);
+    count_too(a, ended);
+    return ended;
 }
 
 #define BUILD_REFUSED(a, number, value)                                                                                      \

@@ -1,4 +1,5 @@
-/* The build on a grid: the trees of the listed points, each refusal of its chain, and zeros in what was lent after one. */
+/* The build on a grid: the trees of the listed points, each refusal of its chain, and zeros in what was lent after one. Each is
+ * counted too. */
 #include "checks.h"
 
 #include <math.h>
@@ -44,13 +45,38 @@ static void fill_all(void)
     depth = 77;
 }
 
+/* The nodes of the same are counted: refused as the build is, but for node columns that are short. */
+static void count_too(asked a, lohandema_ended built)
+{
+    static uint64_t room[ROOM];
+    static size_t order[ROOM];
+    size_t count = 77;
+    lohandema_ended ended;
+    fill_with_junk(room, sizeof room);
+    fill_with_junk(order, sizeof order);
+    ended = lohandema_count_nodes_on_grid(centre, a.radius, a.axes, a.sources, a.sources_len, a.origin, a.spacing, a.shape,
+                                          a.limit, a.order, a.keep_empty, a.refine, room, a.work_len, order, a.indices_len,
+                                          &count);
+    EXPECT(ZEROED(room, a.work_len) && ZEROED(order, a.indices_len));
+    if (built.number == LOHANDEMA_ROOM && built.value == LOHANDEMA_ROOM_NODES) {
+        ENDED(ended, 0, 0);
+        EXPECT(count > a.key_len || count > a.own_len || count > a.begin_len || count > a.total_len);
+    } else {
+        ENDED(ended, built.number, built.value);
+        EXPECT(ended.axis == built.axis && ended.reason == built.reason && count == nodes);
+    }
+}
+
 static lohandema_ended build(asked a)
 {
+    lohandema_ended ended;
     fill_all();
-    return lohandema_build_tree_on_grid(centre, a.radius, a.axes, a.sources, a.sources_len, a.origin, a.spacing, a.shape,
-                                        a.limit, a.order, a.keep_empty, a.refine, work, a.work_len, indices, a.indices_len,
-                                        key, a.key_len, own, a.own_len, begin, a.begin_len, total, a.total_len, &nodes,
-                                        &depth);
+    ended = lohandema_build_tree_on_grid(centre, a.radius, a.axes, a.sources, a.sources_len, a.origin, a.spacing, a.shape,
+                                         a.limit, a.order, a.keep_empty, a.refine, work, a.work_len, indices, a.indices_len,
+                                         key, a.key_len, own, a.own_len, begin, a.begin_len, total, a.total_len, &nodes,
+                                         &depth);
+    count_too(a, ended);
+    return ended;
 }
 
 #define GRID_REFUSED(a, number, value)                                                                                       \

@@ -81,6 +81,25 @@ static void builds_on_grid(void)
           LOHANDEMA_ROOM, LOHANDEMA_ROOM_NODES);
 }
 
+static void counts(void)
+{
+    uint64_t work[4] = {7, 7, 7, 7};
+    size_t indices[4] = {7, 7, 7, 7}, nodes = 7;
+    ENDED(lohandema_count_nodes(centre, 4.0, 1, NULL, 0, NULL, 0, 1, 1, true, true, NULL, 0, NULL, 0, &nodes), 0, 0);
+    EXPECT(nodes == 3);
+    ENDED(lohandema_count_nodes(centre, 4.0, 1, halves, 2, NULL, 0, 1, 1, true, true, NULL, 0, indices, 4, &nodes),
+          LOHANDEMA_ROOM, LOHANDEMA_ROOM_WORK);
+    EXPECT(nodes == 0 && all_zero(indices, sizeof indices));
+    ENDED(lohandema_count_nodes(centre, 4.0, 1, halves, 2, NULL, 0, 1, 1, true, true, work, 4, NULL, 0, &nodes),
+          LOHANDEMA_ROOM, LOHANDEMA_ROOM_ORDER);
+    EXPECT(all_zero(work, sizeof work));
+    ENDED(lohandema_count_nodes_on_grid(centre, 4.0, 1, NULL, 0, ONE_POINT, 1, 1, true, true, NULL, 0, NULL, 0, &nodes), 0, 0);
+    EXPECT(nodes == 3);
+    ENDED(lohandema_count_nodes_on_grid(centre, 4.0, 1, halves, 2, ONE_POINT, 1, 1, true, true, NULL, 0, NULL, 0, &nodes),
+          LOHANDEMA_ROOM, LOHANDEMA_ROOM_WORK);
+    EXPECT(nodes == 0);
+}
+
 static void columns(void)
 {
     size_t start = 7;
@@ -466,6 +485,7 @@ void test_null(void)
 {
     builds();
     builds_on_grid();
+    counts();
     columns();
     lookups();
     groups_and_cells();

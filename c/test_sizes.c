@@ -1,10 +1,11 @@
-/* The sizes of the lists: those that the list call then writes in just so much room, and each refusal with zeros after it. */
+/* The sizes of the lists: those that the list call then writes in just so much room, and each refusal with zeros after it. And the
+ * number of nodes: the build then has just so much room. */
 #include "checks.h"
 
 #include <stdlib.h>
 
 /* The tree of 0.5, 1.5, 6.5, 7.5 on one axis about 4, with limit 1. */
-enum { NODES = 9, ROOM = 12, SOURCES = 200, MOST = 4000 };
+enum { NODES = 9, ROOM = 12, SOURCES = 200, MOST = 4000, MANY = 20000 };
 static const uint64_t key[NODES] = {0, 1, 2, 3, 32771, 32769, 98306, 196611, 229379};
 static const size_t own[NODES] = {0, 0, 0, 1, 1, 0, 0, 1, 1}, begin[NODES] = {0, 0, 0, 0, 1, 2, 2, 2, 3};
 static const size_t total[NODES] = {4, 2, 2, 1, 1, 2, 2, 1, 1}, lying[NODES] = {4, 2, 2, 1, 1, 2, 2, 1, 2};
@@ -51,13 +52,23 @@ static void just_enough(size_t axes, size_t count, size_t limit, bool keep_empty
     static size_t owns[MOST], begins[MOST], totals[MOST], order[SOURCES], links[MOST], u_starts[MOST + 1], v_starts[MOST + 1];
     const double centre[3] = {4.0, 4.0, 4.0};
     double sources[3 * SOURCES];
-    size_t nodes, near, far;
+    size_t nodes, counted, near, far;
     uint64_t depth, *u_keys, *v_keys;
     for (size_t i = 0; i < axes * count; i++)
         sources[i] = 8.0 * (rand() % 1000) / 1000.0 / (1 + rand() % 3);
     ENDED(lohandema_build_tree(centre, 4.0, axes, sources, axes * count, NULL, 0, limit, 1, keep_empty, false, room, 2 * SOURCES,
                                order, SOURCES, keys, MOST, owns, MOST, begins, MOST, totals, MOST, &nodes, &depth),
           0, 0);
+#define BUILD(room_for)                                                                                                      \
+    lohandema_build_tree(centre, 4.0, axes, sources, axes * count, NULL, 0, limit, 1, keep_empty, false, room, 2 * SOURCES,    \
+                         order, SOURCES, keys, (room_for), owns, (room_for), begins, (room_for), totals, (room_for), &nodes,   \
+                         &depth)
+    ENDED(lohandema_count_nodes(centre, 4.0, axes, sources, axes * count, NULL, 0, limit, 1, keep_empty, false, room,
+                                2 * SOURCES, order, SOURCES, &counted),
+          0, 0);
+    EXPECT(counted == nodes && all_zero(room, sizeof room) && all_zero(order, sizeof order));
+    ENDED(BUILD(counted - 1), LOHANDEMA_ROOM, LOHANDEMA_ROOM_NODES);
+    ENDED(BUILD(counted), 0, 0);
 #define BUILT keys, nodes, owns, nodes, begins, nodes, totals, nodes
     ENDED(lohandema_get_list_sizes(axes, BUILT, links, nodes, one_row, nodes, &u, &v), 0, 0);
     u_keys = (uint64_t *)calloc(u + 1, sizeof *u_keys);
@@ -80,6 +91,24 @@ static void just_enough(size_t axes, size_t count, size_t limit, bool keep_empty
     free(v_keys);
 }
 
+/* More nodes than any build has room for. */
+static void too_many_nodes(void)
+{
+    static double sources[3 * MANY];
+    static uint64_t room[2 * MANY];
+    static size_t order[MANY];
+    const double centre[3] = {4.0, 4.0, 4.0};
+    size_t nodes = 77;
+    for (size_t i = 0; i < 3 * MANY; i++)
+        sources[i] = 8.0 * (rand() % 10000) / 10000.0;
+    fill_with_junk(room, sizeof room);
+    fill_with_junk(order, sizeof order);
+    ENDED(lohandema_count_nodes(centre, 4.0, 3, sources, 3 * MANY, NULL, 0, 0, 1, true, false, room, 2 * MANY, order, MANY,
+                                &nodes),
+          LOHANDEMA_ROOM, LOHANDEMA_ROOM_NODES);
+    EXPECT(nodes == 0 && ZEROED(room, 2 * MANY) && ZEROED(order, MANY));
+}
+
 void test_sizes(void)
 {
     of_the_example();
@@ -91,4 +120,5 @@ void test_sizes(void)
                 just_enough(axes, count, limit, false);
                 just_enough(axes, count, limit, true);
             }
+    too_many_nodes();
 }

@@ -27,7 +27,7 @@
  *   points_to_keys, get_interaction_lists, get_list_sizes, get_near_work, check_sums,
  *   balance_tree                                                                            128 KiB
  *   sum_check, lists_right, write_tree, read_tree                                            96 KiB
- *   build_tree, build_tree_on_grid, add_source                                               48 KiB
+ *   build_tree, build_tree_on_grid, count_nodes, count_nodes_on_grid, add_source             48 KiB
  *   get_sourced_cells, is_arrangement                                                        32 KiB
  *   every other call                                                                          8 KiB
  */
@@ -119,7 +119,7 @@ enum {
     LOHANDEMA_ABOVE = 3
 };
 
-/* The values of 8 ROOM; the lowest that is short is told. 1 is the work of a build, the work or row of
+/* The values of 8 ROOM; the lowest that is short is told. 1 is the work of a build or of a count of its nodes, the work or row of
  * lohandema_get_list_sizes, and the sums of lohandema_check_sums. */
 enum {
     LOHANDEMA_ROOM_WORK = 1,
@@ -357,7 +357,8 @@ static inline size_t lohandema_most_nodes(size_t axes, size_t sources, size_t ta
  *   work              two entries a source and one a used target
  *   indices           one entry a source
  *   key, own, begin,  one entry a node each. The shortest of the four counts, at most 1,048,576 of its entries. N is not known
- *   total             before: lend lohandema_most_nodes (above), or on 8 with value 3 lend longer ones and call again.
+ *   total             before: lend lohandema_most_nodes (above), or as many as lohandema_count_nodes (below) counts, or on 8 with
+ *                     value 3 lend longer ones and call again.
  * Refused 1, 2, 3 (sources, then targets), 4 (likewise), 5, 6, 7, 8 (1 work, 2 indices, 3 key, own, begin or total). */
 lohandema_ended lohandema_build_tree(const double centre[3], double radius, size_t axes, const double *sources,
                                      size_t sources_len, const double *targets, size_t targets_len, size_t limit,
@@ -404,6 +405,22 @@ lohandema_ended lohandema_add_source(const double centre[3], double radius, size
                                      size_t *new_indices, size_t new_indices_len, uint64_t *new_key, size_t new_key_len,
                                      size_t *new_own, size_t new_own_len, size_t *new_begin, size_t new_begin_len,
                                      size_t *new_total, size_t new_total_len, size_t *nodes, uint64_t *depth);
+
+/* nodes: how many nodes the tree has that lohandema_build_tree builds of the same arguments, with no node column: lend just so
+ * many. The tree is grown as in the build and its nodes are counted, so that it takes nearly as long. work and indices need the
+ * build's entries, and are 0 throughout afterwards. Refused as the build: 8 with value 3 only where the tree has more than
+ * 1,048,576 nodes, as the build has no room for it whatever it is lent. */
+lohandema_ended lohandema_count_nodes(const double centre[3], double radius, size_t axes, const double *sources,
+                                      size_t sources_len, const double *targets, size_t targets_len, size_t limit,
+                                      size_t order, bool keep_empty, bool refine, uint64_t *work, size_t work_len,
+                                      size_t *indices, size_t indices_len, size_t *nodes);
+
+/* The same for lohandema_build_tree_on_grid. */
+lohandema_ended lohandema_count_nodes_on_grid(const double centre[3], double radius, size_t axes, const double *sources,
+                                              size_t sources_len, const double origin[3], const double spacing[3],
+                                              const size_t shape[3], size_t limit, size_t order, bool keep_empty, bool refine,
+                                              uint64_t *work, size_t work_len, size_t *indices, size_t indices_len,
+                                              size_t *nodes);
 
 /* The balanced tree of a tree that has all children or none of each cell, as a build with keep_empty has: the one with the fewest
  * cells that contains all of its cells, has all children or none of each cell, and has no two leaves more than one level apart

@@ -1,4 +1,4 @@
-//! The build: columns, order and depth against the Rust's, the totals against the sums over its leaves; refusals and end
+//! The build: columns, order, depth and the count of nodes against the Rust's, the totals against the sums over its leaves; refusals and end
 //! contents against document 01.
 use crate::inputs;
 use crate::oracle::{self, Survey};
@@ -54,6 +54,8 @@ pub fn compare(t: &mut Tally, s: &Survey, refine: bool) {
         t.same("cells with a total", with_total(tree), sourced, || show(s));
     }
     let theirs = oracle::columns(&s.bounds, &lists);
+    let counted = asked_of(s, refine).count_nodes();
+    t.same("nodes", counted, Ok(theirs.key.len()), || show(s));
     t.same("tree", ours, Ok(theirs), || show(s));
 }
 

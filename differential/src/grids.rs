@@ -92,6 +92,9 @@ fn compare(t: &mut Tally, s: &Survey, grid: &Grid) -> Result<Tree, Refusal> {
     let ours = Tree::build_on_grid(asked_of(s, true), grid);
     let depth = ours.as_ref().map(Tree::depth).ok();
     t.same("depth", depth, right.as_ref().map(|x| x.1).ok(), input);
+    let nodes = right.as_ref().map(|x| x.0.key.len()).map_err(|r| *r);
+    let counted = asked_of(s, true).count_nodes_on_grid(grid);
+    t.same("nodes", counted, nodes, input);
     t.same("tree", ours.clone(), right.map(|x| x.0), input);
     if known(s.bounds.axes, grid) && rows_of(s.bounds.axes, grid).is_some() {
         t.same("listed", ours.clone(), build_listed(s, grid), input);

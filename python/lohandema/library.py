@@ -46,6 +46,12 @@ lohandema_ended lohandema_add_source(BOX, const double *sources, size_t sources_
     bool keep_empty, TREE, const size_t *indices, size_t indices_len, uint64_t *work, size_t work_len, size_t *new_indices,
     size_t new_indices_len, uint64_t *new_key, size_t new_key_len, size_t *new_own, size_t new_own_len, size_t *new_begin,
     size_t new_begin_len, size_t *new_total, size_t new_total_len, size_t *nodes, uint64_t *depth);
+lohandema_ended lohandema_count_nodes(BOX, const double *sources, size_t sources_len, const double *targets,
+    size_t targets_len, size_t limit, size_t order, bool keep_empty, bool refine, uint64_t *work, size_t work_len,
+    size_t *indices, size_t indices_len, size_t *nodes);
+lohandema_ended lohandema_count_nodes_on_grid(BOX, const double *sources, size_t sources_len, const double origin[3],
+    const double spacing[3], const size_t shape[3], size_t limit, size_t order, bool keep_empty, bool refine, uint64_t *work,
+    size_t work_len, size_t *indices, size_t indices_len, size_t *nodes);
 lohandema_ended lohandema_balance_tree(BOX, const double *points, size_t points_len, TREE, const size_t *indices,
     size_t indices_len, uint64_t *work, size_t work_len, size_t *new_indices, size_t new_indices_len, uint64_t *new_key,
     size_t new_key_len, size_t *new_own, size_t new_own_len, size_t *new_begin, size_t new_begin_len, size_t *new_total,

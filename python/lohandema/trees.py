@@ -75,48 +75,33 @@ class Tree:
         >>> Tree.build([[0.5], [7.5]], Box([4.0], 4.0), grid=Grid([0.0], [0.001], [8000]), order=4, keep_empty=True, limit=9)
         Tree(Box([4.0], 4.0), 2047 nodes, 2 sources)
         """
-        if box is not None:
-            check_box(box)
-        sources = Points(points, box.axes if box else None)
-        aims = checked_aims(targets, grid, sources.axes)
-        limit, order = whole(limit, "limit"), checked_order(order, aims)
-        keep_empty = flag(keep_empty, "keep_empty")
-        if are_used(aims) and not keep_empty:
-            raise ValueError("%s split%s cells only where empty cells are kept: pass keep_empty=True, or no %s"
-                             % (("targets", "", "targets") if grid is None else ("a grid", "s", "grid")))
-        if box is None:
-            box = Box._around([sources, aims if grid is None else Points(grid.corners(), sources.axes or None, "grid")])
-        with telling(progress, "the tree of %d points" % sources.rows):
-            return cls._built(box, sources, aims, limit, order, keep_empty)
+        asked = checked_build(points, box, limit, keep_empty, order, targets, grid)
+        with telling(progress, "the tree of %d points" % asked[1].rows):
+            return cls._built(*asked)
 
     @classmethod
     def _built(cls, box, sources, aims, limit, order, keep_empty):
         rows, used = min(sources.rows, room.MOST_POINTS), min(aims.rows, room.MOST_POINTS)
         nodes = room.most_nodes(box.axes, rows, used, limit, order, keep_empty)
-        if isinstance(aims, Grid):
-            # its points take no work
-            name, words, in_work = "build_tree_on_grid", aims._words(), 0
-        else:
-            name, words, in_work = "build_tree", _words([aims.lent]), used
-        work, indices = Lent(memoryview(column(2 * rows + in_work))), column(rows)
-        columns = [column(nodes) for _ in range(4)]
+        indices, columns = column(rows), [column(nodes) for _ in range(4)]
         lent = [Lent(memoryview(one)) for one in [indices] + columns]
-        count, depth = ctypes.c_size_t(), ctypes.c_uint64()
-        call(name, *box._words(), *_words([sources.lent]), *words, limit, order, keep_empty, are_used(aims),
-             *_words([work] + lent), ctypes.byref(count), ctypes.byref(depth))
+        depth = ctypes.c_uint64()
+        count = call_build("build_tree", box, sources, aims, limit, order, keep_empty, lent, [ctypes.byref(depth)])
         del lent
-        return cls._of(box, [cut(one, count.value) for one in columns] + [cut(indices, rows)])
+        return cls._of(box, [cut(one, count) for one in columns] + [cut(indices, rows)])
 
-    @classmethod
-    def count_nodes(cls, points, box=None, **words):
-        """How many nodes the tree of points has: exactly, where room.most_nodes gives a bound. It takes what Tree.build takes, and
-        refuses what that refuses. The tree is built and let go, since nothing else tells the number; so where the tree is wanted
-        too, build it and ask len(tree).
+    @staticmethod
+    def count_nodes(points, box=None, *, limit=64, keep_empty=False, order=None, targets=None, grid=None, progress=False):
+        """How many nodes Tree.build makes of the same arguments, with no tree. The tree is grown and its nodes are counted, so
+        that it takes nearly as long as the build, but no room for nodes. Raises what Tree.build raises.
 
         >>> Tree.count_nodes([[0.5], [1.5], [6.5], [7.5]], Box([4.0], 4.0), limit=1)
         9
         """
-        return len(cls.build(points, box, **words))
+        asked = checked_build(points, box, limit, keep_empty, order, targets, grid)
+        with telling(progress, "the number of nodes of %d points" % asked[1].rows):
+            indices = Lent(memoryview(column(min(asked[1].rows, room.MOST_POINTS))))
+            return call_build("count_nodes", *asked, [indices], [])
 
     def balanced(self, points, *, progress=False):
         """The balanced tree of this one, which has all children or none of each cell, as a build with keep_empty has: the one
@@ -661,6 +646,36 @@ def lent_lists(lists):
     columns = {"u.starts": lists.u.starts, "u.entries": lists.u.entries, "v.starts": lists.v.starts,
                "v.entries": lists.v.entries}
     return [wholes(one, "lists." + name) for name, one in columns.items()]
+
+
+def checked_build(points, box, limit, keep_empty, order, targets, grid):
+    """What a build is asked: the box, the sources, the targets or the grid, the limit, the order and the flag."""
+    if box is not None:
+        check_box(box)
+    sources = Points(points, box.axes if box else None)
+    aims = checked_aims(targets, grid, sources.axes)
+    limit, order = whole(limit, "limit"), checked_order(order, aims)
+    keep_empty = flag(keep_empty, "keep_empty")
+    if are_used(aims) and not keep_empty:
+        raise ValueError("%s split%s cells only where empty cells are kept: pass keep_empty=True, or no %s"
+                         % (("targets", "", "targets") if grid is None else ("a grid", "s", "grid")))
+    if box is None:
+        box = Box._around([sources, aims if grid is None else Points(grid.corners(), sources.axes or None, "grid")])
+    return box, sources, aims, limit, order, keep_empty
+
+
+def call_build(name, box, sources, aims, limit, order, keep_empty, lent, told):
+    """Makes a call that grows a tree; answers how many nodes it has."""
+    rows, used = min(sources.rows, room.MOST_POINTS), min(aims.rows, room.MOST_POINTS)
+    if isinstance(aims, Grid):
+        # its points take no work
+        name, words, in_work = name + "_on_grid", aims._words(), 0
+    else:
+        words, in_work = _words([aims.lent]), used
+    work, count = Lent(memoryview(column(2 * rows + in_work))), ctypes.c_size_t()
+    call(name, *box._words(), *_words([sources.lent]), *words, limit, order, keep_empty, are_used(aims),
+         *_words([work] + lent), ctypes.byref(count), *told)
+    return count.value
 
 
 def check_box(box):

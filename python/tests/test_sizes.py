@@ -1,11 +1,11 @@
-"""The sizes of the lists are those of the lists."""
+"""The sizes of the lists are those of the lists, and the number of nodes is the build's."""
 
 import random
 import unittest
 
 from common import some_points
 
-from lohandema import Box, Refused, Tree, room
+from lohandema import Box, Grid, Refused, Tree, room
 
 
 class Sizes(unittest.TestCase):
@@ -39,6 +39,38 @@ class Sizes(unittest.TestCase):
         with self.assertRaises(Refused) as caught:
             Tree.count_nodes([[9.0]], Box([4.0], 4.0))
         self.assertEqual(caught.exception.number, 6)
+
+    def test_nodes_of_the_build(self):
+        made = random.Random(29)
+        for case in range(36):
+            axes = 1 + case % 3
+            points = some_points(made, axes, 15 * case)
+            words = {"limit": 1 + case % 5, "keep_empty": case % 4 != 1}
+            if case % 4 == 2:
+                words.update(targets=some_points(made, axes, 40), order=1)
+            if case % 4 == 3:
+                words.update(grid=Grid([-3.0] * axes, [0.5] * axes, [12] * axes), order=1)
+            box = Box([0.0] * axes, 4.0) if case % 2 else None
+            if case == 0:
+                box = Box([0.0], 4.0)
+            self.assertEqual(Tree.count_nodes(points, box, **words), len(Tree.build(points, box, **words)))
+
+    def test_count_refused(self):
+        """Whatever the build raises, and with the same words."""
+        box = Box([4.0], 4.0)
+        for words in (dict(points=[[0.5], [9.0]], box=box), dict(points=[[float("nan")]], box=box),
+                      dict(points=[[0.5]], box=box, targets=[[9.0]], order=1, keep_empty=True),
+                      dict(points=[[0.5]], box=box, targets=[[1.0]], order=65, keep_empty=True),
+                      dict(points=[[0.5]], box=box, targets=[[1.0]], order=1), dict(points=[[0.5]], box=box, limit=-1),
+                      dict(points=[[0.5]], box=box, grid=Grid([9.0], [1.0], [2]), order=1, keep_empty=True),
+                      dict(points=[[0.5, 0.5]], box=box), dict(points=[[0.5]], box=4.0),
+                      dict(points=[[0.5]], box=Box([4.0], 4.0), keep_empty=1)):
+            raised = []
+            for call in (Tree.build, Tree.count_nodes):
+                with self.assertRaises((Refused, ValueError, TypeError), msg=words) as caught:
+                    call(**words)
+                raised.append((type(caught.exception), str(caught.exception)))
+            self.assertEqual(*raised)
 
     def test_most_nodes(self):
         """As the header's: 0 for other axes, large numbers as the most that count; what is no number is refused."""

@@ -825,6 +825,79 @@ pub fn build_tree_on_grid(
     answered(ended, (nodes, depth))
 }
 
+/// How many nodes the tree has that [`build_tree`] builds of the same, with no node column: columns with just so many entries
+/// are enough. The tree is grown as in the build and its nodes are counted, so that it takes nearly as long. `work` and
+/// `indices` have the build's entries, and are 0 throughout afterwards.
+///
+/// # Errors
+/// As [`build_tree`]; [`ROOM`](Refusal::ROOM) 3 only where the tree has more than 1,048,576 nodes, for which no room is enough.
+pub fn count_nodes(
+    asked: Asked<'_>,
+    work: &mut [u64],
+    indices: &mut [usize],
+) -> Result<usize, Refusal> {
+    let mut nodes = 0;
+    // SAFETY: the points are read with their own lengths; both slices, lent to us alone, are written within theirs.
+    let ended = unsafe {
+        raw::lohandema_count_nodes(
+            &asked.bounds.centre,
+            asked.bounds.radius,
+            asked.bounds.axes,
+            asked.sources.as_ptr(),
+            asked.sources.len(),
+            asked.targets.as_ptr(),
+            asked.targets.len(),
+            asked.limit,
+            asked.order,
+            asked.keep_empty,
+            asked.refine,
+            work.as_mut_ptr(),
+            work.len(),
+            indices.as_mut_ptr(),
+            indices.len(),
+            &mut nodes,
+        )
+    };
+    answered(ended, nodes)
+}
+
+/// The same for [`build_tree_on_grid`].
+///
+/// # Errors
+/// As [`build_tree_on_grid`]; [`ROOM`](Refusal::ROOM) 3 only where the tree has more than 1,048,576 nodes, for which no room is
+/// enough.
+pub fn count_nodes_on_grid(
+    asked: Asked<'_>,
+    grid: &Grid,
+    work: &mut [u64],
+    indices: &mut [usize],
+) -> Result<usize, Refusal> {
+    let mut nodes = 0;
+    // SAFETY: the sources are read with their own length, the grid is three arrays of three; both slices, lent to us alone, are written within theirs.
+    let ended = unsafe {
+        raw::lohandema_count_nodes_on_grid(
+            &asked.bounds.centre,
+            asked.bounds.radius,
+            asked.bounds.axes,
+            asked.sources.as_ptr(),
+            asked.sources.len(),
+            &grid.origin,
+            &grid.spacing,
+            &grid.shape,
+            asked.limit,
+            asked.order,
+            asked.keep_empty,
+            asked.refine,
+            work.as_mut_ptr(),
+            work.len(),
+            indices.as_mut_ptr(),
+            indices.len(),
+            &mut nodes,
+        )
+    };
+    answered(ended, nodes)
+}
+
 /// The balanced tree of a tree that has all children or none of each cell: the one with the fewest cells that contains all of
 /// its cells, has all children or none of each cell, and no two touching leaves more than one level apart. `order` is the
 /// tree's order column, and `points` are its sources. `work` has two entries for each source and `indices`, the new order

@@ -2,7 +2,7 @@
 //! the most nodes that it can have, and the lists a first guess that is seldom short.
 
 use crate::Refusal;
-use crate::lent::{Asked, Grid, Held};
+use crate::lent::{self, Asked, Grid, Held};
 use crate::limits::{DEEPEST, MOST_KEYS, MOST_NODES, MOST_POINTS, V_ROW};
 use crate::points::reference_depth;
 use crate::rows::Lists;
@@ -62,20 +62,42 @@ impl Asked<'_> {
         most_nodes(self)
     }
 
-    /// How many nodes the tree has that [`Tree::build`] makes of this: exactly, where [`most_nodes`](Asked::most_nodes) is a bound.
-    /// The tree is built and let go, since nothing else tells the number; so where the tree is wanted too, build it and ask
-    /// how many keys it has.
+    /// How many nodes the tree of [`Tree::build`] has, exactly, with no tree: for the room of
+    /// [`lent::build_tree`](crate::lent::build_tree). The tree is grown and its nodes are counted, so that it takes nearly as
+    /// long as the build.
     ///
     /// ```
-    /// use lohandema::{Asked, Bounds};
+    /// use lohandema::{Asked, Bounds, Tree};
     /// let bounds = Bounds::new(&[4.0], 4.0);
-    /// assert_eq!(Asked::new(&bounds, &[0.5, 1.5, 6.5, 7.5], 1).count_nodes(), Ok(9));
+    /// let asked = Asked::new(&bounds, &[0.5, 1.5, 6.5, 7.5], 1);
+    /// assert_eq!((asked.count_nodes()?, Tree::build(asked)?.key.len()), (9, 9));
+    /// # Ok::<(), lohandema::Refusal>(())
     /// ```
     ///
     /// # Errors
     /// As [`Tree::build`].
     pub fn count_nodes(&self) -> Result<usize, Refusal> {
-        Tree::build(*self).map(|tree| tree.key.len())
+        let mut order = vec![0; rows(self.bounds.axes, self.sources.len())];
+        lent::count_nodes(*self, &mut vec![0; work(self)], &mut order)
+    }
+
+    /// The same for [`Tree::build_on_grid`].
+    ///
+    /// ```
+    /// use lohandema::{Asked, Bounds, Grid, Tree};
+    /// let bounds = Bounds::new(&[4.0], 4.0);
+    /// let asked = Asked::new(&bounds, &[0.5, 7.5], 9).refined(&[], 4);
+    /// let grid = Grid::new([0.0; 3], [0.001, 1.0, 1.0], [8000, 1, 1]);
+    /// let tree = Tree::build_on_grid(asked, &grid)?;
+    /// assert_eq!((asked.count_nodes_on_grid(&grid)?, tree.key.len()), (2047, 2047));
+    /// # Ok::<(), lohandema::Refusal>(())
+    /// ```
+    ///
+    /// # Errors
+    /// As [`Tree::build_on_grid`].
+    pub fn count_nodes_on_grid(&self, grid: &Grid) -> Result<usize, Refusal> {
+        let rows = rows(self.bounds.axes, self.sources.len());
+        lent::count_nodes_on_grid(*self, grid, &mut vec![0; 2 * rows], &mut vec![0; rows])
     }
 }
 
