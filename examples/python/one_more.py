@@ -5,8 +5,9 @@
 
 Readings on flight lines are put in a tree, and a station is flown again, a little beside its place. The tree takes the new
 reading in, numbered after the last. Two rules say which rows of the lists still hold the same keys, so that only the others
-have to be read anew; that no other row has changed is then looked up in both lists. It needs the shared library, which
-rust/archive writes, and the standard library of Python alone; with NumPy the tree takes arrays as well.
+have to be read anew, and with them the rows of cells that are new; that no other row has changed is then looked up in both
+lists. It needs the shared library, which rust/archive writes, and the standard library of Python alone; with NumPy the tree
+takes arrays as well.
 """
 
 import os
@@ -53,15 +54,18 @@ def main():
     places = survey()
     tree = Tree.build(places, limit=LIMIT)
     place = [x + 0.4 for x in places[REPEATED]]
-    more = tree.with_source(places, place, limit=LIMIT)
+    more = tree.with_source(places, place, limit=LIMIT, keep_empty=False)
     near, far = to_read_anew(tree, place)
     before, after = rows_of(tree), rows_of(more)
     changed = [{key for key in before if before[key][which] != after[key][which]} for which in (0, 1)]
+    # cells of the new tree alone: no rule tells of their rows, which are all read
+    new = sorted(set(after) - set(before))
     leaf = more.node_of(more.leaf_of(place))
     print("%d readings, %d leaves; with one more %d leaves" % (len(places), len(tree.leaves()), len(more.leaves())))
     print("reading %d is in the leaf %d, with %s" % (len(places), more.key[leaf], more.leaf_sources(leaf).tolist()))
     print("near rows to read anew: %d of %d, changed: %d" % (len(near), len(tree.leaves()), len(changed[0])))
     print("far rows to read anew: %d of %d, changed: %d" % (len(far), len(tree), len(changed[1])))
+    print("new cells, whose rows are read too: %d, with the keys %s" % (len(new), new))
     return 0 if changed[0] <= near and changed[1] <= far else "a row has changed that the rules keep: please report it"
 
 

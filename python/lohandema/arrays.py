@@ -8,6 +8,7 @@ sentence that names the cure. Lists of Python numbers are converted, once. What 
 import array
 import ctypes
 import operator
+from collections.abc import Mapping, Set
 
 try:
     import numpy
@@ -189,6 +190,7 @@ def real(x, name):
 
 def three(point, axes, name):
     """A point's coordinates in the three places that a call reads, and how many there are."""
+    check_row(point, name)
     try:
         found = [real(x, "%s[%d]" % (name, i)) for i, x in enumerate(point)]
     except TypeError as error:
@@ -197,9 +199,26 @@ def three(point, axes, name):
         raise TypeError("%s is of type %s: pass a list of its coordinates, as [4.0]"
                         % (name, type(point).__name__)) from error
     if axes is not None and len(found) != axes:
-        raise ValueError("%s has %d coordinates, and the box %d ax%ss: pass one for each axis"
-                         % (name, len(found), axes, "i" if axes == 1 else "e"))
+        raise ValueError("%s has %d coordinate%s, and the box %d ax%ss: pass one for each axis"
+                         % (name, len(found), "" if len(found) == 1 else "s", axes, "i" if axes == 1 else "e"))
     return (ctypes.c_double * 3)(*found[:3]), len(found)
+
+
+def check_row(point, name):
+    """That the entries of a single point stand one after the other, and are numbers and no bytes or bools."""
+    kind, shape = type(point).__name__, getattr(point, "shape", None)
+    if isinstance(point, (Set, Mapping)):
+        raise TypeError("%s is of type %s, which has no order of axes: pass a list of its coordinates, one for each axis in turn"
+                        % (name, kind))
+    if isinstance(point, (bytes, bytearray)) or isinstance(point, memoryview) and point.format in ("B", "c"):
+        raise TypeError("%s is of type %s, and bytes are no coordinates: pass a list of its coordinates, as [4.0], or "
+                        "array.array('d', %s) where they are the bytes of such numbers" % (name, kind, name))
+    if isinstance(shape, tuple) and len(shape) != 1:
+        what = "no dimension" if not shape else "%d dimensions" % len(shape)
+        raise TypeError("%s is of type %s with %s: pass a list of its coordinates, as [4.0], or %s.reshape(-1)"
+                        % (name, kind, what, name))
+    if str(getattr(point, "dtype", "")) == "bool" or isinstance(point, memoryview) and point.format == "?":
+        raise TypeError("%s holds bool, which is no coordinate: pass float64 numbers" % name)
 
 
 def check_many(given, name, cure):

@@ -61,3 +61,27 @@ class Refused(Exception):
 
     def __str__(self):
         return "%s (refused %d %s)" % (self.sentence, self.number, self.name)
+
+
+def not_added(refused, points, sources):
+    """A refusal of one source more, by this call's own cures: another box or limit helps only in a build. So many points were
+    passed, and the tree has so many sources."""
+    sentence = None
+    if refused.number == 4:
+        sentence = ("there are %d points, and a tree holds at most 1048576, so there is no room for one more: thin the points "
+                    "out and build anew" % points)
+    elif refused.number == 18:
+        sentence = ("the tree is not the build of these points in its box with this limit and keep_empty and without targets, or "
+                    "a point is outside: pass the points, limit and keep_empty with which it was built; a tree that targets or a "
+                    "grid refined, or that was balanced, is to be built anew without")
+        if points != sources:
+            sentence = ("the tree has %d sources, and %d points were passed: pass the points with which it was built, and behind "
+                        "them each source that was added since" % (sources, points))
+    elif refused.number == 6:
+        cure = "mend it, or leave it out" if refused.reason == 1 else "build anew in a larger box, or mend it or leave it out"
+        sentence = "the new source, number %d, %s on axis %d: %s" % (refused.value, words("reason_name", refused.reason),
+                                                                     refused.axis, cure)
+    elif refused.number == 8:
+        sentence = ("with the new source the tree has more than 1048576 nodes: build anew with a higher limit, or of fewer "
+                    "points")
+    return Refused(refused.number, refused.value, refused.axis, refused.reason, sentence) if sentence else refused

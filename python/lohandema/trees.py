@@ -10,7 +10,7 @@ from .grids import Grid
 from .keys import children as children_of
 from .library import call, library
 from .progress import telling
-from .refusal import Refused
+from .refusal import Refused, not_added
 from .rows import Lists, Rows
 
 COLUMNS = ("key", "own", "begin", "total", "order")
@@ -127,22 +127,32 @@ class Tree:
         rows = min(sources.rows, room.MOST_POINTS)
         return self._written("balance_tree", [*self.box._words(), *_words([sources.lent])], rows, nodes)
 
-    def with_source(self, points, point, *, limit=64, keep_empty=False, progress=False):
-        """The tree of the sources and one more, numbered after the last: the one that Tree.build would make of the longer list.
-        This one, which does not change, has to be the build of points in its box with this limit and keep_empty, without
-        targets or a grid: a tree keeps its box, and not these.
+    def with_source(self, points, point, *, limit, keep_empty, progress=False):
+        """The tree of the sources and one more, numbered after the last: the one that Tree.build would make of the longer list
+        in this tree's box. This one, which does not change, has to be the build of points in its box with this limit and
+        keep_empty, without targets or a grid, and not balanced: a tree keeps its box, and not these.
 
-        Rows of the lists far from the new source hold the same keys in both trees: the V row of a cell does, if the new
+        points      those of which this tree is the build. Where a source was added, it is one of them: for the next one pass the
+                    points with it behind the last.
+        limit, keep_empty  those of the build. They have no defaults, and 18 cannot tell every wrong limit: a tree may be the
+                    build with two limits, and is taken with either.
+
+        As it stands the call takes longer than a build of the longer list: 1.5 to 2 times as long with 100,000 points in 3 axes
+        (docs/CHANGES.md, order 7). It spares no time; what it gives is the judgement that this tree is that build, and the
+        promise on the rows that stay:
+
+        rows of the lists far from the new source hold the same keys in both trees: the V row of a cell does, if the new
         source's cell at the level of its parent neither is that parent nor touches it; the U row of a leaf, if it and the deepest
         cell of this tree that contains the new source, at the coarser one's level, neither coincide nor touch.
 
-        Raises Refused with 4 where there are 1,048,576 points already, 13, 18 where the tree is not that build or one of the
-        points is outside, 6 with the number of points as its index where the new source is, or 8 where the tree has more than
-        1,048,576 nodes.
+        Raises Refused with 4 where there are 1,048,576 points already, which leaves no room for one more; 13; 18 where the tree
+        is not that build or one of the points is outside; 6 with the number of points as its index where the new source is, for
+        which another tree is built in a larger box; or 8 where the tree has more than 1,048,576 nodes, for which it is built anew
+        with a higher limit.
 
         >>> points = [[0.5], [1.5], [6.5], [7.5]]
         >>> tree = Tree.build(points, Box([4.0], 4.0), limit=1)
-        >>> more = tree.with_source(points, [3.0], limit=1)
+        >>> more = tree.with_source(points, [3.0], limit=1, keep_empty=False)
         >>> more.key.tolist(), more.order.tolist()
         ([0, 1, 2, 3, 32771, 32770, 32769, 98306, 196611, 229379], [0, 1, 4, 2, 3])
         """
@@ -154,11 +164,7 @@ class Tree:
             try:
                 return self._written("add_source", words, rows, nodes)
             except Refused as refused:
-                if refused.number == 18:
-                    raise Refused(18, sentence="the tree is not the build of these points in its box with this limit and "
-                                  "keep_empty and without targets, or a point is outside: pass the points, limit and "
-                                  "keep_empty with which it was built") from None
-                raise
+                raise not_added(refused, sources.rows, len(self.order)) from None
 
     def _written(self, name, words, rows, nodes):
         """The tree that a call writes from this one, in room for so many sources and nodes."""

@@ -262,6 +262,7 @@ class Bad(unittest.TestCase):
     def test_points_of_a_tree(self):
         tree = Tree.build([0.5, 7.0], LINE, limit=1)
         self.refused(ValueError, "point has 2 coordinates, and the box 1 axis", tree.leaf_of, [1.0, 2.0])
+        self.refused(ValueError, "point has 1 coordinate, and the box 2 axes", Box([4.0, 4.0], 4.0).key_of, [1.0], 3)
         self.refused(TypeError, "point is of type float", tree.leaf_of, 1.0)
         self.refused(ValueError, "points has 2 columns, and the box 1 axis", tree.lookup, [[1.0, 2.0]])
         with self.assertRaises(Refused) as caught:

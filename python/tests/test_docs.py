@@ -36,7 +36,8 @@ class Docs(unittest.TestCase):
         """Each example runs; the sums of one are those of all pairs but for what it allows, and the rows that the other keeps
         are as they were."""
         said = {"near_and_far.py": r"largest difference from the plain sum: 0\.\d+ %\n",
-                "one_more.py": r"near rows to read anew: \d+ of 163, changed: [1-9]\d*\nfar rows to read anew: "}
+                "one_more.py": r"near rows to read anew: \d+ of 163, changed: [1-9]\d*\nfar rows to read anew: .*\n"
+                               r"new cells, whose rows are read too: [1-9]\d*, with the keys \[\d"}
         folder = os.path.join(ROOT, "examples", "python")
         for name in sorted(os.listdir(folder)):
             result = subprocess.run([sys.executable, "-B", os.path.join(folder, name)], capture_output=True, text=True)
