@@ -154,14 +154,15 @@ static inline const char *lohandema_refusal_sentence(uint64_t number)
         "the coordinates are not whole points, or the readings are not as many as the tree has sources, or the columns to "
         "salvage differ in length: pass as many coordinates for each point as there are axes, one reading for each source, and "
         "key, own and begin of one length",
-        "there are more than 1048576 points or keys, or more than a tree file holds (1048576 nodes, 16777216 keys of a list, "
-        "4294967295 bytes of sections): pass fewer",
+        "there are more than 1048576 points (a source that is added counts) or keys, or more than a tree file holds (1048576 "
+        "nodes, 16777216 keys of a list, 4294967295 bytes of sections): pass fewer",
         "the order is not from 1 to 64: pass such an order, or no targets",
         "a source lies outside the box or is not a finite number, and value, axis and reason say which, where and why: "
-        "enlarge the box, or mend or remove the source",
+        "enlarge the box and build anew, or mend or remove the source",
         "a target or looked-up point lies outside the box or is not a finite number, and value, axis and reason say which, "
         "where and why: enlarge the box, or mend or remove the point",
-        "a lent slice is short, and the value says which: lend a longer one, or, where the most was lent, raise the limit",
+        "a lent slice is short, and the value says which: lend a longer one, or, where the most was lent, raise the limit and "
+        "build anew",
         "a key or level is not valid, or an anchor lies off its level: pass a level of at most 16 and what belongs to it",
         "the root has no parent and no siblings: ask of a key of level 1 or more",
         "a cell of level 16 has no children: ask of a key of a level below 16",
@@ -177,7 +178,8 @@ static inline const char *lohandema_refusal_sentence(uint64_t number)
         "the tree file breaks its rules, or it holds, or is to hold, an order or lists that are not its tree's: write it anew "
         "from what the build and the list call wrote",
         "the tree, its order or its lists are not those that the points give: pass them as the build and the list call wrote "
-        "them, with the points and the box of that build, and where they are asked for its limit and flag",
+        "them, with the points and the box of that build, and each source that was added since; where limit and flag are asked "
+        "for, those of the build, and a tree that targets or a grid refined, or that was balanced, is to be built anew without",
         "a cell that is split lacks a child: build with keep_empty",
         "a reading is over 1099511627776 in size, and the value is its index: mend it, or pass all readings in a larger unit"};
     return number < 21 ? sentences[number] : "this version knows no refusal with this number";
@@ -190,7 +192,8 @@ static inline const char *lohandema_reason_name(uint64_t reason)
     return reason < 4 ? reasons[reason] : "";
 }
 
-/* The cure of 6 and 7 by their reason; empty for other numbers. Never NULL. */
+/* The cure of 6 and 7 by their reason; empty for other numbers. Never NULL. A tree that is there already is built anew in the
+ * larger box: with another box it is not that tree. */
 static inline const char *lohandema_reason_cure(uint64_t reason)
 {
     static const char *const cures[4] = {"", "mend or remove it", "enlarge the box, or mend or remove it",
@@ -383,20 +386,25 @@ lohandema_ended lohandema_build_tree_on_grid(const double centre[3], double radi
                                              uint64_t *depth);
 
 /* The tree of the former sources and one more, numbered after the last, from the tree that lohandema_build_tree made of the
- * former without targets: the tree, and its order column, that a build of the longer list would make. The lists are those that
- * lohandema_get_interaction_lists makes of it.
- *   sources           the coordinates of the former sources; sources_len counts coordinates
+ * former without targets: the tree, and its order column, that a build of the longer list in the same box would make. The lists
+ * are those that lohandema_get_interaction_lists makes of it. As it stands the call takes longer than that build, 1.5 to 2 times
+ * as long with 100,000 points in 3 axes (docs/CHANGES.md, order 7): it spares no time, and gives the judgement that the tree is
+ * the build, and the promise on the rows of lists that stay (docs/RULES.md, "One source more").
+ *   sources           the coordinates of the former sources, those that were added before too; sources_len counts coordinates
  *   point             the new source. All three places must be there; the values past the axes do not matter
- *   limit, keep_empty those of the build
+ *   limit, keep_empty those of the build. 18 cannot tell every wrong limit: a tree may be the build with two limits, and is taken
+ *                     with either
  *   key to indices    the tree and its order column, which are read
  *   work              two entries a source, the new one too
  *   new_indices       the new order column: one entry a source, the new one too
  *   new_key, new_own, one entry a node of the new tree each. The shortest of the four counts, at most 1,048,576 of its entries.
  *   new_begin,        It has at most key_len + 16 * 2^axes nodes, so that as many entries, or 1,048,576, are always enough.
  *   new_total
- * nodes and depth: those of the new tree. Refused 1, 2, 3, 4 (there are 1,048,576 former sources already), 13, 18 (the tree or
- * its order column is not the build of the former sources with this box, limit and flag, or one of them is outside), 6 (the new
- * source, with the number of former sources as its index), 8 (1 work, 2 new_indices, 3 new columns). */
+ * nodes and depth: those of the new tree. Refused 1, 2, 3, 4 (there are 1,048,576 former sources already, the most that a tree
+ * holds: there is no room for one more), 13, 18 (the tree or its order column is not the build of the former sources with this
+ * box, limit and flag, or one of them is outside: a tree that targets or a grid refined, or that was balanced, is to be built
+ * anew without), 6 (the new source, with the number of former sources as its index: build anew in a larger box, or leave it out),
+ * 8 (1 work, 2 new_indices, 3 new columns; where 1,048,576 entries were lent, build anew with a higher limit). */
 lohandema_ended lohandema_add_source(const double centre[3], double radius, size_t axes, const double *sources,
                                      size_t sources_len, const double point[3], size_t limit, bool keep_empty,
                                      const uint64_t *key, size_t key_len, const size_t *own, size_t own_len,

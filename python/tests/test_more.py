@@ -52,7 +52,8 @@ class More(unittest.TestCase):
             found = tree.with_source(points, [7.0], limit=limit, keep_empty=False)
             self.assertEqual(columns(found), columns(Tree.build(longer, box, limit=limit)))
         self.assertNotEqual(columns(Tree.build(longer, box, limit=1)), columns(Tree.build(longer, box, limit=64)))
-        for words, said in (({"limit": 1}, "'keep_empty'"), ({"keep_empty": False}, "'limit'"), ({}, "'limit' and 'keep_empty'")):
+        for words, said in (({"limit": 1}, "'keep_empty'"), ({"keep_empty": False}, "'limit'"),
+                            ({}, "'limit' and 'keep_empty'")):
             with self.assertRaisesRegex(TypeError, "missing .* keyword-only .*" + said):
                 tree.with_source(points, [7.0], **words)
 
@@ -103,7 +104,8 @@ class More(unittest.TestCase):
         swapped = Tree.from_columns(box, tree.key, tree.own, tree.begin, tree.total, [1, 0, 2, 3])
         for of, given, point, words, told in (
                 (tree, points, [8.0], {"limit": 1}, (6, 4, 0, 3)), (tree, points, [float("nan")], {"limit": 1}, (6, 4, 0, 1)),
-                (tree, points, [3.0], {"limit": 64}, (18, 0, None, None)), (tree, points[:3], [3.0], {"limit": 1}, (18, 0, None, None)),
+                (tree, points, [3.0], {"limit": 64}, (18, 0, None, None)),
+                (tree, points[:3], [3.0], {"limit": 1}, (18, 0, None, None)),
                 (tree, points, [3.0], {"limit": 1, "keep_empty": True}, (18, 0, None, None)),
                 (tree, points[:3] + [[9.0]], [9.0], {"limit": 1}, (18, 0, None, None)),
                 (swapped, points, [9.0], {"limit": 1}, (18, 0, None, None)),
@@ -137,8 +139,8 @@ class More(unittest.TestCase):
         for given, of, limit in ((points, refined, 9), (near, balanced, 1)):
             with self.assertRaisesRegex(Refused, "a tree that targets or a grid refined, or that was balanced, is to be built anew"):
                 of.with_source(given, [3.0], limit=limit, keep_empty=True)
-        for number, value, said in ((4, 0, "1048576 points, .* no room for one more: thin"), (8, 3, "build anew with a higher limit"),
-                                    (13, 0, "not a well-formed tree")):
+        for number, value, said in ((4, 0, "1048576 points, .* no room for one more: thin"),
+                                    (8, 3, "build anew with a higher limit"), (13, 0, "not a well-formed tree")):
             found = not_added(Refused(number, value), 1048576, 1048576)
             self.assertEqual((found.number, found.value), (number, value))
             self.assertRegex(str(found), said)

@@ -970,16 +970,20 @@ pub fn balance_tree(
 
 /// The tree of the former sources and one more, numbered after the last, from the tree that [`build_tree`] made of the former
 /// without targets. `asked` has the box, the former sources, the limit and the flag of that build; its targets, order and
-/// `refine` are not looked at. `order` is the tree's order column. `work` has two entries for each source and `indices`, the new
-/// order column, one, the new source counted too; the four columns one for each new node, of which there are at most
-/// 16 · 2^axes more than before. Answers the number of nodes and the depth.
+/// `refine` are not looked at. Sources that were added before are former ones. A tree may be the build with two limits, so that
+/// not every wrong one is refused. `order` is the tree's order column. `work` has two entries for each source and `indices`, the
+/// new order column, one, the new source counted too; the four columns one for each new node, of which there are at most
+/// 16 · 2^axes more than before. Answers the number of nodes and the depth. It takes longer than a build of the longer list, as
+/// [`Tree::with_source`](crate::Tree::with_source) says.
 ///
 /// # Errors
 /// [`DIMS`](Refusal::DIMS), also if box and tree differ in their axes; [`BOX`](Refusal::BOX); [`SHAPE`](Refusal::SHAPE) if
 /// the rows are not whole, or the point has not one coordinate for each axis; [`COUNT`](Refusal::COUNT) if there are 1,048,576
-/// former sources already; [`TREE`](Refusal::TREE); [`NOTBUILT`](Refusal::NOTBUILT) if the tree and its order are not the build
-/// of the former sources with this box, limit and flag, or one of them is outside; [`SOURCE`](Refusal::SOURCE) if the new one
-/// is, with the number of former sources as its index; [`ROOM`](Refusal::ROOM) 1 to 3.
+/// former sources already, which leaves no room for one more; [`TREE`](Refusal::TREE); [`NOTBUILT`](Refusal::NOTBUILT) if the
+/// tree and its order are not the build of the former sources with this box, limit and flag, or one of them is outside (a tree
+/// that targets or a grid refined, or that was balanced, is to be built anew without); [`SOURCE`](Refusal::SOURCE) if the new
+/// one is, with the number of former sources as its index (build anew in a larger box, or leave it out);
+/// [`ROOM`](Refusal::ROOM) 1 to 3 (where 1,048,576 entries of the columns are short, build anew with a higher limit).
 #[allow(clippy::too_many_arguments)] // a tree that is read, and one that is written
 pub fn add_source(
     asked: Asked<'_>,

@@ -51,7 +51,7 @@ pub struct Wall {
 /// assert_eq!(refusal.wall, Some(Wall { axis: 0, reason: Reason::Above }));
 /// assert_eq!(
 ///     refusal.to_string(),
-///     "source 1 lies above the box on axis 0: enlarge the box, or mend or remove the source (refused 6 SOURCE)"
+///     "source 1 lies above the box on axis 0: enlarge the box and build anew, or mend or remove the source (refused 6 SOURCE)"
 /// );
 /// ```
 #[derive(Clone, Copy, Debug, PartialEq, Eq, Hash)]
@@ -79,7 +79,7 @@ impl Refusal {
     /// The coordinates are not whole points, those of a single point are not one for each axis, the readings are not as many
     /// as the tree has sources, or the columns to salvage differ in length.
     pub const SHAPE: u64 = 3;
-    /// There are more than 1,048,576 points or keys to group, or more than a tree file holds.
+    /// There are more than 1,048,576 points (a source that is added counts) or keys to group, or more than a tree file holds.
     pub const COUNT: u64 = 4;
     /// The order is not 1 to 64, and targets are used.
     pub const ORDER: u64 = 5;
@@ -147,19 +147,21 @@ impl Refusal {
     fn short_slice(&self) -> &'static str {
         match self.value {
             1 => {
-                "work is short: for a build lend two entries for each source and one for each target that is used, for list sizes one for each node in each slice, for the sum check one more than there are sources"
+                "work is short: for a build, a balanced tree and a source that is added lend two entries for each source (the added one too) and one for each target that is used, for list sizes one for each node in each slice, for the sum check one more than there are sources"
             }
-            2 => "the order column is short: lend one entry for each source",
+            2 => {
+                "the order column is short: lend one entry for each source, and where one is added for that too"
+            }
             3 => {
-                "a node column is short: lend one entry for each node, or, where the most that count (1048576) were lent, hand fewer rows to a salvage or raise the limit of a cell"
+                "a node column is short: lend one entry for each node, or, where the most that count (1048576) were lent, hand fewer rows to a salvage or raise the limit of a cell and build anew"
             }
             4 => "the U starts are short: lend one entry more than there are nodes",
             5 => "the V starts are short: lend one entry more than there are nodes",
             6 => {
-                "the U keys are short: lend more, or, where the most that count (16777216) were lent, raise the limit of a cell"
+                "the U keys are short: lend more, or, where the most that count (16777216) were lent, raise the limit of a cell and build anew"
             }
             7 => {
-                "the V keys are short: lend more, or, where the most that count (16777216) were lent, raise the limit of a cell"
+                "the V keys are short: lend more, or, where the most that count (16777216) were lent, raise the limit of a cell and build anew"
             }
             8 => {
                 "the lookup output, the grouping's starts or indices, or near work's counts are short: lend one output or index for each point, one start more than there are nodes, one count for each node"
@@ -172,7 +174,7 @@ impl Refusal {
                 "the file of the tree is short: lend 8 bytes for each key, 4 for each other number, and 116"
             }
             _ => {
-                "a lent slice is short: lend a longer one, or, where the most was lent, raise the limit of a cell"
+                "a lent slice is short: lend a longer one, or, where the most was lent, raise the limit of a cell and build anew"
             }
         }
     }
@@ -190,7 +192,7 @@ impl Refusal {
                 "the coordinates are not whole points, or the readings are not as many as the tree has sources, or the columns to salvage differ in length: give as many coordinates for each point as there are axes, one reading for each source, and key, own and begin of one length"
             }
             Refusal::COUNT => {
-                "there are more than 1048576 points or keys, or more than a tree file holds (1048576 nodes, 16777216 keys of a list, 4294967295 bytes of sections): hand in fewer at a time"
+                "there are more than 1048576 points (a source that is added counts) or keys, or more than a tree file holds (1048576 nodes, 16777216 keys of a list, 4294967295 bytes of sections): hand in fewer at a time"
             }
             Refusal::ORDER => {
                 "the order is not 1 to 64: choose one of these, or hand in no targets"
@@ -216,7 +218,7 @@ impl Refusal {
                 "the tree file breaks its rules, or it holds, or is to hold, an order or lists that are not its tree's: write the file anew from what the build and the list call answered"
             }
             Refusal::NOTBUILT => {
-                "the tree, its order or its lists are not those that the points give: hand them in as the build and the list call answered them, with the points and the box of that build, and where they are asked for its limit and flag"
+                "the tree, its order or its lists are not those that the points give: hand them in as the build and the list call answered them, with the points and the box of that build, and each source that was added since; where limit and flag are asked for, those of the build, and a tree that targets or a grid refined, or that was balanced, is to be built anew without"
             }
             Refusal::PARTIAL => {
                 "a cell that is split lacks a child: build the tree with empty cells kept"
@@ -267,7 +269,7 @@ impl fmt::Display for Refusal {
             Refusal::SOURCE => {
                 let cures = [
                     "mend or remove the source",
-                    "enlarge the box, or mend or remove the source",
+                    "enlarge the box and build anew, or mend or remove the source",
                 ];
                 self.write_outside(f, "source", cures)
             }

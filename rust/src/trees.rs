@@ -168,8 +168,13 @@ impl Tree {
         ))
     }
 
-    /// The tree of the sources and one more, numbered after the last: the one that [`Tree::build`] would make of the longer list.
-    /// This one is to be the build of `sources` with this limit and flag in its own box, without targets, and is not changed.
+    /// The tree of the sources and one more, numbered after the last: the one that [`Tree::build`] would make of the longer list
+    /// in this tree's box. This one is to be the build of `sources` with this limit and flag in its own box, without targets and
+    /// not balanced, and is not changed. Where a source was added before, it is one of `sources`. A tree may be the build with
+    /// two limits, and is taken with either: a wrong limit is not always refused.
+    ///
+    /// As it stands the call takes longer than a build of the longer list, 1.5 to 2 times as long with 100,000 points in 3 axes
+    /// (docs/CHANGES.md, order 7). It spares no time; it gives the judgement that this tree is that build, and what follows.
     ///
     /// Rows of the lists far from the new source hold the same keys in both trees. The V row of a cell does, if the new source's
     /// cell at the level of its parent neither is that parent nor touches it; the U row of a leaf, if it and the deepest cell
@@ -187,7 +192,8 @@ impl Tree {
     /// ```
     ///
     /// # Errors
-    /// As [`lent::add_source`]; [`ROOM`](Refusal::ROOM) only, with 3, if the tree has more than 1,048,576 nodes.
+    /// As [`lent::add_source`]; [`ROOM`](Refusal::ROOM) only, with 3, if the tree has more than 1,048,576 nodes: build anew
+    /// with a higher limit, as another limit than this tree's own is refused here.
     pub fn with_source(
         &self,
         sources: &[f64],

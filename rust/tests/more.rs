@@ -128,6 +128,38 @@ fn one_after_the_other() {
     }
 }
 
+/// A tree that is the build with two limits is taken with either, and each gives its own longer build.
+#[test]
+fn a_tree_of_two_limits_is_taken_with_either() {
+    let (bounds, points) = (Bounds::new(&[4.0], 4.0), [0.5, 7.5]);
+    let tree = built(&bounds, &points, 1, false);
+    for limit in [1, 64] {
+        let found = tree.with_source(&points, &[7.0], limit, false);
+        assert_eq!(found, Ok(built(&bounds, &[0.5, 7.5, 7.0], limit, false)));
+    }
+}
+
+/// The sentences by number fit this call too: what was added counts, and another box or limit is for a build.
+#[test]
+fn the_sentences_fit_a_source_that_is_added() {
+    for (number, value, said) in [
+        (Refusal::COUNT, 0, "(a source that is added counts)"),
+        (Refusal::SOURCE, 4, "enlarge the box and build anew"),
+        (Refusal::ROOM, 1, "for each source (the added one too)"),
+        (Refusal::ROOM, 2, "where one is added for that too"),
+        (Refusal::ROOM, 3, "raise the limit of a cell and build anew"),
+        (Refusal::NOTBUILT, 0, "each source that was added since"),
+        (
+            Refusal::NOTBUILT,
+            0,
+            "targets or a grid refined, or that was balanced",
+        ),
+    ] {
+        let text = Refusal::new(number, value).to_string();
+        assert!(text.contains(said), "{text}");
+    }
+}
+
 #[test]
 fn what_is_not_their_build_is_refused() {
     let (bounds, points) = (Bounds::new(&[4.0], 4.0), [0.5, 1.5, 6.5, 7.5]);

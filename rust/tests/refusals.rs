@@ -59,7 +59,7 @@ fn an_index_is_told() {
         assert!(sentence(Refusal::new(number, 17)).0.contains(" 17"));
     }
     let text = Refusal::new(Refusal::SOURCE, 17).to_string();
-    let right = "source 17 lies outside the box or is not a finite number: enlarge the box, or mend or remove the source (refused 6 SOURCE)";
+    let right = "source 17 lies outside the box or is not a finite number: enlarge the box and build anew, or mend or remove the source (refused 6 SOURCE)";
     assert_eq!(text, right);
 }
 
@@ -67,7 +67,7 @@ fn an_index_is_told() {
 #[test]
 fn a_wall_is_told_in_words() {
     let source = Refusal::new(Refusal::SOURCE, 17);
-    let right = "source 17 lies below the box on axis 1: enlarge the box, or mend or remove the source (refused 6 SOURCE)";
+    let right = "source 17 lies below the box on axis 1: enlarge the box and build anew, or mend or remove the source (refused 6 SOURCE)";
     assert_eq!(source.behind(1, Reason::Below).to_string(), right);
     let point = Refusal::new(Refusal::POINT, 0);
     let right = "target or looked-up point 0 lies above the box on axis 2: enlarge the box, or mend or remove the point (refused 7 POINT)";
@@ -138,7 +138,10 @@ fn room_has_both_cures() {
             cure.starts_with("lend ") && cure.contains("where the most"),
             "{cure}"
         );
-        assert!(cure.ends_with("raise the limit of a cell"), "{cure}");
+        assert!(
+            cure.ends_with("raise the limit of a cell and build anew"),
+            "{cure}"
+        );
     }
 }
 

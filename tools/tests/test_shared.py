@@ -25,13 +25,13 @@ class Shared(unittest.TestCase):
     def test_cures(self):
         """The sentences of 6, 7 and 8 have the same cures in C, in Rust and for the listing."""
         cures = {
-            "include/lohandema.h": ["enlarge the box, or mend or remove the source", "target or looked-up point lies outside the box or "
+            "include/lohandema.h": ["enlarge the box and build anew, or mend or remove the source", "target or looked-up point lies outside the box or "
                                     "is not a finite number", "is not a finite number", "lies below the box",
-                                    "lies above the box", "where the most was lent, raise the limit"],
-            "rust/src/refusal.rs": ["enlarge the box, or mend or remove the source", "enlarge the box, or mend or remove the point",
+                                    "lies above the box", "where the most was lent, raise the limit and "],
+            "rust/src/refusal.rs": ["enlarge the box and build anew, or mend or remove the source", "enlarge the box, or mend or remove the point",
                                     "mend or remove the source", "mend or remove the point",
                                     "is not a finite number on axis", "lies below the box on axis", "lies above the box on axis",
-                                    "where the most was lent, raise the limit"],
+                                    "where the most was lent, raise the limit of a cell and build anew"],
             "tools/refusals.txt": ["6 * source %V, counted from 0, is outside the box or is not a finite number; take",
                                    "7 * target %V, counted from 0, is outside the box or is not a finite number; take",
                                    "is not a finite number on axis %A", "lies below the box on axis %A",
