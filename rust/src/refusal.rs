@@ -88,7 +88,8 @@ impl Refusal {
     /// A target or a looked-up point is outside the box or not finite; the value is the lowest index of such, 0 for a
     /// single point, and the wall says where and why.
     pub const POINT: u64 = 7;
-    /// A lent slice is short. The value says which: 1 work (of a build, of the list sizes, or the sums of the sum check),
+    /// A lent slice is short. The value says which: 1 work (of a build, of a balanced tree, of a source that is added, of the
+    /// list sizes, or the sums of the sum check),
     /// 2 order, 3 a node column, 4 U starts, 5 V starts, 6 U keys, 7 V keys, 8 the output of a lookup, the starts or indices
     /// of a grouping or near work's counts, 9 sourced cells, 10 the list of changes of a salvage, 11 the file of a tree.
     pub const ROOM: u64 = 8;
