@@ -119,9 +119,9 @@ enum {
     LOHANDEMA_ABOVE = 3
 };
 
-/* The values of 8 ROOM; the lowest that is short is told. 1 is the work of a build or of a count of its nodes, of lohandema_balance_tree and of
- * lohandema_add_source, the work or row of
- * lohandema_get_list_sizes, and the sums of lohandema_check_sums. */
+/* The values of 8 ROOM; the lowest that is short is told. 1 is the work of a build or of a count of its nodes, of
+ * lohandema_balance_tree and of lohandema_add_source, the work or row of lohandema_get_list_sizes, and the sums of
+ * lohandema_check_sums. */
 enum {
     LOHANDEMA_ROOM_WORK = 1,
     LOHANDEMA_ROOM_ORDER = 2,
