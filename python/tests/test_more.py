@@ -168,7 +168,6 @@ class More(unittest.TestCase):
             with self.assertRaisesRegex(error, said):
                 tree.with_source(points, [3.0, 3.0], **{"keep_empty": False, **words})
 
-
     @with_numpy
     def test_arrays_that_are_no_point(self):
         tree = Tree.build([[0.5, 1.5]], Box([4.0, 4.0], 4.0))
