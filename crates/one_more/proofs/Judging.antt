@@ -9,11 +9,12 @@ use lib.ListN.{length}
 use borrow.Author.Tests.{eq-eqb, ne-eqb, eqb-true, lt-ltb, le-ltb, ltb-true}
 use Rattle.refusal.specs.declared.Refusal.{Refusal}
 use Rattle.refusal.specs.declared.Refusal.the-variants.{Shape, Count, Source, Tree, NotBuilt}
+use Rattle.refusal.specs.declared.Outcome.{Outcome}
 use Rattle.refusal.specs.declared.Outcome.the-variants.{Done, Refused}
 use Rattle.refusal.specs.declared.Wall.{Wall}
-use Rattle.refusal.specs.Chain.{ask}
+use Rattle.refusal.specs.Chain.{ask, _then_}
 use Rattle.refusal.proofs.Chain.{asked, both-done}
-use Rattle.slices.proofs.Tests.{and-l}
+use Rattle.slices.proofs.Tests.{and-l, and-r}
 use Rattle.morton.specs.Keys.{axesKnown}
 use Rattle.space.specs.declared.Box.{Box}
 use Rattle.space.specs.declared.Frame.{Frame}
@@ -22,7 +23,8 @@ use Rattle.space.specs.Cells.{frameOf, inside}
 use Rattle.space.specs.Rows.{mostPoints, rowsOf, rowsInside}
 use Rattle.space.specs.Walls.{firstWall}
 use Rattle.tree.specs.WellFormed.{wellFormed}
-use Rattle.was_built.specs.Build.{isBuild}
+use Rattle.was_built.specs.Build.{asksAlone, isBuild}
+use Rattle.was_built.proofs.Judged.{Are, are}
 use Rattle.one_more.specs.More.{More, judged}
 use Rattle.one_more.specs.Steps.{Sound}
 
@@ -82,6 +84,22 @@ module _ (q : More) where
         long = long;
         point-inside = asked within wall (sixth .1);
       }
+
+  -- what is asked before the tree is judged to be a build
+  abbrev first : Outcome
+  first =
+      boxOutcome (q .box)
+      then ask (eqb (length (q .sources) % q .box .axes) 0) Shape
+      then ask (ltb (rowsOf (q .box) (q .sources)) mostPoints) Count
+      then ask formed Tree
+
+  -- the tree handed in is the build of the former sources
+  pub handed-in : judged q ≡ Done → Are (asksAlone (q .box) (q .limit) (q .keep) (q .sources)) (q .tree) (q .order)
+  unfolding judged isBuild
+  handed-in h =
+      let all = both-done (first then ask built NotBuilt) (ask within (Source (firstWall (rowsOf (q .box) (q .sources)) (frameOf (q .box)) (q .point)))) h in
+      let is = asked built NotBuilt (both-done first (ask built NotBuilt) (all .0) .1) in
+      are (asksAlone (q .box) (q .limit) (q .keep) (q .sources)) (q .tree) (q .order) (and-r (eqb (rowsInside (q .box) (q .sources)) (rowsOf (q .box) (q .sources))) _ is)
 
 -- the test of a tree over a known number of axes
 pub formed-is : (d : ℕ) (t r : Bool) → axesKnown d ≡ true → r ≡ (axesKnown d && t) → t ≡ r

@@ -3,3 +3,4 @@ pub mod Laid
 pub mod Judging
 pub mod Starting
 pub mod Ending
+pub mod Promised

@@ -8,7 +8,7 @@ use native.Mathlib.Omega.{arith}
 use native.Mathlib.Nat.{div-add-mod', mul-div-left, mul-mod-left, suc-mul, zero-div, mul-le-mul-right}
 use lib.Ieee.{Float, nan}
 use lib.ListN.{length, getD, take, drop, length-append, List·getD-append}
-use lib.Seq.{getD-drop, getD-take, getD-append-add, length-take-le}
+use lib.Seq.{ext-getD, getD-drop, getD-take, getD-append-add, length-take-le}
 use Rattle.slices.proofs.Tests.{clash, lt-or-le}
 use Rattle.morton.specs.Anchors.{encode}
 use Rattle.space.specs.declared.Box.{Box}
@@ -16,10 +16,11 @@ use Rattle.space.specs.declared.Frame.{Frame}
 use Rattle.space.specs.declared.Place.{Place}
 use Rattle.space.specs.Cells.{frameOf, cell16, isAt, placeNumber, inside, anchors16, code16}
 use Rattle.space.specs.Rows.{rowsOf, rowsInside, codes16}
-use Rattle.space.proofs.Batches.{rows-le, row-inside, row-outside}
+use Rattle.space.proofs.Batches.{codes-length, code-at-row, rows-le, row-inside, row-outside}
 use Rattle.space.proofs.Refusals.{Fine, fine}
 use Rattle.space.proofs.Unread.{point-unread}
 use Rattle.laying.specs.Points.{codesOf}
+use Rattle.further.specs.Further.{further}
 use Rattle.one_more.specs.More.{longerOf}
 use Rattle.one_more.specs.Steps.{Sound}
 
@@ -114,3 +115,34 @@ module _ (b : Box) (sources point : List Float) (w : Sound b sources point) wher
   -- the new source by itself
   pub one-row : rowsOf b (take (b .axes) point) ≡ 1
   one-row = ap (λ (x : ℕ). x / b .axes) (new-long ∙ sym (omega (arith, suc-mul 0 (b .axes)))) ∙ mul-div-left 1 {n = b .axes} (omega (arith, known .least))
+
+  -- the codes of the longer list are the former codes and the new source's
+  pub codes-longer : codesOf b (longerOf b sources point) ≡ further (codesOf b sources) (code16 (frameOf b) point)
+  codes-longer = ext-getD 0 (codesOf b longer) (further (codesOf b sources) new) (l₁ ∙ sym l₂) (λ i l. go i (omega (arith, l, l₁)) (lt-or-le i n))
+    where
+      new : ℕ
+      new = code16 (frameOf b) point
+
+      l₀ : length (codesOf b sources) ≡ n
+      l₀ = codes-length n (frameOf b) sources
+
+      l₁ : length (codesOf b longer) ≡ suc n
+      l₁ = codes-length (rowsOf b longer) (frameOf b) longer ∙ rows-longer
+
+      l₂ : length (further (codesOf b sources) new) ≡ suc n
+      l₂ = length-append (codesOf b sources) (new ∷ []) ∙ omega (arith, l₀)
+
+      go : (i : ℕ) → i < suc n → (i < n) ⊎ (n ≤ i) → getD (codesOf b longer) i 0 ≡ getD (further (codesOf b sources) new) i 0
+      go i l (inl q) =
+          code-at-row (rowsOf b longer) i (frameOf b) longer (omega (arith, l, rows-longer))
+          ∙ former-code i q
+          ∙ sym (code-at-row n i (frameOf b) sources q)
+          ∙ sym (List·getD-append (codesOf b sources) (new ∷ []) 0 i (omega (arith, q, l₀)))
+      go i l (inr q) =
+          let e : i ≡ n = omega arith in
+          let z : i ≡ length (codesOf b sources) + 0 = omega (arith, e, l₀) in
+          code-at-row (rowsOf b longer) i (frameOf b) longer (omega (arith, l, rows-longer))
+          ∙ ap (λ (x : ℕ). code16 (frameOf b) (drop (x * b .axes) longer)) e
+          ∙ last-code
+          ∙ code-same (frameOf b) point (take (b .axes) point) (λ a h. getD-take (b .axes) point a nan h)
+          ∙ sym (ap (λ (x : ℕ). getD (further (codesOf b sources) new) x 0) z ∙ getD-append-add (codesOf b sources) (new ∷ []) 0 0)

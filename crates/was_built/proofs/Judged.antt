@@ -53,14 +53,14 @@ equal-same : (xs ys : List ℕ) → xs ≡ ys → same xs ys ≡ true
 equal-same xs ys e = subst (λ (zs : List ℕ). same xs zs ≡ true) e (same-self xs)
 
 -- the columns as facts
-record Are (a : Asked) (t : Columns) (order : List ℕ) : Type 0 where
+pub record Are (a : Asked) (t : Columns) (order : List ℕ) : Type 0 where
   pub keys : t .keys ≡ builtKeys a
   pub own : t .own ≡ builtOwn a
   pub begin : t .begin ≡ builtBegins a
   pub total : t .total ≡ builtTotals a
   pub orders : order ≡ builtOrder a
 
-are : (a : Asked) (t : Columns) (order : List ℕ) → columnsAre a t order ≡ true → Are a t order
+pub are : (a : Asked) (t : Columns) (order : List ℕ) → columnsAre a t order ≡ true → Are a t order
 unfolding columnsAre
 are a t order h =
     let x = and-l (same (t .keys) (builtKeys a) && same (t .own) (builtOwn a)) _ h in
@@ -80,6 +80,20 @@ all-are a t order r =
     both (both (equal-same (t .keys) (builtKeys a) (r .keys)) (equal-same (t .own) (builtOwn a) (r .own)))
     (both (both (equal-same (t .begin) (builtBegins a) (r .begin)) (equal-same (t .total) (builtTotals a) (r .total))) (equal-same order (builtOrder a) (r .orders)))
 
+-- the keys and own sources of a build without targets, by the codes of its sources
+module _ (b : Box) (limit : ℕ) (keep : Bool) (sources : List Float) where
+  no-codes : codesOf b [] ≡ []
+  unfolding codes16
+  no-codes = ap (λ (m : ℕ). codes16 m (frameOf b) []) (zero-div (b .axes))
+
+  pub alone-keys : builtKeys (asksAlone b limit keep sources) ≡ nodes (ruleOf (asksAlone b limit keep sources)) (codesOf b sources) []
+  unfolding builtKeys
+  alone-keys = ap (nodes (ruleOf (asksAlone b limit keep sources)) (codesOf b sources)) no-codes
+
+  pub alone-own : builtOwn (asksAlone b limit keep sources) ≡ ownColumn (b .axes) (nodes (ruleOf (asksAlone b limit keep sources)) (codesOf b sources) []) (codesOf b sources)
+  unfolding builtOwn
+  alone-own = ap (λ (ks : List ℕ). ownColumn (b .axes) ks (codesOf b sources)) alone-keys
+
 module _ (b : Box) (limit : ℕ) (keep : Bool) (sources : List Float) (keys own begin total order : List ℕ)
     (known : axesKnown (b .axes) ≡ true) (formed : wellFormed (b .axes) keys own begin total ≡ true) where
   abbrev a : Asked
@@ -91,21 +105,9 @@ module _ (b : Box) (limit : ℕ) (keep : Bool) (sources : List Float) (keys own 
   abbrev s : List ℕ
   s = codesOf b sources
 
-  no-codes : codesOf b [] ≡ []
-  unfolding codes16
-  no-codes = ap (λ (m : ℕ). codes16 m (frameOf b) []) (zero-div (b .axes))
-
-  keys-are : builtKeys a ≡ nodes g s []
-  unfolding builtKeys
-  keys-are = ap (nodes g s) no-codes
-
-  own-are : builtOwn a ≡ ownColumn (b .axes) (nodes g s []) s
-  unfolding builtOwn
-  own-are = ap (λ (ks : List ℕ). ownColumn (b .axes) ks s) keys-are
-
   order-are : builtOrder a ≡ orderColumn (b .axes) (nodes g s []) s
   unfolding builtOrder
-  order-are = ap (λ (ks : List ℕ). orderColumn (b .axes) ks s) keys-are
+  order-are = ap (λ (ks : List ℕ). orderColumn (b .axes) ks s) (alone-keys b limit keep sources)
 
   begin-are : builtBegins a ≡ beginColumn (builtOwn a)
   unfolding builtBegins
@@ -128,8 +130,8 @@ module _ (b : Box) (limit : ℕ) (keep : Bool) (sources : List Float) (keys own 
       let codes = codes-lt b sources in
       let right = by-codes b sources keys own begin order p in
       let c = formed-iff g s keys own begin order known codes total formed .0 (right, grown-right g s keys own begin total order known codes formed right r) in
-      let ks : keys ≡ builtKeys a = c .keys-are ∙ sym keys-are in
-      let os : own ≡ builtOwn a = c .owns-are ∙ sym own-are in
+      let ks : keys ≡ builtKeys a = c .keys-are ∙ sym (alone-keys b limit keep sources) in
+      let os : own ≡ builtOwn a = c .owns-are ∙ sym (alone-own b limit keep sources) in
       both (eq-eqb (rowsInside b sources) (rowsOf b sources) (all-inside b sources g refl keys own begin total order known codes formed p))
       (all-are a (columns keys own begin total) order (record {
         keys = ks;
@@ -146,8 +148,8 @@ module _ (b : Box) (limit : ℕ) (keep : Bool) (sources : List Float) (keys own 
       let ins = eqb-true (rowsInside b sources) (rowsOf b sources) (and-l _ _ h) in
       let r = are a (columns keys own begin total) order (and-r (eqb (rowsInside b sources) (rowsOf b sources)) _ h) in
       let (p, q) = formed-iff g s keys own begin order known codes total formed .1 (record {
-        keys-are = r .keys ∙ keys-are;
-        owns-are = r .own ∙ own-are;
+        keys-are = r .keys ∙ alone-keys b limit keep sources;
+        owns-are = r .own ∙ alone-own b limit keep sources;
         begins-are = r .begin ∙ begin-are ∙ sym (ap beginColumn (r .own));
         orders-are = r .orders ∙ order-are;
       }) in
