@@ -180,7 +180,7 @@ static void write_tree(void)
     free(file);
 }
 
-/* Of every row twice, so that half of them are dropped, and the whole order column. */
+/* Of every row twice, so that half of them are dropped, and the whole order column; the lists' slices are free by now. */
 static void salvage(void)
 {
     size_t count, entries, changes;
@@ -379,8 +379,8 @@ static struct {
     {"sum_check", sum_check, 96 * KIB, 0},
     {"check_sums", check_sums, LOHANDEMA_STACK, 0},
     {"write_tree", write_tree, 96 * KIB, 0},
-    {"salvage", salvage, 8 * KIB, 0},
     {"read_tree", read_tree, 96 * KIB, 0},
+    {"salvage", salvage, 8 * KIB, 0},
     {"is_arrangement", is_arrangement, 32 * KIB, 0},
     {"balance_tree", balance_tree, LOHANDEMA_STACK, 0},
     {"build_tree without targets", build_without_targets, 48 * KIB, 0},
