@@ -1,0 +1,66 @@
+-- Small inputs on one axis, computed: which row of a repeated key is kept, how added keys are ordered, and what room a call needs.
+use mathlib.Core.Path.{_≡_, refl}
+use mathlib.Core.List.{List, [], _∷_}
+use Prim.Native.Nat.{ℕ}
+use Rattle.refusal.specs.declared.Refusal.the-variants.{Room}
+use Rattle.refusal.specs.declared.Outcome.the-variants.{Done, Refused}
+use Rattle.slices.specs.Lists.{any, sum, count, filter, range, concatMap}
+use Rattle.slices.specs.Order.{ascending}
+use Rattle.morton.specs.Keys.{upwards}
+use Rattle.tree.specs.Nodes.{leaf, ownOf, nodeNumber}
+use Rattle.tree.specs.Order.{before}
+use Rattle.growth.specs.Columns.{beginColumn}
+use Rattle.salvaged.specs.Nodes.{Input, input, put, putAll, keptKeys}
+use Rattle.salvaged.specs.Columns.{newKeys, newCount, newOwn, newBegins, newOrder}
+use Rattle.salvaged.specs.Changes.{keysWhere, changeCodes, changedKeys}
+use Rattle.salvaged.specs.Answers.{Rooms, salvageCheck}
+
+-- of two rows with one key, and runs that both fit, the first is kept
+abbrev twice : Input
+twice = input 1 (1 ∷ 1 ∷ []) (1 ∷ 2 ∷ []) (0 ∷ 0 ∷ []) (7 ∷ 8 ∷ [])
+
+twice-order : newOrder twice ≡ 7 ∷ []
+unfolding newOrder newCount leaf any ownOf keptKeys putAll put before filter concatMap upwards
+twice-order = refl
+
+twice-keys : changedKeys twice ≡ 1 ∷ 0 ∷ []
+unfolding changedKeys keysWhere newOwn newCount beginColumn sum leaf any ownOf nodeNumber ascending range keptKeys putAll put before filter concatMap upwards
+twice-keys = refl
+
+twice-codes : changeCodes twice ≡ 2 ∷ 3 ∷ []
+unfolding changeCodes keysWhere newOwn newCount beginColumn sum leaf any ownOf nodeNumber ascending range keptKeys putAll put before filter concatMap upwards
+twice-codes = refl
+
+-- added keys stand in the list by their value, which is neither the tree's order nor the order of their rows
+abbrev deep : Input
+deep = input 1 (3 ∷ 131075 ∷ []) (0 ∷ 0 ∷ []) (0 ∷ 0 ∷ []) []
+
+deep-tree : newKeys deep ≡ 0 ∷ 1 ∷ 2 ∷ 3 ∷ 32769 ∷ 65538 ∷ 131075 ∷ []
+unfolding keptKeys putAll put before filter concatMap upwards
+deep-tree = refl
+
+deep-added : changedKeys deep ≡ 0 ∷ 1 ∷ 2 ∷ 32769 ∷ 65538 ∷ []
+unfolding changedKeys keysWhere newOwn newCount beginColumn sum leaf any ownOf nodeNumber ascending range keptKeys putAll put before filter concatMap upwards
+deep-added = refl
+
+-- ---- rooms
+
+abbrev roomsOf : (order nodes changes : ℕ) → Rooms
+roomsOf order nodes changes = record { order = order; keys = nodes; own = nodes; begins = nodes; totals = nodes; codes = changes; changed = changes }
+
+-- two nodes, one source and two changes are enough room, and one less of any is too little
+twice-done : salvageCheck twice (roomsOf 1 2 2) ≡ Done
+unfolding salvageCheck changedKeys keysWhere newOwn newCount beginColumn sum leaf any ownOf nodeNumber ascending range keptKeys putAll put before filter concatMap upwards
+twice-done = refl
+
+no-order : salvageCheck twice (roomsOf 0 1 1) ≡ Refused (Room 2)
+unfolding salvageCheck changedKeys keysWhere newOwn newCount beginColumn sum leaf any ownOf nodeNumber ascending range keptKeys putAll put before filter concatMap upwards
+no-order = refl
+
+no-nodes : salvageCheck twice (roomsOf 1 1 1) ≡ Refused (Room 3)
+unfolding salvageCheck changedKeys keysWhere newOwn newCount beginColumn sum leaf any ownOf nodeNumber ascending range keptKeys putAll put before filter concatMap upwards
+no-nodes = refl
+
+no-changes : salvageCheck twice (roomsOf 1 2 1) ≡ Refused (Room 10)
+unfolding salvageCheck changedKeys keysWhere newOwn newCount beginColumn sum leaf any ownOf nodeNumber ascending range keptKeys putAll put before filter concatMap upwards
+no-changes = refl

@@ -1,0 +1,4 @@
+pub mod Examples
+pub mod Taken
+pub mod Runs
+pub mod Pairs
