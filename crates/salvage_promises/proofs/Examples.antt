@@ -43,6 +43,22 @@ deep-added : changedKeys deep ≡ 0 ∷ 1 ∷ 2 ∷ 32769 ∷ 65538 ∷ []
 unfolding changedKeys keysWhere newOwn newCount beginColumn sum leaf any ownOf nodeNumber ascending range keptKeys putAll put before filter concatMap upwards
 deep-added = refl
 
+-- rows that only move to their places in Z order are in the list under no code
+abbrev shuffled : Input
+shuffled = input 1 (0 ∷ 32769 ∷ 1 ∷ []) (0 ∷ 1 ∷ 1 ∷ []) (0 ∷ 1 ∷ 0 ∷ []) (7 ∷ 8 ∷ [])
+
+shuffled-tree : newKeys shuffled ≡ 0 ∷ 1 ∷ 32769 ∷ []
+unfolding keptKeys putAll put before filter concatMap upwards
+shuffled-tree = refl
+
+shuffled-order : newOrder shuffled ≡ 7 ∷ 8 ∷ []
+unfolding newOrder newCount leaf any ownOf keptKeys putAll put before filter concatMap upwards
+shuffled-order = refl
+
+shuffled-list : changedKeys shuffled ≡ []
+unfolding changedKeys keysWhere newOwn newCount beginColumn sum leaf any ownOf nodeNumber ascending range keptKeys putAll put before filter concatMap upwards
+shuffled-list = refl
+
 -- ---- rooms
 
 abbrev roomsOf : (order nodes changes : ℕ) → Rooms
