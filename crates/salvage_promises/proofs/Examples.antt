@@ -31,7 +31,7 @@ twice-codes : changeCodes twice ≡ 2 ∷ 3 ∷ []
 unfolding changeCodes keysWhere newOwn newCount beginColumn sum leaf any ownOf nodeNumber ascending range keptKeys putAll put before filter concatMap upwards
 twice-codes = refl
 
--- added keys stand in the list by their value, which is neither the tree's order nor the order of their rows
+-- added keys stand in the list by their value, and not level by level
 abbrev deep : Input
 deep = input 1 (3 ∷ 131075 ∷ []) (0 ∷ 0 ∷ []) (0 ∷ 0 ∷ []) []
 
@@ -42,6 +42,18 @@ deep-tree = refl
 deep-added : changedKeys deep ≡ 0 ∷ 1 ∷ 2 ∷ 32769 ∷ 65538 ∷ []
 unfolding changedKeys keysWhere newOwn newCount beginColumn sum leaf any ownOf nodeNumber ascending range keptKeys putAll put before filter concatMap upwards
 deep-added = refl
+
+-- by their value, where the tree's order, the levels' and this are three
+abbrev apart : Input
+apart = input 1 (3 ∷ 65539 ∷ 131075 ∷ []) (0 ∷ 0 ∷ 0 ∷ []) (0 ∷ 0 ∷ 0 ∷ []) []
+
+apart-tree : newKeys apart ≡ 0 ∷ 1 ∷ 2 ∷ 3 ∷ 32770 ∷ 65539 ∷ 32769 ∷ 65538 ∷ 131075 ∷ []
+unfolding keptKeys putAll put before filter concatMap upwards
+apart-tree = refl
+
+apart-added : changedKeys apart ≡ 0 ∷ 1 ∷ 2 ∷ 32769 ∷ 32770 ∷ 65538 ∷ []
+unfolding changedKeys keysWhere newOwn newCount beginColumn sum leaf any ownOf nodeNumber ascending range keptKeys putAll put before filter concatMap upwards
+apart-added = refl
 
 -- rows that only move to their places in Z order are in the list under no code
 abbrev shuffled : Input
@@ -64,7 +76,7 @@ shuffled-list = refl
 abbrev roomsOf : (order nodes changes : ℕ) → Rooms
 roomsOf order nodes changes = record { order = order; keys = nodes; own = nodes; begins = nodes; totals = nodes; codes = changes; changed = changes }
 
--- two nodes, one source and two changes are enough room, and one less of any is too little
+-- one source, two nodes and two changes are enough room, and one less of any is too little; the first in this order is told
 twice-done : salvageCheck twice (roomsOf 1 2 2) ≡ Done
 unfolding salvageCheck changedKeys keysWhere newOwn newCount beginColumn sum leaf any ownOf nodeNumber ascending range keptKeys putAll put before filter concatMap upwards
 twice-done = refl

@@ -28,7 +28,7 @@ use Rattle.salvaged.specs.Columns.{newKeys, newOwn, newSources, newBegins, newT
 use Rattle.salvaged.specs.Changes.{changedKeys, changeCodes}
 use Rattle.salvaged.specs.Answers.{Rooms, nodeRoom, salvageCheck, countsOr}
 use Rattle.salvaged.proofs.Formed as F
-use Rattle.salvaged.proofs.Again.{again, Unchanged, comes-back}
+use Rattle.salvaged.proofs.Again.{again, Unchanged, comes-back, salvaged-formed}
 use Rattle.salvage_promises.specs.Promises.{GivenBack}
 
 -- one more check that passes
@@ -125,11 +125,7 @@ module _ (i : Input) (r : Rooms) (done : salvageCheck i r ≡ Done) where
   p : Passes i r
   p = all-passed i r done
 
-  -- all output is well formed
-  pub well-formed : wellFormed (i .axes) (newKeys i) (newOwn i) (newBegins i) (newTotals i) ≡ true
-  well-formed = F.well-formed i (p .known) (p .few)
-
-  -- so demand 3 holds of it
+  -- demand 3 holds of what it gave
   pub meets-demand-3 : Runs (i .axes) (newKeys i) (newOwn i) (newBegins i)
       × Once (i .axes) (newKeys i) (newOwn i) (newBegins i) (uRow (i .axes) (newKeys i) (newOwn i)) (vRow (i .axes) (newKeys i) (newOwn i))
       × Near (i .axes) (newKeys i) (newOwn i) (newBegins i) (uRow (i .axes) (newKeys i) (newOwn i))
@@ -139,7 +135,7 @@ module _ (i : Input) (r : Rooms) (done : salvageCheck i r ≡ Done) where
 
   -- what it gave is taken again by the same rooms, and given back as it is
   pub taken-again : salvageCheck (again i) r ≡ Done
-  taken-again = taken (again i) r (p .known) (newTotals i) well-formed (F.order-length i) (p .order) (p .nodes)
+  taken-again = taken (again i) r (p .known) (newTotals i) (salvaged-formed i r done) (F.order-length i) (p .order) (p .nodes)
 
   pub given-back-again : GivenBack (again i) r (newTotals i)
-  given-back-again = given-back (again i) r (p .known) (newTotals i) well-formed (F.order-length i) (p .order) (p .nodes)
+  given-back-again = given-back (again i) r (p .known) (newTotals i) (salvaged-formed i r done) (F.order-length i) (p .order) (p .nodes)
