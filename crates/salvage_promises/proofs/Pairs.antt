@@ -13,15 +13,15 @@ use Rattle.salvaged.specs.Nodes.{Input}
 use Rattle.salvaged.specs.Columns.{newKeys}
 use Rattle.salvaged.specs.Changes.{keyAt, keysWhere, notValid, repeated, added, cleared, moved, changedKeys, changeCodes}
 use Rattle.salvaged.proofs.Listed.{codes-length}
-use Rattle.salvage_promises.specs.Promises.{pairs, told}
+use Rattle.salvage_promises.specs.Promises.{pairs, withCode}
 
 -- one code's part stands before the rest
-part-first : (code : ℕ) (keys codes rest : List ℕ) → pairs (replicate (length keys) code ++ codes) (keys ++ rest) ≡ told code keys ++ pairs codes rest
+part-first : (code : ℕ) (keys codes rest : List ℕ) → pairs (replicate (length keys) code ++ codes) (keys ++ rest) ≡ withCode code keys ++ pairs codes rest
 unfolding pairs
 part-first code [] codes rest = refl
 part-first code (k ∷ keys) codes rest = ap (λ (ps : List (ℕ × ℕ)). (code, k) ∷ ps) (part-first code keys codes rest)
 
-part-last : (code : ℕ) (keys : List ℕ) → pairs (replicate (length keys) code) keys ≡ told code keys
+part-last : (code : ℕ) (keys : List ℕ) → pairs (replicate (length keys) code) keys ≡ withCode code keys
 unfolding pairs
 part-last code [] = refl
 part-last code (k ∷ keys) = ap (λ (ps : List (ℕ × ℕ)). (code, k) ∷ ps) (part-last code keys)
@@ -34,14 +34,14 @@ count-map p f (x ∷ xs) = ap (λ (n : ℕ). bit (p (f x)) + n) (count-map p f x
 
 module _ (i : Input) where
   -- entry by entry, a code and its key are those of one of the five parts, in the order of the codes
-  pub listed-pairs : pairs (changeCodes i) (changedKeys i) ≡ told 1 (notValid i) ++ (told 2 (repeated i) ++ (told 3 (added i) ++ (told 4 (cleared i) ++ told 5 (moved i))))
+  pub listed-pairs : pairs (changeCodes i) (changedKeys i) ≡ withCode 1 (notValid i) ++ (withCode 2 (repeated i) ++ (withCode 3 (added i) ++ (withCode 4 (cleared i) ++ withCode 5 (moved i))))
   unfolding changeCodes changedKeys
   listed-pairs =
       part-first 1 (notValid i) _ _
-      ∙ ap (λ (ps : List (ℕ × ℕ)). told 1 (notValid i) ++ ps) (part-first 2 (repeated i) _ _
-      ∙ ap (λ (ps : List (ℕ × ℕ)). told 2 (repeated i) ++ ps) (part-first 3 (added i) _ _
-      ∙ ap (λ (ps : List (ℕ × ℕ)). told 3 (added i) ++ ps) (part-first 4 (cleared i) _ _
-      ∙ ap (λ (ps : List (ℕ × ℕ)). told 4 (cleared i) ++ ps) (part-last 5 (moved i)))))
+      ∙ ap (λ (ps : List (ℕ × ℕ)). withCode 1 (notValid i) ++ ps) (part-first 2 (repeated i) _ _
+      ∙ ap (λ (ps : List (ℕ × ℕ)). withCode 2 (repeated i) ++ ps) (part-first 3 (added i) _ _
+      ∙ ap (λ (ps : List (ℕ × ℕ)). withCode 3 (added i) ++ ps) (part-first 4 (cleared i) _ _
+      ∙ ap (λ (ps : List (ℕ × ℕ)). withCode 4 (cleared i) ++ ps) (part-last 5 (moved i)))))
 
   -- both columns are as long as the five parts together
   pub listed-length : length (changedKeys i) ≡ length (notValid i) + (length (repeated i) + (length (added i) + (length (cleared i) + length (moved i))))

@@ -28,5 +28,5 @@ pairs (c ∷ cs) [] = []
 pairs (c ∷ cs) (k ∷ ks) = (c, k) ∷ pairs cs ks
 
 -- keys of which one code is told
-abbrev pub told : ℕ → List ℕ → List (ℕ × ℕ)
-told code keys = map (λ (k : ℕ). (code, k)) keys
+abbrev pub withCode : ℕ → List ℕ → List (ℕ × ℕ)
+withCode code keys = map (λ (k : ℕ). (code, k)) keys
