@@ -1,17 +1,17 @@
 -- Small inputs on one axis, computed: which row of a repeated key is kept, how added keys are ordered, and what room a call needs.
 use mathlib.Core.Path.{_≡_, refl}
-use mathlib.Core.List.{List, [], _∷_}
+use mathlib.Core.List.{[], _∷_}
 use Prim.Native.Nat.{ℕ}
 use Rattle.refusal.specs.declared.Refusal.the-variants.{Room}
 use Rattle.refusal.specs.declared.Outcome.the-variants.{Done, Refused}
-use Rattle.slices.specs.Lists.{any, sum, count, filter, range, concatMap}
+use Rattle.slices.specs.Lists.{any, sum, filter, range, concatMap}
 use Rattle.slices.specs.Order.{ascending}
 use Rattle.morton.specs.Keys.{upwards}
 use Rattle.tree.specs.Nodes.{leaf, ownOf, nodeNumber}
 use Rattle.tree.specs.Order.{before}
 use Rattle.growth.specs.Columns.{beginColumn}
 use Rattle.salvaged.specs.Nodes.{Input, input, put, putAll, keptKeys}
-use Rattle.salvaged.specs.Columns.{newKeys, newCount, newOwn, newBegins, newOrder}
+use Rattle.salvaged.specs.Columns.{newKeys, newCount, newOwn, newOrder}
 use Rattle.salvaged.specs.Changes.{keysWhere, changeCodes, changedKeys}
 use Rattle.salvaged.specs.Answers.{Rooms, salvageCheck}
 
