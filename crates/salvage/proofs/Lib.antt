@@ -1,2 +1,1 @@
 pub mod Finish
-pub mod Promised

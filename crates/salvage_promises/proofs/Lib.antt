@@ -1,0 +1,5 @@
+pub mod Examples
+pub mod Taken
+pub mod Runs
+pub mod Pairs
+pub mod Empty
