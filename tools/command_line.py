@@ -47,6 +47,8 @@ class Version(argparse.Action):
 
 def check_named(parser, option, name):
     """That a file to be written has a name of its own."""
+    if name == "":
+        parser.error("%s '': an empty name is that of no file; name one" % option)
     if name == "-":
         parser.error("%s -: nothing is written to standard output; name a file (one called - is ./-)" % option)
 

@@ -11,6 +11,8 @@ DEEPEST = 16
 AXIS_NAMES = "xyz"
 # a line of text ends so: as on Unix, on Windows, or as old Macintosh programs wrote it
 LINE_END = re.compile("\r*\n|\r")
+# what to do where a file cannot be read
+NOT_READ = {FileNotFoundError: "; look at its name and folder", IsADirectoryError: "; name a file in it"}
 # axes, flags, limit, order; centre of three, radius; way back to the sources, their count, the same for the targets
 TRAILER = struct.Struct("<4I4d4I")
 
@@ -36,7 +38,7 @@ def read_bytes(path):
         with open(path, "rb") as file:
             return file.read()
     except OSError as error:
-        raise Refused("%s: %s" % (path, error.strerror))
+        raise Refused("%s: %s%s" % (path, error.strerror, NOT_READ.get(type(error), "")))
 
 
 def write_bytes(path, data):
