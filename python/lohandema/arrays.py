@@ -258,12 +258,26 @@ def flag(value, name):
     raise TypeError("%s is %.60r: pass True or False" % (name, value))
 
 
+def whole_cure(given, name):
+    """What to pass in place of something that is not taken as whole numbers: what a conversion would cut or misread has none."""
+    if isinstance(given, (array.array, memoryview)):
+        letter = (given.typecode if isinstance(given, array.array) else given.format).lstrip("@=<>!^|")
+    else:
+        letter = getattr(getattr(given, "dtype", None), "char", "")
+    if letter in ("d", "f", "e", "g"):
+        return "pass the whole numbers that are meant, as ints; a conversion would cut fractions off"
+    if numpy and letter and letter in "bBhHiIlLqQ":
+        return "pass numpy.ascontiguousarray(%s, dtype=numpy.int64)" % name
+    if letter and letter in "bBhHiIlLqQ":
+        return "pass a list of ints, or array.array('q', %s)" % name
+    return "pass a list of ints, one an entry, or an array of int64"
+
+
 def wholes(given, name):
     """Whole numbers of 64 bits, lent: an int64 or uint64 array of one dimension, or a list of ints."""
     if isinstance(given, (list, tuple)):
         return Lent(memoryview(array.array("Q", [whole(x, "%s[%d]" % (name, i)) for i, x in enumerate(given)])))
-    cure = "pass numpy.ascontiguousarray(%s, dtype=numpy.int64)" % name if numpy else (
-        "pass a list of ints, or array.array('q', %s)" % name)
+    cure = whole_cure(given, name)
     view = seen(given, name, cure)
     check_kind(view, given, name, "lLqQ", "int64 or uint64", cure)
     if view.ndim != 1:
@@ -275,8 +289,7 @@ def signed_wholes(given, name):
     """Whole numbers of either sign, lent: an int64 array of one dimension, or a list of ints."""
     if isinstance(given, (list, tuple)):
         return Lent(memoryview(array.array("q", [signed(x, "%s[%d]" % (name, i)) for i, x in enumerate(given)])))
-    cure = "pass numpy.ascontiguousarray(%s, dtype=numpy.int64)" % name if numpy else (
-        "pass a list of ints, or array.array('q', %s)" % name)
+    cure = whole_cure(given, name)
     view = seen(given, name, cure)
     check_kind(view, given, name, "lq", "int64", cure)
     if view.ndim != 1:
@@ -309,6 +322,15 @@ def cut(written, entries):
         return written
     del written[entries:]
     return memoryview(written).toreadonly()
+
+
+def as_given(written, given):
+    """A column of entries that were copied from lent ones, to be read only: of uint64 if those were and one of them is so large
+    that int64 cannot hold it, and else as it is."""
+    if given.view.format.lstrip("@=<>!^|") in "lq" or not len(written) or (
+            written.min() if numpy else min(written)) >= 0:
+        return written
+    return written.view(numpy.uint64) if numpy else written.cast("B").cast("Q")
 
 
 def shown(entries):

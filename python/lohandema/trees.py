@@ -3,7 +3,7 @@
 import ctypes
 
 from . import room
-from .arrays import Lent, Points, column, cut, flag, numpy, octets, packed, shown, signed_wholes, three, whole, wholes
+from .arrays import Lent, Points, as_given, column, cut, flag, numpy, octets, packed, shown, signed_wholes, three, whole, wholes
 from .boxes import Box
 from .changes import Change
 from .grids import Grid
@@ -185,6 +185,12 @@ class Tree:
         children, and a leaf whose run passes the order column's end get the count 0. Totals are worked out anew, and not listed.
         The tree is well formed; one that was so, with an order column as long as its total, comes back the same with no change.
         The columns are int64 or uint64 arrays, or lists of ints, and may hold anything; of the box only the axes are looked at.
+        The order column that comes out is int64; uint64 if an entry in it is 2^63 or more, as only damage makes them, and so
+        every entry is as it was passed.
+
+        The time goes with the rows; but not where there would be more than 1,048,576 nodes, as there can be if the levels of all
+        keys together are more, and the runs of all rows together have more than 1,048,576 entries. To tell which of the two is
+        refused it then takes the square of the rows: 18 s for 100,000 were seen. Pass the rows of a part of the box at a time.
 
         Raises Refused with 3 where key, own and begin differ in length, 13 where there would be more than 1,048,576 sources, or
         8 where there would be more than 1,048,576 nodes.
@@ -219,9 +225,9 @@ class Tree:
             raise Refused(refused.number, refused.value, sentence=TOO_MUCH.get(refused.number)) from None
         del lent
         count, sources, changes = [one.value for one in counts]
-        order, key, own, begin, total = [cut(one, used) for one, used in zip(columns, [sources] + 4 * [count])]
+        new_order, key, own, begin, total = [cut(one, used) for one, used in zip(columns, [sources] + 4 * [count])]
         listed = [cut(one, changes).tolist() for one in columns[5:]]
-        return cls._of(box, [key, own, begin, total, order]), [Change(code, of % 2 ** 64) for code, of in zip(*listed)]
+        return cls._of(box, [key, own, begin, total, as_given(new_order, order)]), [Change(code, of % 2 ** 64) for code, of in zip(*listed)]
 
     @classmethod
     def from_columns(cls, box, key, own, begin, total, order):

@@ -141,14 +141,45 @@ class Salvage(unittest.TestCase):
         with self.assertRaises(TypeError):
             Tree.salvage(None, [0], [0], [0], [])
 
+    def test_large_entries(self):
+        """Entries of the order column that int64 cannot hold come out as they were passed; so do those below 0."""
+        large = [MOST, 2 ** 63, 2 ** 63 - 1, 0]
+        for given in (large, array.array("Q", large), memoryview(array.array("Q", large))):
+            tree, changes = Tree.salvage(Box([4.0], 4.0), [0, 1], [0, 4], [0, 0], given)
+            self.assertEqual((tree.order.tolist(), tree.leaf_sources(1).tolist(), changes), (large, large, []))
+            # only those that are left count
+            tree, _ = Tree.salvage(Box([4.0], 4.0), [0, 1], [0, 2], [0, 2], given)
+            self.assertEqual((tree.order.tolist(), memoryview(tree.order).format in "lq"), (large[2:], True))
+        tree, _ = Tree.salvage(Box([4.0], 4.0), [0, 1], [0, 2], [0, 0], array.array("q", [-1, 5]))
+        self.assertEqual(tree.order.tolist(), [-1, 5])
+
+    def test_cures(self):
+        """No conversion is told that would misread what was passed, or cut it."""
+        for wrong, cure in (
+                (None, "key is of type NoneType, and is no array that can be read as it is: pass a list of ints, one an entry"),
+                ("03", "key is of type str, "), ({0: 1}, "key is of type dict, "), ((x for x in [0]), "key is of type generator, "),
+                (array.array("d", [0.5]), "key holds float64, and int64 or uint64 is taken: pass the whole numbers that are meant"),
+                (array.array("i", [5]), "key holds int32, and int64 or uint64 is taken: pass ")):
+            with self.assertRaises(TypeError) as caught:
+                Tree.salvage(Box([4.0], 4.0), wrong, [0], [0], [])
+            self.assertIn(cure, str(caught.exception))
+            self.assertEqual("ascontiguousarray" in str(caught.exception) or "array.array('q', key)" in str(caught.exception),
+                             isinstance(wrong, array.array) and wrong.typecode == "i")
+
     @with_numpy
     def test_numpy(self):
         import numpy
         key, zeros = numpy.arange(65536, dtype=numpy.int64) * 32768 + 16, numpy.zeros(65536, dtype=numpy.int64)
         tree, changes = Tree.salvage(Box([4.0], 4.0), key[::-1].copy(), zeros, zeros, zeros[:0])
         self.assertEqual((len(tree), len(changes), changes[-1]), (131071, 65535, Change(3, 32767 * 32768 + 15)))
-        with self.assertRaises(TypeError):
-            Tree.salvage(Box([4.0], 4.0), key.astype(numpy.int32), zeros, zeros, zeros)
+        for kind, cure in (("int32", "taken: pass numpy.ascontiguousarray(key, dtype=numpy.int64)"),
+                           ("float64", "taken: pass the whole numbers that are meant, as ints; a conversion would cut fractions")):
+            with self.assertRaises(TypeError) as caught:
+                Tree.salvage(Box([4.0], 4.0), key.astype(kind), zeros, zeros, zeros)
+            self.assertIn(cure, str(caught.exception))
+        large = numpy.array([2 ** 64 - 1, 3], dtype=numpy.uint64)
+        tree, _ = Tree.salvage(Box([4.0], 4.0), [0, 1], [0, 2], [0, 0], large)
+        self.assertEqual((tree.order.dtype, tree.order.tolist(), tree.order.flags.writeable), (numpy.uint64, large.tolist(), False))
 
     def test_refused(self):
         box = Box([4.0], 4.0)

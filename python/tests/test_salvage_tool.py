@@ -204,6 +204,41 @@ class Tool(unittest.TestCase):
             was = [int(row["was"]) for row in self.table("was.csv")]
             self.assertEqual(was, sorted(set(was)))
 
+    def test_not_whole(self):
+        """That the columns are whole is not said of a file that ends early, whose sources are in doubt, or whose total is not
+        their number."""
+        end = 20 * self.rows
+        no_total = self.data[:16 * self.rows] + b"\xff" * 4 + self.data[16 * self.rows + 4:]
+        for data, words, said in (
+                (self.data[:163], ["--axes", "2"], "they end early"),
+                (self.data[:end] + bytes(80) + self.data[end + 80:], [], "sources are in doubt"),
+                (no_total, [], "they differ in the number of sources"),
+                (no_total[:-4], ["--axes", "2"], "they differ in the number of sources")):
+            self.assertEqual(self.had(data, *words)[-1], "no change, but the columns are not whole: " + said)
+        # and no source is lost for a total
+        for total in (b"\0" * 4, b"\xff" * 4):
+            spoilt = self.data[:16 * self.rows] + total + self.data[16 * self.rows + 4:]
+            for data, words in ((spoilt, []), (spoilt[:-4], ["--axes", "2"])):
+                self.had(data, "--drop-doubtful", "-o", "b.tree", *words)
+                self.assertEqual(self.read("b.tree"), self.data)
+
+    def test_node_count(self):
+        """60 points, 47 nodes: two keys lost, or the first count, and the file cut among its begins."""
+        made = random.Random(9)
+        points = [[made.random() * 8 for _ in range(2)] for _ in range(60)]
+        tree = Tree.build(points, Box([4.0, 4.0], 4.0), limit=3)
+        data, rows = bytes(tree.to_file()), len(tree)
+        self.assertEqual((rows, len(data)), (47, 5584))
+        told = self.had((data[:8 * 39] + bytes(16) + data[8 * 41:])[:15 * rows], "--axes", "2", "--csv", "cells.csv")
+        self.assertIn("read in the order in which files are written, with 47 nodes and 2 axes, as the keys end there", told)
+        left = set(tree.key.tolist()) - set(tree.key.tolist()[39:41])
+        self.assertTrue(left <= {int(row["key"]) for row in self.table("cells.csv")})
+        self.write("a.tree", (data[:8 * rows] + b"\xff" * 4 + data[8 * rows + 4:])[:15 * rows])
+        result = self.run_tool("a.tree", "--axes", "2")
+        self.assertEqual((result.returncode, result.stdout), (1, ""))
+        self.assertIn("where the keys end cannot be seen; give the number of nodes with --nodes", result.stderr)
+        self.assertEqual(self.run_tool("a.tree", "--axes", "2", "--nodes", "47").returncode, 0)
+
     def test_refused(self):
         """More sources than a tree may have, as each of many rows has the whole order column."""
         key = [code * 32768 + 3 for code in range(64)]
