@@ -180,7 +180,8 @@ static void write_tree(void)
     free(file);
 }
 
-/* Of every row twice, so that half of them are dropped, and the whole order column; the lists' slices are free by now. */
+/* Of every row twice, so that half of them are dropped, and the whole order column; the lists' slices are free by now; the lists are written over, so that calls
+ * that read them come before. */
 static void salvage(void)
 {
     size_t count, entries, changes;
@@ -193,6 +194,23 @@ static void salvage(void)
                              u_keys, KEYS, new_own, KEYS, new_begin, KEYS, new_total, KEYS, v_keys, KEYS, cells, NODES, &count,
                              &entries, &changes);
     if (last.number == 0 && (count != nodes || entries != points || changes != nodes))
+        last.number = 99;
+}
+
+/* Of the children of the corner cells down to level 16, the deepest first and each cell's from the last on, without counts. */
+static void salvage_reversed(void)
+{
+    size_t children = (size_t)1 << axes, rows = 0, count, entries, changes;
+    for (uint64_t level = 16; level > 0; level--)
+        for (size_t child = children; child > 0; child--) {
+            twice[rows] = 32768 * (uint64_t)(child - 1) + level;
+            twice_own[rows] = twice_begin[rows] = 0;
+            rows++;
+        }
+    last = lohandema_salvage(axes, twice, rows, twice_own, rows, twice_begin, rows, order, points, indices, points, u_keys, KEYS,
+                             new_own, KEYS, new_begin, KEYS, new_total, KEYS, v_keys, KEYS, cells, NODES, &count, &entries,
+                             &changes);
+    if (last.number == 0 && (count != rows + 1 || entries != 0 || changes != 1))
         last.number = 99;
 }
 
@@ -381,6 +399,8 @@ static struct {
     {"write_tree", write_tree, 96 * KIB, 0},
     {"read_tree", read_tree, 96 * KIB, 0},
     {"salvage", salvage, 8 * KIB, 0},
+    {"salvage", salvage, 8 * KIB, 0},
+    {"salvage of reversed rows", salvage_reversed, 8 * KIB, 0},
     {"is_arrangement", is_arrangement, 32 * KIB, 0},
     {"balance_tree", balance_tree, LOHANDEMA_STACK, 0},
     {"build_tree without targets", build_without_targets, 48 * KIB, 0},
