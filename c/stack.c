@@ -180,7 +180,7 @@ static void write_tree(void)
     free(file);
 }
 
-/* Of every row twice, so that half of them are dropped, and the whole order column; the lists' slices are free by now; the lists are written over, so that calls
+/* Of every row twice, so that half of them are dropped, and the whole order column; the lists are written over, so that calls
  * that read them come before. */
 static void salvage(void)
 {
@@ -398,7 +398,6 @@ static struct {
     {"check_sums", check_sums, LOHANDEMA_STACK, 0},
     {"write_tree", write_tree, 96 * KIB, 0},
     {"read_tree", read_tree, 96 * KIB, 0},
-    {"salvage", salvage, 8 * KIB, 0},
     {"salvage", salvage, 8 * KIB, 0},
     {"salvage of reversed rows", salvage_reversed, 8 * KIB, 0},
     {"is_arrangement", is_arrangement, 32 * KIB, 0},
