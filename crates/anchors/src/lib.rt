@@ -1,3 +1,5 @@
+#![tactic(auto)]
+
 // A cell's anchors: encode, decode, and which cells touch.
 ghost use Rattle.std.specs.Prelude.{◌≡◌, true, ◌≤◌, ◌<◌, get_or};
 ghost use Rattle.slices.specs.Lists.{filled};
@@ -9,14 +11,14 @@ use morton::{NumberAnswer, keys};
 use refusal::{Outcome, Refusal};
 
 // Whether two cells touch.
-#[derive(Drop)]
+#[derive(Clone, Copy)]
 pub enum TouchAnswer {
     Touching(bool),
     Refused(Refusal),
 }
 
 // A cell's anchors by value, those past the axes 0, and its level.
-#[derive(Drop)]
+#[derive(Clone, Copy)]
 pub struct AnchorAnswer {
     pub outcome: Outcome,
     pub anchor: [u64; 3],

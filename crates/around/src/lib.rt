@@ -1,3 +1,5 @@
+#![tactic(auto)]
+
 // What lies around a cell, gathered once for all its children, and what each child takes of it.
 ghost use Rattle.std.specs.Prelude.{◌≡◌, true, ◌++◌, ◌+◌, ◌≤◌, ◌<◌, length, take};
 ghost use Rattle.morton.specs.Keys.{ValidKey};
@@ -110,7 +112,7 @@ pub fn around_of(
 }
 
 // How far the keys of the far entries reach, and how many entries are near.
-#[derive(Drop)]
+#[derive(Clone, Copy)]
 pub struct Parted {
     pub far: usize,
     pub near: usize,
@@ -230,7 +232,7 @@ pub fn part(
 }
 
 // How far the keys of the owners reach, and how many nodes have children.
-#[derive(Drop)]
+#[derive(Clone, Copy)]
 pub struct Split {
     pub owners: usize,
     pub inner: usize,

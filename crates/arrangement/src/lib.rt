@@ -1,3 +1,5 @@
+#![tactic(auto)]
+
 // Whether an order column arranges all indices below a number: document 02, orders 6 and 12. Nothing is lent: the indices met are marked in a small local table, window by window.
 ghost use Rattle.std.specs.Prelude.{◌≡◌, ◌<◌, ◌^◌};
 ghost use Rattle.sums.specs.Arrangement.{arranges};

@@ -1,3 +1,5 @@
+#![tactic(auto)]
+
 // Each number of axes has three figures of its own: children, neighbours, and the room of a V row.
 ghost use Rattle.std.specs.Prelude.{◌≡◌};
 ghost use Rattle.axes.specs.Axes.{axes_known, children_room, neighbours_room, far_room};

@@ -1,3 +1,5 @@
+#![tactic(auto)]
+
 // The balanced tree: document 02, order 9.
 ghost use Rattle.std.specs.Prelude.{◌≡◌, ◌≤◌, ◌<◌, min, length, replicate};
 ghost use Rattle.refusal.specs.declared.Outcome.TheVariants.{Done, Refused};
@@ -10,7 +12,7 @@ use space::{Box, Rows};
 pub const MOST_NODES: usize = 1048576;
 
 // The number of nodes and the depth, or why there is no tree.
-#[derive(Drop)]
+#[derive(Clone, Copy)]
 pub enum Balanced {
     Tree(usize, u64),
     Refused(Refusal),
@@ -67,7 +69,7 @@ fn given_outcome(
 }
 
 // Whether all cells are put, and how many.
-#[derive(Drop)]
+#[derive(Clone, Copy)]
 struct Started {
     outcome: Outcome,
     nodes: usize,

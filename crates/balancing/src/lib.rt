@@ -1,3 +1,5 @@
+#![tactic(auto)]
+
 // The cells of the balanced tree in Z order, written one after the other: each cell is tested by what is stored around it.
 ghost use Rattle.std.specs.Prelude.{◌≡◌, true, ℕ, ◌-◌, ◌≤◌, ◌<◌, length, get_or};
 ghost use Rattle.slices.specs.Lists.{filled};

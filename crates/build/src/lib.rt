@@ -1,3 +1,5 @@
+#![tactic(auto)]
+
 // The tree grown from points: `build_tree` of `linear_tree.rs`, without its lists.
 mod on_grid; // on_grid.rt: the sources of a build on a grid laid out, and the span of the root
 
@@ -19,7 +21,7 @@ use space::Box;
 pub const MOST_NODES: usize = 1048576;
 
 // The number of nodes and the depth, or why there is no tree.
-#[derive(Drop)]
+#[derive(Clone, Copy)]
 pub enum Built {
     Tree(usize, u64),
     Refused(Refusal),
@@ -77,7 +79,7 @@ fn sum_sources(axes: usize, rows: usize, marks: usize, work: &[u64], indices: &m
 }
 
 // Whether the points are laid out, and the sizes of the growth.
-#[derive(Drop)]
+#[derive(Clone, Copy)]
 struct Laid {
     outcome: Outcome,
     sizes: Sizes,
@@ -157,7 +159,7 @@ fn lay_out(
 }
 
 // Whether all rows are put, and if not, why; then how many sources and nodes there are.
-#[derive(Drop)]
+#[derive(Clone, Copy)]
 pub struct Started {
     pub outcome: Outcome,
     pub put: bool,

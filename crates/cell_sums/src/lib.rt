@@ -1,3 +1,5 @@
+#![tactic(auto)]
+
 // Sums of readings over cells, each in two reads: the readings before each place are added up once, and what was found of a cell is kept. Document 02,
 // order 12. Each reading is lifted by 2^40, so that none is below 0.
 ghost use Rattle.std.specs.Prelude.{◌≡◌, ◌+◌, ◌≤◌, ◌<◌, nat_abs, length};
@@ -10,7 +12,7 @@ ghost use Rattle.cell_sums.specs.Kept.{Kept, Summed};
 use tree::Found;
 
 // The lifted readings of a cell or a row, and how many sources it has.
-#[derive(Drop)]
+#[derive(Clone, Copy)]
 pub struct Part {
     pub sum: u64,
     pub count: usize,

@@ -1,3 +1,5 @@
+#![tactic(auto)]
+
 // The two float calls on cells, operation for operation as in the Rust: a cell's centre and side, and the test of two cells.
 ghost use Rattle.std.specs.Prelude.{◌≡◌, ◌<◌};
 ghost use Rattle.slices.specs.Lists.{filled};
@@ -11,7 +13,7 @@ use refusal::{Outcome, Refusal};
 use space::Box;
 
 // The side of a cell at a level.
-#[derive(Drop)]
+#[derive(Clone, Copy)]
 pub enum SideLength {
     Side(f64),
     Refused(Refusal),
@@ -51,7 +53,7 @@ fn centre_on(b: Box, key: u64, anchor: [u64; 3], a: usize) -> f64
 }
 
 // A cell's centre and the length of its side, 0 past the axes and after a refusal.
-#[derive(Drop)]
+#[derive(Clone, Copy)]
 pub struct Centred {
     pub outcome: Outcome,
     pub centre: [f64; 3],
@@ -103,7 +105,7 @@ fn centres_near(b: Box, first: u64, second: u64) -> bool
 }
 
 // The Rust's test of two cells, of any two levels. For a box in the domain and two valid keys of one level it answers what the anchor test answers (agrees).
-#[derive(Drop)]
+#[derive(Clone, Copy)]
 pub enum Adjacent {
     Is(bool),
     Refused(Refusal),

@@ -1,3 +1,5 @@
+#![tactic(auto)]
+
 // The change list of a salvage: each change by code and key.
 ghost use Rattle.std.specs.Prelude.{◌≡◌, ◌++◌, ◌-◌, ◌≤◌, length, take, replicate};
 ghost use Rattle.sourced.specs.Room.{Puts};

@@ -1,3 +1,5 @@
+#![tactic(auto)]
+
 // The rows of a salvage's input of which a change is told: dropped, cleared or moved.
 ghost use Rattle.std.specs.Prelude.{◌≡◌, ◌<◌, length};
 ghost use Rattle.sourced.specs.Room.{Puts};

@@ -1,3 +1,5 @@
+#![tactic(auto)]
+
 // The code of a cell's anchors and back, by shifts and masks on whole words.
 ghost use Rattle.std.specs.Prelude.{◌≡◌, ◌+◌, ◌*◌, ◌^◌, ◌≤◌, ◌<◌};
 ghost use Rattle.slices.specs.Lists.{filled};

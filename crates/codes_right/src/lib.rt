@@ -1,3 +1,5 @@
+#![tactic(auto)]
+
 // Whether the order column of a tree holds its points, judged by the points' codes where there is room for them: document 02, order 7.
 ghost use Rattle.std.specs.Prelude.{◌≡◌, true, ◌≤◌, length};
 ghost use Rattle.morton.specs.Keys.{axes_known, level_of};

@@ -1,9 +1,11 @@
+#![tactic(auto)]
+
 // A container of files: each stands after its length, a u32 in little-endian. Recorded surveys come to a program in one.
 ghost use Rattle.std.specs.Prelude.{◌≡◌, ◌≤◌, ◌<◌, length};
 ghost use Rattle.container.specs.Parts.{part_at, broken};
 
 // Where a file's bytes begin and end. Not whole: the container ends before they do.
-#[derive(Drop)]
+#[derive(Clone, Copy)]
 pub struct Part {
     pub whole: bool,
     pub start: usize,

@@ -1,3 +1,5 @@
+#![tactic(auto)]
+
 // The descent of the U rows: the owners under a cell, child by child along the links, in the order of nodes.
 ghost use Rattle.std.specs.Prelude.{◌≡◌, ◌&&◌, ◌+◌, ◌-◌, ◌≤◌, leb, length, take};
 ghost use Rattle.sourced.specs.Room.{PutsThose};

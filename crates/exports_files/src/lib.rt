@@ -1,3 +1,5 @@
+#![tactic(auto)]
+
 // The writer of tree files for C.
 ghost use Rattle.std.specs.Prelude.{◌≡◌, length};
 ghost use Rattle.tree_file.specs.Contents.{contents};

@@ -1,3 +1,5 @@
+#![tactic(auto)]
+
 // The key calls for C: numbers, and references to numbers and arrays of fixed length.
 ghost use Rattle.std.specs.Prelude.{◌≡◌};
 ghost use Rattle.morton.specs.Answers.{level_answer, parent_answer, child_index_answer, children_answer, siblings_answer, ancestors_answer};
@@ -13,7 +15,7 @@ use refusal::Outcome;
 // How a call ended: the number and values of its refusal, 0 throughout where there is none. The axis and the reason are those of
 // 6 and 7, and 0 with every other number.
 #[repr(C)]
-#[derive(Drop)]
+#[derive(Clone, Copy)]
 pub struct Ended {
     pub number: u32,
     pub axis: u16,

@@ -1,3 +1,5 @@
+#![tactic(auto)]
+
 // The list call, the sizes of its lists and near work for C.
 ghost use Rattle.std.specs.Prelude.{◌≡◌, length, replicate};
 ghost use Rattle.tree.specs.Columns.{columns};

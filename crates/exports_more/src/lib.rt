@@ -1,3 +1,5 @@
+#![tactic(auto)]
+
 // One source more, for C.
 ghost use Rattle.std.specs.Prelude.{◌≡◌, length, replicate};
 ghost use Rattle.tree.specs.Columns.{columns};

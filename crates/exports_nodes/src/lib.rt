@@ -1,3 +1,5 @@
+#![tactic(auto)]
+
 // The calls on nodes for C, in any key column: finding a node by its key, whether it is a leaf, and the nodes of a level one after the other.
 ghost use Rattle.std.specs.Prelude.{◌≡◌, ℕ, ◌<◌, length, get_or};
 ghost use Rattle.tree.specs.Nodes.{leaf};

@@ -1,3 +1,5 @@
+#![tactic(auto)]
+
 // The calls on points and boxes for C. The box comes as its centre, its radius and its number of axes.
 ghost use Rattle.std.specs.Prelude.{◌≡◌};
 ghost use Rattle.exports_keys.specs.Told.{told};

@@ -1,3 +1,5 @@
+#![tactic(auto)]
+
 // The reader of tree files for C.
 ghost use Rattle.std.specs.Prelude.{◌≡◌, length};
 ghost use Rattle.tree_file.specs.Trailer.{tree_in};

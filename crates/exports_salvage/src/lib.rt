@@ -1,3 +1,5 @@
+#![tactic(auto)]
+
 // The salvage of columns for C.
 ghost use Rattle.std.specs.Prelude.{◌≡◌};
 ghost use Rattle.salvaged.specs.Nodes.{input};

@@ -1,3 +1,5 @@
+#![tactic(auto)]
+
 // How many nodes a build has, for C.
 ghost use Rattle.std.specs.Prelude.{◌≡◌, length, replicate};
 ghost use Rattle.build.specs.Asked.{asks_for, asks_on_grid};

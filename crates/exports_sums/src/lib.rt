@@ -1,3 +1,5 @@
+#![tactic(auto)]
+
 // The sum checks of a leaf and of a survey, the check of lists and the test of an order column for C.
 ghost use Rattle.std.specs.Prelude.{◌≡◌, length, replicate};
 ghost use Rattle.tree.specs.Columns.{columns};

@@ -1,3 +1,5 @@
+#![tactic(auto)]
+
 // The calls on trees for C: columns go in as slices, rows come out in lent ones.
 ghost use Rattle.std.specs.Prelude.{◌≡◌, ◌&&◌, ◌*◌, ◌≤◌, length, take, drop};
 ghost use Rattle.morton.specs.Keys.{axes_known};

@@ -1,3 +1,5 @@
+#![tactic(auto)]
+
 // The box from extents.
 ghost use Rattle.std.specs.Prelude.{◌≡◌, ◌+◌, ◌/◌, ◌^◌, ◌≤◌, ◌<◌, length};
 ghost use Rattle.extents.specs.Floors.{floor_of, ceil_of, whole_under, whole_over};
@@ -131,7 +133,7 @@ fn box_from(extents: &[f64], d: usize) -> Box
 }
 
 // A box, 0 throughout after a refusal.
-#[derive(Drop)]
+#[derive(Clone, Copy)]
 pub struct TreeBox {
     pub outcome: Outcome,
     pub bounds: Box,

@@ -1,3 +1,5 @@
+#![tactic(auto)]
+
 // Numbers of a tree file put into bytes and read from them, little-endian: document 02, order 6.
 ghost use Rattle.std.specs.Prelude.{◌≡◌, ◌++◌, ◌+◌, ◌-◌, ◌*◌, ◌≤◌, ◌<◌, length, get_or, take, replicate};
 ghost use Rattle.tree_file.specs.Bytes.{u32, bytes_of, in_bytes, entries_at};

@@ -1,3 +1,5 @@
+#![tactic(auto)]
+
 // Entries of the sections of a tree file, by code and number: document 02, order 6. Whoever judges a file that has no room to stand in reads it so.
 ghost use Rattle.std.specs.Prelude.{◌≡◌, ◌≤◌, length, get_or};
 ghost use Rattle.tree_file.specs.Trailer.{width_of, column_in};

@@ -1,3 +1,5 @@
+#![tactic(auto)]
+
 // Columns of a tree file copied out of it: document 02, order 6.
 ghost use Rattle.std.specs.Prelude.{◌≡◌, ◌≤◌, length};
 ghost use Rattle.slices.specs.Lists.{filled};

@@ -1,3 +1,5 @@
+#![tactic(auto)]
+
 // The refusals of a tree file with so much room for what it holds: document 02, order 6. 13 and 17 are judged where the file stands, so whatever room there is.
 ghost use Rattle.std.specs.Prelude.{◌≡◌};
 ghost use Rattle.refusal.specs.declared.Refusal.TheVariants.{Tree, Section};

@@ -1,3 +1,5 @@
+#![tactic(auto)]
+
 // The bytes of a tree file put into a lent slice: document 02, order 6. Nine sections without gaps, then the trailer.
 ghost use Rattle.std.specs.Prelude.{◌≡◌, List, [], ◌∷◌, ◌++◌, ◌+◌, ◌*◌, ◌≤◌, length};
 ghost use Rattle.slices.specs.Lists.{sum};

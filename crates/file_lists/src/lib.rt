@@ -1,3 +1,5 @@
+#![tactic(auto)]
+
 // Whether the lists of a tree file are its tree's, judged where they stand: document 02, order 6. No row is made again; the tests are those of `list_check`, and so are the laws.
 ghost use Rattle.std.specs.Prelude.{◌≡◌, ◌+◌, ◌≤◌, get_or};
 ghost use Rattle.rows.specs.Written.{row_of};

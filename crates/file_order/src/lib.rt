@@ -1,3 +1,5 @@
+#![tactic(auto)]
+
 // Whether the order column of a tree file arranges all indices below a number, judged where it stands: document 02, order 6. The tests are those of `arrangement`, and so are the laws.
 ghost use Rattle.std.specs.Prelude.{◌≡◌};
 ghost use Rattle.sums.specs.Arrangement.{arranges};

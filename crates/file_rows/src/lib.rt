@@ -1,3 +1,5 @@
+#![tactic(auto)]
+
 // One row of the lists of a tree file, judged where it stands: document 02, order 6. Each entry is found among the nodes and tested, as `list_rows` does of slices, by the same laws.
 ghost use Rattle.std.specs.Prelude.{◌≡◌, true, ◌≤◌, ◌<◌, length, get_or};
 ghost use Rattle.tree.specs.Nodes.{leaf};

@@ -1,3 +1,5 @@
+#![tactic(auto)]
+
 // Where the sections of a tree file stand: document 02, order 6. The trailer and its entries are read and judged; no section is looked into.
 ghost use Rattle.std.specs.Prelude.{◌≡◌, true, ◌&&◌, cond, ℕ, suc, ◌+◌, ◌*◌, ◌%◌, ◌≤◌, ◌<◌, leb, ltb, eqb, length, get_or};
 ghost use Rattle.slices.specs.Every.{every};
@@ -7,7 +9,7 @@ ghost use Rattle.file_sections.specs.Answers.{section_by, Entered, Placed, locat
 use refusal::{Outcome, Refusal};
 
 // What a code is for: a section whose numbers are so wide; kept for later, and skipped; or no code.
-#[derive(Drop)]
+#[derive(Clone, Copy)]
 pub enum Section {
     Known(usize),
     Skipped,
@@ -16,7 +18,7 @@ pub enum Section {
 
 // How the reading of a trailer ended, the axes, and for codes 1 to 9 in their order where the section starts and how many numbers it holds.
 // 0 throughout after a refusal.
-#[derive(Drop)]
+#[derive(Clone, Copy)]
 pub struct Sections {
     pub outcome: Outcome,
     pub axes: usize,
@@ -25,7 +27,7 @@ pub struct Sections {
 }
 
 // Whether all entries are good, and then for each code the number of its entry, counted from 1; 0 where there is none.
-#[derive(Drop)]
+#[derive(Clone, Copy)]
 pub struct Entries {
     pub good: bool,
     pub at: [usize; 32],

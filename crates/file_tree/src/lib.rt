@@ -1,3 +1,5 @@
+#![tactic(auto)]
+
 // Whether the columns of a tree file are a tree's, judged where they stand: document 02, order 6. The tests are those of `tree`, and so are the laws.
 ghost use Rattle.std.specs.Prelude.{◌≡◌};
 ghost use Rattle.tree.specs.WellFormed.{well_formed};

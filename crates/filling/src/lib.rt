@@ -1,3 +1,5 @@
+#![tactic(auto)]
+
 // The slices lent to a build, at its end: filled from the words and the marks of the growth, or cleared.
 ghost use Rattle.std.specs.Prelude.{◌≡◌, true, false, ◌++◌, map, ◌-◌, ◌≤◌, length, take, replicate};
 ghost use Rattle.slices.specs.Lists.{sum};

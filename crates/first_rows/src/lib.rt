@@ -1,3 +1,5 @@
+#![tactic(auto)]
+
 // A repeated key keeps its first row: a column of the input, node by node.
 ghost use Rattle.std.specs.Prelude.{◌≡◌, map, length};
 ghost use Rattle.salvaged.specs.Columns.{first_of};

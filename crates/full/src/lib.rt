@@ -1,3 +1,5 @@
+#![tactic(auto)]
+
 // Whether each cell of a tree that has children has all of them: document 02, orders 7 and 9. The cells are counted: no cell has more than 2^d
 // children and each but the root is one, so there are 2^d for each cell with children, and the root, exactly where none lacks one.
 ghost use Rattle.std.specs.Prelude.{◌≡◌, ◌<◌, length, get_or};

@@ -1,3 +1,5 @@
+#![tactic(auto)]
+
 // The search for the one cell in which a further source changes a tree: the first on the way down that is no node with children. Document 02, order 7.
 ghost use Rattle.std.specs.Prelude.{◌≡◌, ◌*◌, ◌^◌, ◌≤◌, ◌<◌};
 ghost use Rattle.tree.specs.Leaves.{cell_of};

@@ -1,3 +1,5 @@
+#![tactic(auto)]
+
 // The keys of a salvage without repeats: for each valid row the cells from the root down, each looked for among the children of the one before it.
 ghost use Rattle.std.specs.Prelude.{◌≡◌, ℕ, ◌≤◌, ◌<◌, length, get_or, set};
 ghost use Rattle.morton.specs.Keys.{ValidKey, level_of};

@@ -1,3 +1,5 @@
+#![tactic(auto)]
+
 // The points of a build on a grid: the checks, and the sources' codes laid out in the work. The grid's points are nowhere listed.
 ghost use Rattle.std.specs.Prelude.{◌≡◌, [], ◌≤◌, length};
 ghost use Rattle.refusal.specs.declared.Outcome.TheVariants.{Done, Refused};

@@ -1,3 +1,5 @@
+#![tactic(auto)]
+
 // A regular grid of points: which grids are known, how many points they have, and the first that is outside. No call walks the points.
 pub mod spans; // spans.rt: the indices of a cell, and how many points it has
 
@@ -12,7 +14,7 @@ ghost use Rattle.grids.specs.Exits.{starts_out, ends_out, first_of, last_of, exi
 use space::{Frame, Rows};
 
 // On each axis a first coordinate, a distance between neighbours and a number of points. Entries past the axes are not read.
-#[derive(Drop)]
+#[derive(Clone, Copy)]
 pub struct Grid {
     pub origin: [f64; 3],
     pub spacing: [f64; 3],
@@ -158,7 +160,7 @@ pub fn few_points(axes: usize, g: Grid) -> bool
 }
 
 // An axis, or none.
-#[derive(Drop)]
+#[derive(Clone, Copy)]
 pub enum Found {
     At(usize),
     Nowhere,
@@ -192,7 +194,7 @@ fn first_out(f: Frame, g: Grid) -> Found
 }
 
 // The first row that is outside, and the first axis on which it is.
-#[derive(Drop)]
+#[derive(Clone, Copy)]
 pub enum Exit {
     Stays,
     Leaves(usize, usize),

@@ -10,7 +10,7 @@ use morton::keys;
 use space::Frame;
 
 // On each axis the cell's indices are those from `from` up to `to`, and those from `middle` on are in the upper half. Entries past the axes are 0.
-#[derive(Drop)]
+#[derive(Clone, Copy)]
 pub struct Span {
     pub from: [usize; 3],
     pub middle: [usize; 3],

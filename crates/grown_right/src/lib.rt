@@ -1,3 +1,5 @@
+#![tactic(auto)]
+
 // Whether a tree is grown by the rule, judged by its totals with no room: document 02, order 7.
 ghost use Rattle.std.specs.Prelude.{◌≡◌, Bool, ◌<◌, length};
 ghost use Rattle.tree.specs.Finding.{TreeKeys};

@@ -1,3 +1,5 @@
+#![tactic(auto)]
+
 // Hints: node numbers in a table of words by the first bits of a code, and a few steps of halving from there. Each is tested before it
 // is used, so any table gives the same answer; a wrong one costs time alone.
 //
@@ -40,7 +42,7 @@ pub const PROBES: usize = 64;
 // How a table is read. Blocks lie so deep in each other, and an eighth of the run of a block's word has 2^low codes: those numbers
 // stand in the plan, 6 bits each, the first blocks' lowest. Nodes are counted by 2^unit. From the table's number to the node it is
 // mostly no more than so many steps of halving.
-#[derive(Drop)]
+#[derive(Clone, Copy)]
 pub struct Blocks {
     pub plan: u64,
     pub deep: u64,
@@ -50,7 +52,7 @@ pub struct Blocks {
 
 // How words are filled: an eighth of a word's run has 2^low codes; more than a few nodes in a row that begin inside an eighth are a
 // crowd; nodes whose number has a bit of the mask are not counted.
-#[derive(Drop)]
+#[derive(Clone, Copy)]
 struct Runs {
     low: u64,
     few: usize,
@@ -68,7 +70,7 @@ fn first_of(axes: usize, k: u64) -> u64
 }
 
 // A word in the making: its number and its counts, and how many nodes in a row, up to the last, began inside an eighth.
-#[derive(Drop)]
+#[derive(Clone, Copy)]
 struct Part {
     begin: u64,
     counts: u64,
@@ -122,7 +124,7 @@ fn with_node(part: Part, node: u64, far: u64, runs: Runs) -> Part
 }
 
 // A word, and the number of the first node past its run.
-#[derive(Drop)]
+#[derive(Clone, Copy)]
 struct Word {
     word: u64,
     end: usize,

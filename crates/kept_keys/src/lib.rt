@@ -1,3 +1,5 @@
+#![tactic(auto)]
+
 // The keys of a salvage: gathered from the rows, each once, and put in the nodes' order.
 ghost use Rattle.std.specs.Prelude.{◌≡◌, true, ℕ, ◌≤◌, ◌<◌, length, get_or};
 ghost use Rattle.morton.specs.Keys.{axes_known, valid};

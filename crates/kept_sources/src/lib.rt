@@ -1,3 +1,5 @@
+#![tactic(auto)]
+
 // How many sources a salvage keeps, where there is no room for its nodes: row by row, each against all others where it must be.
 ghost use Rattle.std.specs.Prelude.{◌≡◌, true, ◌≤◌, ◌<◌, min, eqb, length, get_or};
 ghost use Rattle.morton.specs.Keys.{axes_known, level_of};

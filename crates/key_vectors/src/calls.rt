@@ -9,7 +9,7 @@ use morton::{KeyList, NumberAnswer};
 use refusal::{Outcome, Refusal};
 
 // The key calls, by the words that name them in a line.
-#[derive(Drop)]
+#[derive(Clone, Copy)]
 pub enum Call {
     Level,
     Parent,
@@ -26,7 +26,7 @@ pub enum Call {
 
 // The refusal's number and value, both 0 where the call was not refused; and the numbers answered, unused places 0.
 // Not good: no answer, as the line could not be read.
-#[derive(Drop)]
+#[derive(Clone, Copy)]
 pub struct Answer {
     pub good: bool,
     pub number: u64,

@@ -2,7 +2,7 @@
 use crate::{calls, text};
 use calls::{Answer, Call};
 
-#[derive(Drop)]
+#[derive(Clone, Copy)]
 pub enum Verdict {
     Comment,
     Agrees,

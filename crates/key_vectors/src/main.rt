@@ -1,3 +1,5 @@
+#![tactic(auto)]
+
 // Replays the recorded answers of the key calls, one case a line of standard input: differential/README.md says how they are made.
 ghost use Rattle.std.specs.Prelude.{◌≤◌, ◌<◌, length};
 
@@ -8,7 +10,7 @@ mod text; // text.rt: places, numbers and lists of numbers in a text
 mod calls; // calls.rt: the answer of a key call, and whether two answers are one
 mod cases; // cases.rt: a line's call, its arguments and its recorded answer
 
-#[derive(Drop)]
+#[derive(Clone, Copy)]
 struct Tally {
     cases: u64,
     differ: u64,

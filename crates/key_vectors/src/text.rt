@@ -35,7 +35,7 @@ fn digit(byte: u8) -> u64
 }
 
 // A number that was read, and the place after it; not good where there is no digit, or the number does not fit.
-#[derive(Drop)]
+#[derive(Clone, Copy)]
 pub struct Number {
     pub good: bool,
     pub value: u64,
@@ -84,7 +84,7 @@ fn number_at(s: &[u8], from: usize) -> Number
 }
 
 // Up to as many numbers as a key list has keys; unused places are 0.
-#[derive(Drop)]
+#[derive(Clone, Copy)]
 pub struct Numbers {
     pub good: bool,
     pub len: usize,

@@ -1,3 +1,5 @@
+#![tactic(auto)]
+
 // The leaf that holds a code, from a node's number: that node, if it is the leaf; else by a search, from there where that may be.
 ghost use Rattle.std.specs.Prelude.{◌≡◌, ◌-◌, ◌<◌, ◌≤◌, true, length, nat_le, slice_index};
 ghost use Rattle.morton.specs.Keys.{axes_known, level_of, above};

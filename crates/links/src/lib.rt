@@ -1,3 +1,5 @@
+#![tactic(auto)]
+
 // Where the walk along a tree's sourced nodes goes on after a node: read from a column of links if it has children, else found among the nodes that follow.
 ghost use Rattle.std.specs.Prelude.{◌≡◌, true, false, ◌&&◌, suc, ◌≤◌, ◌<◌, leb, ltb, length};
 ghost use Rattle.morton.specs.Keys.{level_of};

@@ -1,3 +1,5 @@
+#![tactic(auto)]
+
 // Whether lists handed in are the tree's, judged with no room: document 02, orders 6 and 12. No row is made again. Each row is strictly ascending
 // and each entry passes the row's test, so it is part of the right one; each leaf meets as many sources as there are, so nothing is missing.
 ghost use Rattle.std.specs.Prelude.{◌≡◌, ◌≤◌, get_or};
@@ -17,7 +19,7 @@ use refusal::{Outcome, Refusal};
 use tree::Found;
 
 // Whether the lists are the tree's, or a refusal.
-#[derive(Drop)]
+#[derive(Clone, Copy)]
 pub enum RightAnswer {
     Right(bool),
     Refused(Refusal),

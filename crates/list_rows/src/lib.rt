@@ -1,3 +1,5 @@
+#![tactic(auto)]
+
 // One row handed in, judged with no room: each entry is found among the nodes and tested, and what they hold is added up. Document 02, orders 6 and 12.
 ghost use Rattle.std.specs.Prelude.{◌≡◌, ◌+◌, ◌≤◌, ◌<◌, min, ltb, length, get_or};
 ghost use Rattle.tree.specs.WellFormed.{SoundTree, most_sources};
@@ -8,14 +10,14 @@ ghost use Rattle.list_rows.specs.Rows.{too_many, Brings};
 use tree::Found;
 
 // A node's number and its place, or nothing.
-#[derive(Drop)]
+#[derive(Clone, Copy)]
 pub enum Spot {
     At(usize, u64),
     Nothing,
 }
 
 // A cell whose row is judged: its key, its place, and its parent's place.
-#[derive(Drop)]
+#[derive(Clone, Copy)]
 pub struct Row {
     pub cell: u64,
     pub place: u64,

@@ -1,3 +1,5 @@
+#![tactic(auto)]
+
 // How many keys the U rows and the V rows of a tree have, with no list: each row is made in room for one, counted, and forgotten.
 ghost use Rattle.std.specs.Prelude.{◌≡◌, true, ◌+◌, ◌≤◌, length, replicate};
 ghost use Rattle.tree.specs.Columns.{columns};

@@ -1,3 +1,5 @@
+#![tactic(auto)]
+
 // The listing program: a survey file on standard input, its listing or a refusal on standard output.
 use libc::STDIN_FILENO;
 

@@ -1,3 +1,5 @@
+#![tactic(auto)]
+
 // Replays recorded listings: for each file of a container on standard input, what the listing program writes of it.
 // differential/README.md says how they are made.
 use libc::{STDIN_FILENO, STDOUT_FILENO};

@@ -1,3 +1,5 @@
+#![tactic(auto)]
+
 // Both lists of a tree in Z order: the U and V rows of all nodes, written whole in one pass.
 mod starts; // starts.rt: the starts of both lists in one column
 
@@ -82,7 +84,7 @@ fn room_of(len: usize) -> usize
 }
 
 // What is kept of the starts and of each list's keys, and which slice of keys is short: 6 U's, 7 V's, or 0.
-#[derive(Drop)]
+#[derive(Clone, Copy)]
 struct Ends {
     short: u64,
     starts: usize,

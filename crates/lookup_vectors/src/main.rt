@@ -1,3 +1,5 @@
+#![tactic(auto)]
+
 // Replays recorded lookups: for each file of a container on standard input, the tree of its sources is built as the listing
 // program does, and the leaf of each target is looked up in it. differential/README.md says how they are made. Where a
 // slice is short, which no file brings about, nothing is answered; that differs from every record.

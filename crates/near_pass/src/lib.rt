@@ -1,3 +1,5 @@
+#![tactic(auto)]
+
 // Near work by one pass over the nodes of a tree, with no list: the sources near each cell of the path to a node are kept as sums.
 ghost use Rattle.std.specs.Prelude.{◌≡◌, true, false, ◌+◌, ◌≤◌, ◌<◌, length, get_or};
 ghost use Rattle.links.specs.Links.{inner, LinkedTree};

@@ -1,3 +1,5 @@
+#![tactic(auto)]
+
 // Near work: the sum over leaves of looked-up targets times sources in the U row.
 mod listed; // listed.rt: near work over a U list that is at hand
 
@@ -18,7 +20,7 @@ use refusal::{Outcome, Refusal};
 use space::Box;
 
 // Near work of a tree, or a refusal.
-#[derive(Drop)]
+#[derive(Clone, Copy)]
 pub enum WorkAnswer {
     Work(u64),
     Refused(Refusal),

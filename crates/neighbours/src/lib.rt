@@ -1,3 +1,5 @@
+#![tactic(auto)]
+
 // The direction rows of `morton_constants.rs`, in its order, and the neighbours of a cell along them.
 ghost use Rattle.std.specs.Prelude.{◌≡◌, true, ℕ, ◌≤◌, ◌<◌, get_or};
 ghost use Rattle.slices.specs.Lists.{filled};

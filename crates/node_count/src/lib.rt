@@ -1,3 +1,5 @@
+#![tactic(auto)]
+
 // How many nodes a build has, with no node column: the tree is grown as in a build, and its nodes are counted and forgotten.
 ghost use Rattle.std.specs.Prelude.{◌≡◌, length, replicate};
 ghost use Rattle.build.specs.Asked.{asks_at, asks_for, asks_on_grid};
@@ -9,7 +11,7 @@ use refusal::{Outcome, Refusal};
 use space::Box;
 
 // The number of nodes, or why there is no tree.
-#[derive(Drop)]
+#[derive(Clone, Copy)]
 pub enum Counted {
     Nodes(usize),
     Refused(Refusal),

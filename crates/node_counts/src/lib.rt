@@ -1,3 +1,5 @@
+#![tactic(auto)]
+
 // The counts of a salvage: kept where a leaf's run fits, else 0.
 ghost use Rattle.std.specs.Prelude.{◌≡◌, ◌+◌, leb};
 ghost use Rattle.node_counts.specs.Counts.{counts_kept, Countable};

@@ -1,3 +1,5 @@
+#![tactic(auto)]
+
 // Totals worked out afresh: from a node's begin to the begin of the first node that is not under it.
 ghost use Rattle.std.specs.Prelude.{◌≡◌, List, ℕ};
 ghost use Rattle.tree.specs.Totals.{total_column};

@@ -1,3 +1,5 @@
+#![tactic(auto)]
+
 // One source more in a tree built without targets: document 02, order 7. The tree is judged, and the tree of the longer list is grown.
 ghost use Rattle.std.specs.Prelude.{◌≡◌, [], suc, ◌*◌, ◌≤◌, length, replicate};
 ghost use Rattle.refusal.specs.declared.Outcome.TheVariants.{Done};

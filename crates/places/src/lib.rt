@@ -1,3 +1,5 @@
+#![tactic(auto)]
+
 // A cell's place: its anchors in one number, for tests of touching without tables.
 ghost use Rattle.std.specs.Prelude.{◌≡◌, ◌+◌, ◌*◌, ◌%◌, ◌^◌, ◌≤◌, ◌<◌};
 ghost use Rattle.morton.specs.Keys.{ValidKey};

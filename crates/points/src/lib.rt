@@ -1,3 +1,5 @@
+#![tactic(auto)]
+
 // One point: its anchors and its key at a level.
 ghost use Rattle.std.specs.Prelude.{◌≡◌, [], ◌≤◌};
 ghost use Rattle.refusal.specs.declared.Refusal.TheVariants.{Point};
@@ -9,7 +11,7 @@ use refusal::{Outcome, Refusal};
 use space::Box;
 
 // A point's anchors at a level, 0 past the axes and after a refusal.
-#[derive(Drop)]
+#[derive(Clone, Copy)]
 pub struct Anchored {
     pub outcome: Outcome,
     pub anchor: [u64; 3],
@@ -53,7 +55,7 @@ pub fn point_to_anchor(b: Box, point: [f64; 3], level: u64) -> Anchored
 }
 
 // The key of the cell in which a point lies.
-#[derive(Drop)]
+#[derive(Clone, Copy)]
 pub enum PointKey {
     Cell(u64),
     Refused(Refusal),

@@ -1,3 +1,5 @@
+#![tactic(auto)]
+
 // Whether the order column of a tree holds its points, judged with no room: document 02, orders 7 and 9. Each point is read once.
 ghost use Rattle.std.specs.Prelude.{◌≡◌, true, ◌+◌, ◌*◌, ◌≤◌, ◌<◌, length};
 ghost use Rattle.morton.specs.Keys.{axes_known, level_of};

@@ -1,3 +1,5 @@
+#![tactic(auto)]
+
 // What is printed for a survey file: its listing, or the first refusal.
 ghost use Rattle.std.specs.Prelude.{◌≡◌, length};
 ghost use Rattle.tree.specs.Columns.{columns};

@@ -1,3 +1,5 @@
+#![tactic(auto)]
+
 // When targets split a cell: document 01, "How the tree grows", from `target_refinement.rs`.
 mod sums; // sums.rt: how many sources a cell has, asked of sums along the cells one level above the reference depth
 
@@ -13,7 +15,7 @@ use morton::keys;
 pub use sums::add_sums;
 
 // The counts around a cell: how many peers, the sum of their counts, and the sum of the counts' squares.
-#[derive(Drop)]
+#[derive(Clone, Copy)]
 pub struct Around {
     pub peers: usize,
     pub sum: usize,

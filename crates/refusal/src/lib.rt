@@ -1,10 +1,12 @@
+#![tactic(auto)]
+
 // The refusals of documents 01 and 02: one case a number, and the number and values of each.
 ghost use Rattle.std.specs.Prelude.{◌≡◌, [], ◌∷◌};
 ghost use Rattle.refusal.specs.Numbers.{number_of, values_of, outcome_number, outcome_values, tells};
 
 // Which wall of the box a point is behind: the point's index, the axis from 0, and the reason. It is 1 where the coordinate is
 // not finite, 2 where it is below the box, 3 where it is above.
-#[derive(Drop)]
+#[derive(Clone, Copy)]
 pub struct Wall {
     pub index: usize,
     pub axis: u16,
@@ -13,7 +15,7 @@ pub struct Wall {
 
 // In the order of document 01's table, then of document 02's numbers, under their names. A case holds its values where they are
 // not one 0.
-#[derive(Drop)]
+#[derive(Clone, Copy)]
 pub enum Refusal {
     Dims,
     Box,
@@ -38,7 +40,7 @@ pub enum Refusal {
 }
 
 // How a call ended, beside an answer that holds an array.
-#[derive(Drop)]
+#[derive(Clone, Copy)]
 pub enum Outcome {
     Done,
     Refused(Refusal),
@@ -46,7 +48,7 @@ pub enum Outcome {
 
 // What is told of a refusal: its number, how many values go with it, and the values: the index, which slice is short or 0; the
 // axis and the reason of a wall, 0 where there is none.
-#[derive(Drop)]
+#[derive(Clone, Copy)]
 pub struct Told {
     pub number: u64,
     pub count: usize,

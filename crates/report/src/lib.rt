@@ -1,3 +1,5 @@
+#![tactic(auto)]
+
 // The text that is printed of a tree: its listing, or the refusal of its lists or of a target.
 ghost use Rattle.std.specs.Prelude.{◌≡◌, length};
 ghost use Rattle.tree.specs.Columns.{columns};

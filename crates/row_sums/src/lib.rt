@@ -1,3 +1,5 @@
+#![tactic(auto)]
+
 // Readings added up over a row of keys, walked through a reader: document 02, order 12.
 ghost use Rattle.std.specs.Prelude.{◌≡◌, ◌≤◌, ◌*◌, nat_abs, get_or};
 ghost use Rattle.slices.specs.Lists.{range};
@@ -103,7 +105,7 @@ pub fn row_count(axes: usize, key: &[u64], count: &[usize], row: &[u64]) -> usiz
 }
 
 // The far sum of a cell, and how many far cells it has.
-#[derive(Drop)]
+#[derive(Clone, Copy)]
 pub struct Far {
     pub sum: i64,
     pub cells: usize,

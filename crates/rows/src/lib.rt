@@ -1,1 +1,3 @@
+#![tactic(auto)]
+
 // Rows are defined and proved here; nothing is computed.

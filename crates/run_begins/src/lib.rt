@@ -1,3 +1,5 @@
+#![tactic(auto)]
+
 // Begins are the running sums of the own counts.
 ghost use Rattle.std.specs.Prelude.{◌≡◌, ◌≤◌, length};
 ghost use Rattle.slices.specs.Lists.{sum};

@@ -1,3 +1,5 @@
+#![tactic(auto)]
+
 // The runs of an order column copied to a new one, node by node.
 ghost use Rattle.std.specs.Prelude.{◌≡◌, ◌++◌, ◌+◌, ◌≤◌, length, take, drop};
 ghost use Rattle.slices.specs.Lists.{filled};

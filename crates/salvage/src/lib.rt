@@ -1,3 +1,5 @@
+#![tactic(auto)]
+
 // Salvage of columns: document 02, order 8.
 ghost use Rattle.std.specs.Prelude.{◌≡◌, ◌++◌, ◌-◌, min, length, take, replicate};
 ghost use Rattle.salvaged.specs.Nodes.{input};

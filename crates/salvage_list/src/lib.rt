@@ -1,3 +1,5 @@
+#![tactic(auto)]
+
 // The order column, the begins and the change list of a salvage, from its nodes and their counts.
 ghost use Rattle.std.specs.Prelude.{◌≡◌, length};
 ghost use Rattle.slices.specs.Lists.{filled};

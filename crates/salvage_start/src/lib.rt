@@ -1,3 +1,5 @@
+#![tactic(auto)]
+
 // The nodes of a salvage with their counts, and the refusals up to the room for them.
 ghost use Rattle.std.specs.Prelude.{◌≡◌, min};
 ghost use Rattle.slices.specs.Lists.{sum};
@@ -61,7 +63,7 @@ fn sum_own(own: &[usize]) -> usize
 }
 
 // Whether the nodes are put, and how many nodes and sources there are.
-#[derive(Drop)]
+#[derive(Clone, Copy)]
 pub struct Started {
     pub outcome: Outcome,
     pub nodes: usize,

@@ -1,3 +1,5 @@
+#![tactic(auto)]
+
 // What is done with any lent slice of numbers.
 ghost use Rattle.std.specs.Prelude.{◌≡◌, ◌-◌, ◌++◌, length, take, replicate};
 ghost use Rattle.slices.specs.Order.{rises, LowerBound, InRange};

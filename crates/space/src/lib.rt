@@ -1,3 +1,5 @@
+#![tactic(auto)]
+
 // The box, and the cell in which a point lies or the wall that it is behind.
 ghost use Rattle.std.specs.Prelude.{◌≡◌, ◌+◌, ◌/◌, ◌≤◌, ◌<◌, length, drop};
 ghost use Rattle.space.specs.Floats.{size_of, is_finite, floor};
@@ -9,7 +11,7 @@ ghost use Rattle.space.specs.Domain.{radius_known, centres_known, box_outcome, l
 use refusal::{Outcome, Refusal, Wall};
 
 // The centre, the radius and the number of axes. Centre entries past the axes are not read.
-#[derive(Drop)]
+#[derive(Clone, Copy)]
 pub struct Box {
     pub centre: [f64; 3],
     pub radius: f64,
@@ -72,7 +74,7 @@ pub fn box_outcome(b: Box) -> Outcome
 }
 
 // Where a coordinate lies on an axis: its cell's number; or it is not finite, below the box, or above it.
-#[derive(Drop)]
+#[derive(Clone, Copy)]
 pub enum Place {
     At(u64),
     NotFinite,
@@ -106,7 +108,7 @@ fn wall_by(x: f64, q: f64) -> Place
 
 // The number of a coordinate's cell on its axis, or of a point's cell, which is its code; or outside. Most points are inside, and
 // their way asks no more; `wall_of` looks again at the one that is refused.
-#[derive(Drop)]
+#[derive(Clone, Copy)]
 pub enum Cell {
     Number(u64),
     Outside,
@@ -161,7 +163,7 @@ pub fn side_at(radius: f64, level: u64) -> f64
 }
 
 // What the points of a box share: the displacement on each axis, the side at level 16, the number of axes.
-#[derive(Drop)]
+#[derive(Clone, Copy)]
 pub struct Frame {
     pub displacement: [f64; 3],
     pub side: f64,
@@ -212,7 +214,7 @@ fn cell_on(f: Frame, points: &[f64], at: usize, a: usize) -> Cell
 }
 
 // Whether a point is inside, and its level-16 anchors if it is.
-#[derive(Drop)]
+#[derive(Clone, Copy)]
 pub struct Located {
     pub inside: bool,
     pub anchor: [u64; 3],
@@ -297,7 +299,7 @@ pub fn code_at(f: Frame, points: &[f64], at: usize) -> Cell
 }
 
 // The points of a batch: all inside, or the wall of the first that is outside.
-#[derive(Drop)]
+#[derive(Clone, Copy)]
 pub enum Rows {
     Inside,
     Outside(Wall),

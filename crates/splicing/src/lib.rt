@@ -1,3 +1,5 @@
+#![tactic(auto)]
+
 // The columns of a tree with one source more, where no cell splits for it: copied around the one cell that changes. Document 02, order 7.
 ghost use Rattle.std.specs.Prelude.{◌≡◌, false, [], ◌∷◌, ◌++◌, map, ◌+◌, ◌-◌, ◌≤◌, ◌<◌, length, get_or, take, drop};
 ghost use Rattle.slices.specs.Lists.{bit, range};

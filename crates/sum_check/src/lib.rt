@@ -1,3 +1,5 @@
+#![tactic(auto)]
+
 // The sum check of one leaf: its readings added up through its rows, the near ones one by one and the far ones by cells. Document 02, order 12.
 ghost use Rattle.std.specs.Prelude.{◌≡◌};
 ghost use Rattle.refusal.specs.declared.Outcome.TheVariants.{Done};
@@ -10,7 +12,7 @@ ghost use Rattle.sum_check.specs.Answers.{sum_answer, Together};
 use refusal::{Outcome, Refusal};
 
 // The near sum, the far sum and the number of additions, or a refusal.
-#[derive(Drop)]
+#[derive(Clone, Copy)]
 pub enum SumAnswer {
     Sums(i64, i64, usize),
     Refused(Refusal),

@@ -1,3 +1,5 @@
+#![tactic(auto)]
+
 // The house file: document 01, "The survey file and the listing".
 ghost use Rattle.std.specs.Prelude.{◌≡◌, true, ◌&&◌, ◌+◌, ◌-◌, ◌*◌, ◌≤◌, ◌<◌, length, get_or};
 ghost use Rattle.std.specs.Float.{binary64};
@@ -9,7 +11,7 @@ use refusal::{Outcome, Refusal};
 use space::Box;
 
 // What a file says, and how its reading ended. `sources` and `targets` are numbers of rows.
-#[derive(Drop)]
+#[derive(Clone, Copy)]
 pub struct Survey {
     pub outcome: Outcome,
     pub b: Box,

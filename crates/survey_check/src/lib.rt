@@ -1,3 +1,5 @@
+#![tactic(auto)]
+
 // The sum check of a whole survey: every leaf's near and far readings are added up and compared with the plain sum of all. Document 02, order 12.
 // The checks run once; a cell's sum takes two reads; far sums ride on the path from the root.
 ghost use Rattle.std.specs.Prelude.{◌≡◌, ◌&&◌, ◌+◌, ◌≤◌, ◌<◌, min, length, get_or, replicate};
@@ -15,14 +17,14 @@ use cell_sums::Part;
 use refusal::{Outcome, Refusal};
 
 // How many leaves agree and the additions of all leaves, or a refusal.
-#[derive(Drop)]
+#[derive(Clone, Copy)]
 pub enum SurveyAnswer {
     Checked(usize, usize),
     Refused(Refusal),
 }
 
 // How many leaves agree, and their additions.
-#[derive(Drop)]
+#[derive(Clone, Copy)]
 pub struct Tally {
     pub leaves: usize,
     pub additions: usize,

@@ -1,3 +1,5 @@
+#![tactic(auto)]
+
 // The targets of each leaf: each target is looked up and counted at its leaf's number. Targets are coded a piece at a time, which is
 // quicker than to code and look up one after the other, and takes no room that grows with them.
 ghost use Rattle.std.specs.Prelude.{◌≡◌, ℕ, ◌+◌, ◌*◌, ◌≤◌, ◌<◌, length, get_or, take, replicate};

@@ -1,3 +1,5 @@
+#![tactic(auto)]
+
 // The text of a listing, written into a lent slice: document 01, "The survey file and the listing". Nodes in Z order are printed by level.
 ghost use Rattle.std.specs.Prelude.{◌≡◌, List, [], ◌∷◌, ◌++◌, ℕ, ◌+◌, ◌≤◌, ◌-◌, ◌<◌, min, length, get_or, take, replicate};
 ghost use Rattle.sourced.specs.Room.{Holds, Puts};
@@ -8,14 +10,14 @@ ghost use Rattle.text.specs.Listing.{field, fields, line, refusal_line, lettered
 use refusal::Refusal;
 
 // How a text was written: its length, or that the slice lent for it is short.
-#[derive(Drop)]
+#[derive(Clone, Copy)]
 pub enum Text {
     Length(usize),
     Short,
 }
 
 // Where the lines of nodes end, and the number that is printed next.
-#[derive(Drop)]
+#[derive(Clone, Copy)]
 struct Lines {
     end: usize,
     number: usize,

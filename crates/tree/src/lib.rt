@@ -1,3 +1,5 @@
+#![tactic(auto)]
+
 // What a tree is: its columns in Z order, when they are well formed, the depth, finding a node, and the sources of a leaf and of any cell.
 ghost use Rattle.std.specs.Prelude.{◌≡◌, true, ◌&&◌, ℕ, ◌+◌, ◌≤◌, ◌<◌, length, get_or};
 ghost use Rattle.morton.specs.Keys.{axes_known, above, under};
@@ -11,7 +13,7 @@ ghost use Rattle.tree.specs.Sources.{leaf_sources, cell_sources};
 pub const MOST_SOURCES: usize = 1048576;
 
 // A node's number, or nothing.
-#[derive(Drop)]
+#[derive(Clone, Copy)]
 pub enum Found {
     At(usize),
     Nothing,

@@ -1,1 +1,3 @@
+#![tactic(auto)]
+
 // Tree files are defined and proved here; nothing is computed.

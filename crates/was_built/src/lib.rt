@@ -1,3 +1,5 @@
+#![tactic(auto)]
+
 // Whether a tree handed in is the build of its sources, judged with no room and without building it: document 02, order 7.
 ghost use Rattle.std.specs.Prelude.{◌≡◌, true, ◌≤◌, length};
 ghost use Rattle.morton.specs.Keys.{axes_known};

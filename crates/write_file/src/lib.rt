@@ -1,3 +1,5 @@
+#![tactic(auto)]
+
 // The writer of a tree file: document 02, order 6. Columns, order, U and V in nine sections, then the trailer.
 ghost use Rattle.std.specs.Prelude.{◌≡◌, ◌≤◌, max, length};
 ghost use Rattle.refusal.specs.declared.Outcome.TheVariants.{Done};
@@ -12,7 +14,7 @@ ghost use Rattle.write_file.specs.Answers.{write_check, write_answer, write_left
 use refusal::{Outcome, Refusal};
 
 // The file's length, or a refusal.
-#[derive(Drop)]
+#[derive(Clone, Copy)]
 pub enum Written {
     Length(usize),
     Refused(Refusal),

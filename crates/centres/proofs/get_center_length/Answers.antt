@@ -1,0 +1,35 @@
+-- `centres::get_center_length` meets its contract.
+use mathlib.Core.Path.{sym, ap, ◌∙◌}
+use native.Mathlib.Omega.{arith}
+use lib.Dec.{lit<}
+use Rattle.morton.specs.Keys.{ValidKey}
+use Rattle.space.specs.Cells.{side}
+use Rattle.centres.proofs.Centres.{key-done}
+use Rattle.centres.proofs.Answers.{refused-centre, done-centre}
+use Rattle.centres.proofs.get_center_length.Goals as goal
+
+pub returns-in-Refused : goal.returns-in-Refused
+returns-in-Refused c = refused-centre c.args.b c.args.key c.in-Refused.refusal (sym c.in-Refused.is ∙ c.key_outcome-o.ensures)
+
+-- not refused: the key is valid
+done : (c : goal.In_default) → ValidKey c.args.b.axes c.args.key
+done c = (key-done c.args.b c.args.key (sym c.key_outcome-o.ensures ∙ c.in_default.is)).1
+
+pub anchors_of-anchor-requires : goal.anchors_of-anchor-requires
+anchors_of-anchor-requires c = done c
+
+pub centre_on-x-requires : goal.centre_on-x-requires
+centre_on-x-requires c = (done c, c.anchors_of-anchor.ensures, lit< tt)
+
+pub centre_on-y-requires : goal.centre_on-y-requires
+centre_on-y-requires c = (done c, c.anchors_of-anchor.ensures, lit< tt)
+
+pub centre_on-z-requires : goal.centre_on-z-requires
+centre_on-z-requires c = (done c, c.anchors_of-anchor.ensures, lit< tt)
+
+pub side_at-requires : goal.side_at-requires
+side_at-requires c = omega (arith, c.level_of.ensures, (done c).level)
+
+pub returns : goal.returns
+returns c = done-centre c.args.b c.args.key c.centre_on-x.result c.centre_on-y.result c.centre_on-z.result c.side_at.result
+    (sym c.in_default.is ∙ c.key_outcome-o.ensures) c.centre_on-x.ensures c.centre_on-y.ensures c.centre_on-z.ensures (c.side_at.ensures ∙ ap (side c.args.b.radius) c.level_of.ensures)

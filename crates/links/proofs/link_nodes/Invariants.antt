@@ -1,0 +1,9 @@
+-- `links::link_nodes` meets its contract.
+use Rattle.links.proofs.Links.{Linking}
+use Rattle.links.proofs.link_nodes.Given as goal
+
+abbrev pub invariant-loop-i : goal.invariant-loop-i
+invariant-loop-i l = Linking l.key l.total l.initial.links l.links l.i
+
+abbrev pub decreases-loop-i : goal.decreases-loop-i
+decreases-loop-i l = l.i

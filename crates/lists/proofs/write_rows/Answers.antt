@@ -1,0 +1,9 @@
+-- `lists::write_rows` meets its contract.
+use native.Mathlib.Omega.{arith}
+use Rattle.lists.proofs.write_rows.Goals as goal
+
+pub fill_rows-requires : goal.fill_rows-requires
+fill_rows-requires c = ((c.requires.0, c.begin.ensures _ (omega arith)), c.requires.1)
+
+pub returns : goal.returns
+returns c = c.fill_rows.ensures

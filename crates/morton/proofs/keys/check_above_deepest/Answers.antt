@@ -1,0 +1,20 @@
+-- After 1 and 9 comes 11, at the deepest level.
+use mathlib.Core.Path.{sym, ◌∙◌}
+use native.Mathlib.Omega.{arith}
+use lib.Dec.{ltb}
+use borrow.Author.Tests.{lt-ltb, le-ltb}
+use Rattle.morton.specs.Keys.{level_of}
+use Rattle.refusal.specs.Chain.{ask}
+use Rattle.refusal.specs.declared.Refusal.TheVariants.{Deep}
+use Rattle.morton.specs.Answers.{key_check}
+use Rattle.refusal.proofs.Chain.{after-done, after-refused}
+use Rattle.morton.proofs.keys.check_above_deepest.Goals as goal
+
+pub returns-then-level_of-ge16 : goal.returns-then-level_of-ge16
+returns-then-level_of-ge16 c = sym (after-done (key_check c.args.axes c.args.key) (ask (ltb (level_of c.args.key) 16) Deep) (sym c.check_key-checked.ensures ∙ c.in-Done.is) ∙ simp (le-ltb (level_of c.args.key) 16 (omega (arith, c.level_of.ensures))))
+
+pub returns-in-Refused : goal.returns-in-Refused
+returns-in-Refused c = sym (after-refused (key_check c.args.axes c.args.key) (ask (ltb (level_of c.args.key) 16) Deep) _ (sym c.check_key-checked.ensures ∙ c.in-Refused.is))
+
+pub returns-else-level_of-ge16 : goal.returns-else-level_of-ge16
+returns-else-level_of-ge16 c = sym (after-done (key_check c.args.axes c.args.key) (ask (ltb (level_of c.args.key) 16) Deep) (sym c.check_key-checked.ensures ∙ c.in-Done.is) ∙ simp (lt-ltb (level_of c.args.key) 16 (omega (arith, c.level_of.ensures))))

@@ -1,0 +1,11 @@
+-- `splicing::copy_keys` meets its contract.
+use Prim.Native.Nat.{◌+◌, ◌-◌, ◌≤◌}
+use lib.ListN.{get_or}
+use Rattle.splicing.specs.Copies.{Copied}
+use Rattle.splicing.proofs.copy_keys.Given as goal
+
+abbrev pub invariant-loop-i : goal.invariant-loop-i
+invariant-loop-i l = (l.i ≤ l.n) × Copied l.i l.at (λ j. get_or l.key (l.from + j) 0) l.initial.out l.out
+
+abbrev pub decreases-loop-i : goal.decreases-loop-i
+decreases-loop-i l = l.n - l.i

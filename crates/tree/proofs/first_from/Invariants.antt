@@ -1,0 +1,10 @@
+-- `tree::first_from` meets its contract.
+use Prim.Native.Nat.{◌-◌}
+use Rattle.tree.proofs.Finding.{Split}
+use Rattle.tree.proofs.first_from.Given as goal
+
+abbrev pub invariant-loop-low : goal.invariant-loop-low
+invariant-loop-low l = Split l.axes l.key l.k l.low l.high
+
+abbrev pub decreases-loop-low : goal.decreases-loop-low
+decreases-loop-low l = l.high - l.low
