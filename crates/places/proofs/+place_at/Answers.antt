@@ -11,11 +11,11 @@ returns-then-level-lt1 t c = place_none c.args.axes _ c.args.code c.if-level-lt1
 
 pub place_at-up-requires : goal.place_at-up-requires
 ) (place-at-at t) place-at.Post
-place_at-up-requires t c = (omega (arith, c.requires.0, c.if-level-lt1.false), (c.requires.1.0, omega (arith, c.requires.1.1)))
+place_at-up-requires t c = (omega (arith, c.decreases, c.if-level-lt1.false), (c.requires.0, omega (arith, c.requires.1)))
 
 pub place_below-requires : goal.place_below-requires
 ) (place-at-at t) place-at.Post
-place_below-requires t c = (c.requires.1.0, subst (λ n. n < 1152921504606846976) (sym c.place_at-up.ensures) (place-small c.args.axes _ _ (omega (arith, c.requires.1.1))))
+place_below-requires t c = (c.requires.0, subst (λ n. n < 1152921504606846976) (sym c.place_at-up.ensures) (place-small c.args.axes _ _ (omega (arith, c.requires.1))))
 
 pub returns : goal.returns
 ) (place-at-at t) place-at.Post
