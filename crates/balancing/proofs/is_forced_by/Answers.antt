@@ -11,7 +11,7 @@ pub is_split-requires : goal.is_split-requires
 is_split-requires c = (c.requires.0, (found_at c.args.axes c.args.key.now c.args.c c.find_node-found.result c.find_node-found.ensures _ c.in-At.is).0)
 
 pub returns-then-not-is_split : goal.returns-then-not-is_split
-returns-then-not-is_split c = forced-leaf c.args.axes c.args.key.now c.requires.0 c.args.r c.args.c c.find_node-found.result c.find_node-found.ensures _ c.in-At.is _ c.is_split.ensures (not-true _ c.if-not-is_split.true)
+returns-then-not-is_split c = forced-leaf c.args.axes c.args.key.now c.requires.0 c.args.r c.args.c c.find_node-found.result c.find_node-found.ensures _ c.in-At.is _ c.is_split.ensures (c.if-not-is_split.true)
 
 pub end_of-end-requires : goal.end_of-end-requires
 end_of-end-requires c = (c.requires.0, (found_at c.args.axes c.args.key.now c.args.c c.find_node-found.result c.find_node-found.ensures _ c.in-At.is).0)

@@ -25,13 +25,13 @@ pub returns-then-not-is_off : goal.returns-then-not-is_off
 returns-then-not-is_off c = let m = c.loop-n.n - 1 in
     let x = held_at c.args.axes c.args.r _ c.requires.2 m (omega arith) in
     let y = held_at c.args.axes c.args.p _ c.anchors_of-at.ensures m (omega arith) in
-    axis-fails c.args.axes c.args.r c.args.p c.loop-n.n m (omega arith) _ (c.is_off.ensures ∙ ap₂ (off (level_of c.args.p - level_of c.args.r)) x y) c.loop-n.invariant.1 (not-true _ c.if-not-is_off.true)
+    axis-fails c.args.axes c.args.r c.args.p c.loop-n.n m (omega arith) _ (c.is_off.ensures ∙ ap₂ (off (level_of c.args.p - level_of c.args.r)) x y) c.loop-n.invariant.1 (c.if-not-is_off.true)
 
 pub loop-n-preserved : goal.loop-n-preserved
 loop-n-preserved c = let m = c.loop-n.n - 1 in
     let x = held_at c.args.axes c.args.r _ c.requires.2 m (omega arith) in
     let y = held_at c.args.axes c.args.p _ c.anchors_of-at.ensures m (omega arith) in
-    (omega arith, axis-passes c.args.axes c.args.r c.args.p c.loop-n.n m (omega arith) _ (c.is_off.ensures ∙ ap₂ (off (level_of c.args.p - level_of c.args.r)) x y) c.loop-n.invariant.1 (not-false _ c.if-not-is_off.false))
+    (omega arith, axis-passes c.args.axes c.args.r c.args.p c.loop-n.n m (omega arith) _ (c.is_off.ensures ∙ ap₂ (off (level_of c.args.p - level_of c.args.r)) x y) c.loop-n.invariant.1 (c.if-not-is_off.false))
 
 pub returns : goal.returns
 returns c = axes-done c.args.axes c.args.r c.args.p c.loop-n.n (omega arith) c.loop-n.invariant.1

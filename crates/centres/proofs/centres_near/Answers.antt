@@ -47,13 +47,13 @@ axis c =
 
 pub returns-then-not-magnitude-length : goal.returns-then-not-magnitude-length
 unfolding of_bits tolerance lib.Ieee.round
-returns-then-not-magnitude-length c = near-stop c.args.b c.args.first c.args.second c.loop-n.n (c.loop-n.n - 1) _ _ _ _ _ refl (omega (arith, c.loop-n-test.true)) (axis c) (not-true _ c.if-not-magnitude-length.true) ∙ c.loop-n.invariant.1
+returns-then-not-magnitude-length c = near-stop c.args.b c.args.first c.args.second c.loop-n.n (c.loop-n.n - 1) _ _ _ _ _ refl (omega (arith, c.loop-n-test.true)) (axis c) (c.if-not-magnitude-length.true) ∙ c.loop-n.invariant.1
 
 pub loop-n-preserved : goal.loop-n-preserved
 unfolding of_bits tolerance lib.Ieee.round
 loop-n-preserved c = (
       omega (arith, c.loop-n.invariant.0),
-      near_next c.args.b c.args.first c.args.second c.loop-n.n (c.loop-n.n - 1) _ _ _ _ _ refl (omega (arith, c.loop-n-test.true)) (axis c) (not-false _ c.if-not-magnitude-length.false) ∙ c.loop-n.invariant.1,
+      near_next c.args.b c.args.first c.args.second c.loop-n.n (c.loop-n.n - 1) _ _ _ _ _ refl (omega (arith, c.loop-n-test.true)) (axis c) (c.if-not-magnitude-length.false) ∙ c.loop-n.invariant.1,
     )
 
 pub returns : goal.returns

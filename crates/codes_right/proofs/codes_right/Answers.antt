@@ -35,10 +35,10 @@ pub run_right-requires : goal.run_right-requires
 run_right-requires c = let j = (judging c.args.axes [] c.args.key.now c.args.own.now c.args.begin.now c.args.total.now c.requires.0 c.requires.1) in (j.most, j.levels c.loop-node.node c.loop-node-test.true, omega (arith, j.ends c.loop-node.node c.loop-node-test.true, j.root, c.if-order-codes.false, c.if-total-codes.false))
 
 pub returns-then-not-run_right : goal.returns-then-not-run_right
-returns-then-not-run_right c = λ p. tell-false c.run_right.result c.run_right.ensures (not-true _ c.if-not-run_right.true) (p.runs c.loop-node.node c.loop-node-test.true)
+returns-then-not-run_right c = λ p. tell-false c.run_right.result c.run_right.ensures (c.if-not-run_right.true) (p.runs c.loop-node.node c.loop-node-test.true)
 
 pub loop-node-preserved : goal.loop-node-preserved
-loop-node-preserved c = before_more (length c.args.codes.now) (code_in c.args.axes c.args.codes.now) c.args.key.now c.args.own.now c.args.begin.now c.args.order.now c.loop-node.node c.loop-node.invariant (tell-true c.run_right.result c.run_right.ensures (not-false _ c.if-not-run_right.false))
+loop-node-preserved c = before_more (length c.args.codes.now) (code_in c.args.axes c.args.codes.now) c.args.key.now c.args.own.now c.args.begin.now c.args.order.now c.loop-node.node c.loop-node.invariant (tell-true c.run_right.result c.run_right.ensures (c.if-not-run_right.false))
 
 pub returns : goal.returns
 returns c = before-done (length c.args.codes.now) (code_in c.args.axes c.args.codes.now) c.args.key.now c.args.own.now c.args.begin.now c.args.order.now c.loop-node.node c.loop-node.invariant c.loop-node-test.false c.if-order-codes.false (sym (judging c.args.axes [] c.args.key.now c.args.own.now c.args.begin.now c.args.total.now c.requires.0 c.requires.1).root ∙ c.if-total-codes.false)

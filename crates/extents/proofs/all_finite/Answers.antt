@@ -9,10 +9,10 @@ pub loop-i-init : goal.loop-i-init
 loop-i-init c = (omega arith, refl)
 
 pub returns-then-not-is_finite : goal.returns-then-not-is_finite
-returns-then-not-is_finite c = finite-stop c.args.extents.now c.loop-i.i c.is_finite.result c.loop-i-test.true c.is_finite.ensures (not-true _ c.if-not-is_finite.true) ∙ c.loop-i.invariant.1
+returns-then-not-is_finite c = finite-stop c.args.extents.now c.loop-i.i c.is_finite.result c.loop-i-test.true c.is_finite.ensures (c.if-not-is_finite.true) ∙ c.loop-i.invariant.1
 
 pub loop-i-preserved : goal.loop-i-preserved
-loop-i-preserved c = (omega arith, finite-next c.args.extents.now c.loop-i.i c.is_finite.result c.loop-i-test.true c.is_finite.ensures (not-false _ c.if-not-is_finite.false) ∙ c.loop-i.invariant.1)
+loop-i-preserved c = (omega arith, finite-next c.args.extents.now c.loop-i.i c.is_finite.result c.loop-i-test.true c.is_finite.ensures (c.if-not-is_finite.false) ∙ c.loop-i.invariant.1)
 
 pub returns : goal.returns
 returns c = finite-all c.args.extents.now c.loop-i.i c.loop-i.invariant.0 c.loop-i-test.false ∙ c.loop-i.invariant.1

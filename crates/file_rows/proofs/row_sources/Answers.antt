@@ -18,7 +18,7 @@ pub rises_at-requires : goal.rises_at-requires
 rises_at-requires c = (c.requires.sectioned, (c.requires.from_le_to.0, c.requires.from_le_to.1, (omega (arith, c.loop-i-test.true, (part_length (column_in c.args.file.now c.args.code) c.args.from c.args.to c.requires.from_le_to.0 c.requires.from_le_to.1)))))
 
 pub returns-then-not-rises_at : goal.returns-then-not-rises_at
-returns-then-not-rises_at c = pass-falls c.args.s.axes (column_in c.args.file.now 1) (column_in c.args.file.now 2) (column_in c.args.file.now 4) c.args.far c.args.row.cell (part (column_in c.args.file.now c.args.code) c.args.from c.args.to) c.loop-i.i (omega (arith, c.loop-i-test.true, (part_length (column_in c.args.file.now c.args.code) c.args.from c.args.to c.requires.from_le_to.0 c.requires.from_le_to.1))) (sym c.rises_at.ensures ∙ not-true _ c.if-not-rises_at.true)
+returns-then-not-rises_at c = pass-falls c.args.s.axes (column_in c.args.file.now 1) (column_in c.args.file.now 2) (column_in c.args.file.now 4) c.args.far c.args.row.cell (part (column_in c.args.file.now c.args.code) c.args.from c.args.to) c.loop-i.i (omega (arith, c.loop-i-test.true, (part_length (column_in c.args.file.now c.args.code) c.args.from c.args.to c.requires.from_le_to.0 c.requires.from_le_to.1))) (sym c.rises_at.ensures ∙ c.if-not-rises_at.true)
 
 pub entry_at-k-requires : goal.entry_at-k-requires
 entry_at-k-requires c = (c.requires.sectioned, (c.requires.from_le_to.0, c.requires.from_le_to.1, (omega (arith, c.loop-i-test.true, (part_length (column_in c.args.file.now c.args.code) c.args.from c.args.to c.requires.from_le_to.0 c.requires.from_le_to.1)))))
@@ -33,7 +33,7 @@ pub is_taken-requires : goal.is_taken-requires
 is_taken-requires c = (c.requires.sectioned.0, (c.requires.counted.0, c.requires.counted.1, node_at c.args.s.axes (column_in c.args.file.now 1) (column_in c.args.file.now 2) (column_in c.args.file.now 4) c.args.far c.args.row.cell (part (column_in c.args.file.now c.args.code) c.args.from c.args.to) c.loop-i.i c.loop-i.sum (omega (arith, c.loop-i-test.true, (part_length (column_in c.args.file.now c.args.code) c.args.from c.args.to c.requires.from_le_to.0 c.requires.from_le_to.1))) c.entry_at-k.result c.entry_at-k.ensures c.seek-spot.result c.seek-spot.ensures _ _ c.in-At.is))
 
 pub returns-then-not-is_taken : goal.returns-then-not-is_taken
-returns-then-not-is_taken c = fails c.args.s.axes (column_in c.args.file.now 1) (column_in c.args.file.now 2) (column_in c.args.file.now 4) c.args.far c.args.row.cell (part (column_in c.args.file.now c.args.code) c.args.from c.args.to) c.loop-i.i c.loop-i.sum (omega (arith, c.loop-i-test.true, (part_length (column_in c.args.file.now c.args.code) c.args.from c.args.to c.requires.from_le_to.0 c.requires.from_le_to.1))) c.entry_at-k.result c.entry_at-k.ensures c.seek-spot.result c.seek-spot.ensures _ _ c.in-At.is c.is_taken.result c.is_taken.ensures (not-true _ c.if-not-is_taken.true)
+returns-then-not-is_taken c = fails c.args.s.axes (column_in c.args.file.now 1) (column_in c.args.file.now 2) (column_in c.args.file.now 4) c.args.far c.args.row.cell (part (column_in c.args.file.now c.args.code) c.args.from c.args.to) c.loop-i.i c.loop-i.sum (omega (arith, c.loop-i-test.true, (part_length (column_in c.args.file.now c.args.code) c.args.from c.args.to c.requires.from_le_to.0 c.requires.from_le_to.1))) c.entry_at-k.result c.entry_at-k.ensures c.seek-spot.result c.seek-spot.ensures _ _ c.in-At.is c.is_taken.result c.is_taken.ensures (c.if-not-is_taken.true)
 
 pub number_of-total-requires : goal.number_of-total-requires
 number_of-total-requires c = (c.requires.sectioned.0, omega arith, omega arith, refl)
@@ -45,7 +45,7 @@ pub loop-i-smaller : goal.loop-i-smaller
 loop-i-smaller c = omega (arith, c.loop-i-test.true)
 
 pub loop-i-preserved : goal.loop-i-preserved
-loop-i-preserved c = more c.args.s.axes (column_in c.args.file.now 1) (column_in c.args.file.now 2) (column_in c.args.file.now 4) c.args.far c.args.row.cell (part (column_in c.args.file.now c.args.code) c.args.from c.args.to) c.loop-i.i c.loop-i.sum (omega (arith, c.loop-i-test.true, (part_length (column_in c.args.file.now c.args.code) c.args.from c.args.to c.requires.from_le_to.0 c.requires.from_le_to.1))) c.entry_at-k.result c.entry_at-k.ensures c.seek-spot.result c.seek-spot.ensures _ _ c.in-At.is c.is_taken.result c.is_taken.ensures c.requires.counted.0 c.number_of-total.result c.number_of-total.ensures c.loop-i.invariant (sym c.rises_at.ensures ∙ not-false _ c.if-not-rises_at.false) (not-false _ c.if-not-is_taken.false) _ c.held-sum.ensures
+loop-i-preserved c = more c.args.s.axes (column_in c.args.file.now 1) (column_in c.args.file.now 2) (column_in c.args.file.now 4) c.args.far c.args.row.cell (part (column_in c.args.file.now c.args.code) c.args.from c.args.to) c.loop-i.i c.loop-i.sum (omega (arith, c.loop-i-test.true, (part_length (column_in c.args.file.now c.args.code) c.args.from c.args.to c.requires.from_le_to.0 c.requires.from_le_to.1))) c.entry_at-k.result c.entry_at-k.ensures c.seek-spot.result c.seek-spot.ensures _ _ c.in-At.is c.is_taken.result c.is_taken.ensures c.requires.counted.0 c.number_of-total.result c.number_of-total.ensures c.loop-i.invariant (sym c.rises_at.ensures ∙ c.if-not-rises_at.false) (c.if-not-is_taken.false) _ c.held-sum.ensures
 
 pub returns : goal.returns
 returns c = pass-done c.args.s.axes (column_in c.args.file.now 1) (column_in c.args.file.now 2) (column_in c.args.file.now 4) c.args.far c.args.row.cell (part (column_in c.args.file.now c.args.code) c.args.from c.args.to) c.loop-i.i c.loop-i.sum c.loop-i.invariant (omega (arith, c.loop-i-test.false, (part_length (column_in c.args.file.now c.args.code) c.args.from c.args.to c.requires.from_le_to.0 c.requires.from_le_to.1)))

@@ -26,7 +26,7 @@ pub may_follow-requires : goal.may_follow-requires
 may_follow-requires c = c.requires.0.known
 
 pub returns-then-not-may_follow : goal.returns-then-not-may_follow
-returns-then-not-may_follow c = bad-row c.args.s.axes (column_in c.args.file.now 1) (column_in c.args.file.now 2) (column_in c.args.file.now 3) c.requires.1 c.loop-i.run c.loop-i.i c.loop-i.invariant (omega (arith, c.loop-i-test.true, c.count_of-n.ensures)) c.key_of-p.result c.key_of-k.result c.key_of-p.ensures c.key_of-k.ensures c.may_follow.result c.may_follow.ensures (not-true _ c.if-not-may_follow.true)
+returns-then-not-may_follow c = bad-row c.args.s.axes (column_in c.args.file.now 1) (column_in c.args.file.now 2) (column_in c.args.file.now 3) c.requires.1 c.loop-i.run c.loop-i.i c.loop-i.invariant (omega (arith, c.loop-i-test.true, c.count_of-n.ensures)) c.key_of-p.result c.key_of-k.result c.key_of-p.ensures c.key_of-k.ensures c.may_follow.result c.may_follow.ensures (c.if-not-may_follow.true)
 
 pub overflow_sub-i-in-loop-i : goal.overflow_sub-i-in-loop-i
 overflow_sub-i-in-loop-i c = omega (arith, c.loop-i.invariant.some)
@@ -35,7 +35,7 @@ pub number_of-owned-requires : goal.number_of-owned-requires
 number_of-owned-requires c = (c.requires.0, omega arith, omega arith, refl)
 
 pub returns-then-not-may_own : goal.returns-then-not-may_own
-returns-then-not-may_own c = bad-own c.args.s.axes (column_in c.args.file.now 1) (column_in c.args.file.now 2) (column_in c.args.file.now 3) c.requires.1 c.loop-i.run c.loop-i.i c.loop-i.invariant (omega (arith, c.loop-i-test.true, c.count_of-n.ensures)) c.key_of-p.result c.key_of-k.result c.key_of-p.ensures c.key_of-k.ensures c.number_of-owned.result c.number_of-owned.ensures c.may_own.result c.may_own.ensures (not-true _ c.if-not-may_own.true)
+returns-then-not-may_own c = bad-own c.args.s.axes (column_in c.args.file.now 1) (column_in c.args.file.now 2) (column_in c.args.file.now 3) c.requires.1 c.loop-i.run c.loop-i.i c.loop-i.invariant (omega (arith, c.loop-i-test.true, c.count_of-n.ensures)) c.key_of-p.result c.key_of-k.result c.key_of-p.ensures c.key_of-k.ensures c.number_of-owned.result c.number_of-owned.ensures c.may_own.result c.may_own.ensures (c.if-not-may_own.true)
 
 pub number_of-first-requires : goal.number_of-first-requires
 number_of-first-requires c = (c.requires.0, omega arith, omega arith, refl)
@@ -59,7 +59,7 @@ pub loop-i-smaller : goal.loop-i-smaller
 loop-i-smaller c = omega (arith, c.loop-i-test.true, c.count_of-n.ensures)
 
 pub loop-i-preserved : goal.loop-i-preserved
-loop-i-preserved c = pass-more c.args.s.axes (column_in c.args.file.now 1) (column_in c.args.file.now 2) (column_in c.args.file.now 3) c.requires.1 c.loop-i.run c.loop-i.i c.loop-i.invariant (omega (arith, c.loop-i-test.true, c.count_of-n.ensures)) c.key_of-p.result c.key_of-k.result c.key_of-p.ensures c.key_of-k.ensures c.number_of-owned.result c.number_of-owned.ensures c.number_of-first.result c.number_of-first.ensures c.number_of-count.result c.number_of-count.ensures c.may_follow.result c.may_own.result c.may_follow.ensures (not-false _ c.if-not-may_follow.false) c.may_own.ensures (not-false _ c.if-not-may_own.false) c.if-first-run.false c.if-run-count.false
+loop-i-preserved c = pass-more c.args.s.axes (column_in c.args.file.now 1) (column_in c.args.file.now 2) (column_in c.args.file.now 3) c.requires.1 c.loop-i.run c.loop-i.i c.loop-i.invariant (omega (arith, c.loop-i-test.true, c.count_of-n.ensures)) c.key_of-p.result c.key_of-k.result c.key_of-p.ensures c.key_of-k.ensures c.number_of-owned.result c.number_of-owned.ensures c.number_of-first.result c.number_of-first.ensures c.number_of-count.result c.number_of-count.ensures c.may_follow.result c.may_own.result c.may_follow.ensures (c.if-not-may_follow.false) c.may_own.ensures (c.if-not-may_own.false) c.if-first-run.false c.if-run-count.false
 
 pub returns : goal.returns
 returns c = pass-done c.args.s.axes (column_in c.args.file.now 1) (column_in c.args.file.now 2) (column_in c.args.file.now 3) c.requires.1 c.loop-i.run c.loop-i.i c.loop-i.invariant (omega (arith, c.loop-i-test.false, c.count_of-n.ensures))

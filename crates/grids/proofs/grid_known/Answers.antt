@@ -14,10 +14,10 @@ pub axis_known-requires : goal.axis_known-requires
 axis_known-requires c = omega (arith, c.loop-n.invariant.0, c.requires, c.loop-n-test.true)
 
 pub returns-then-not-axis_known : goal.returns-then-not-axis_known
-returns-then-not-axis_known c = known-fails c.args.g c.loop-n.n (c.loop-n.n - 1) c.axis_known.result (omega (arith, c.loop-n-test.true)) c.axis_known.ensures (not-true _ c.if-not-axis_known.true) ∙ c.loop-n.invariant.1
+returns-then-not-axis_known c = known-fails c.args.g c.loop-n.n (c.loop-n.n - 1) c.axis_known.result (omega (arith, c.loop-n-test.true)) c.axis_known.ensures (c.if-not-axis_known.true) ∙ c.loop-n.invariant.1
 
 pub loop-n-preserved : goal.loop-n-preserved
-loop-n-preserved c = (omega (arith, c.loop-n.invariant.0), known_next c.args.g c.loop-n.n (c.loop-n.n - 1) c.axis_known.result (omega (arith, c.loop-n-test.true)) c.axis_known.ensures (not-false _ c.if-not-axis_known.false) ∙ c.loop-n.invariant.1)
+loop-n-preserved c = (omega (arith, c.loop-n.invariant.0), known_next c.args.g c.loop-n.n (c.loop-n.n - 1) c.axis_known.result (omega (arith, c.loop-n-test.true)) c.axis_known.ensures (c.if-not-axis_known.false) ∙ c.loop-n.invariant.1)
 
 pub returns : goal.returns
 returns c = known-none c.args.g c.loop-n.n (omega (arith, c.loop-n-test.false)) ∙ c.loop-n.invariant.1

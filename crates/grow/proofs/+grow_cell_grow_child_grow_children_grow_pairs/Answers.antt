@@ -21,7 +21,7 @@ pub grow_cell-overflow_sub-sum : goal.grow_cell-overflow_sub-sum
 grow_cell-overflow_sub-sum t c = omega (arith, cell-ordered c.args.g (setting c.args.z c.args.sums.now) c.args.cell c.args.left c.args.lo c.args.hi c.args.work.now (marked c.args.key.now c.args.mark.now c.args.from) c.requires.0.0 c.requires.0.2.0 c.requires.0.2.1 c.requires.0.2.2 c.requires.0.2.3)
 
 pub grow_cell-returns-then-not-is_put : goal.grow_cell-returns-then-not-is_put
-grow_cell-returns-then-not-is_put t c = cell_out c.args.g (setting c.args.z c.args.sums.now) c.args.cell c.args.left c.args.lo c.args.hi c.args.work.now (marked c.args.key.now c.args.mark.now c.args.from) c.requires.0.0 c.is_put.result c.is_put.ensures (not-true c.is_put.result c.if-not-is_put.true)
+grow_cell-returns-then-not-is_put t c = cell_out c.args.g (setting c.args.z c.args.sums.now) c.args.cell c.args.left c.args.lo c.args.hi c.args.work.now (marked c.args.key.now c.args.mark.now c.args.from) c.requires.0.0 c.is_put.result c.is_put.ensures (c.if-not-is_put.true)
 
 pub grow_cell-does_split-requires : goal.grow_cell-does_split-requires
 grow_cell-does_split-requires t c = (c.requires.0.0.good, (c.requires.0.2.0, c.requires.0.2.3.stands.behind), c.requires.1)
@@ -30,37 +30,37 @@ pub grow_cell-put_row-requires : goal.grow_cell-put_row-requires
 grow_cell-put_row-requires t c = (c.requires.0.2.3.stands.rows.bounded, cell-few c.args.g (setting c.args.z c.args.sums.now) c.args.cell c.args.left c.args.lo c.args.hi c.args.work.now (marked c.args.key.now c.args.mark.now c.args.from) c.requires.0.0 c.requires.0.2.0 c.requires.0.2.1 c.requires.0.2.2 c.requires.0.2.3)
 
 pub grow_cell-returns-then-not-does_split : goal.grow_cell-returns-then-not-does_split
-grow_cell-returns-then-not-does_split t c = cell-leaf c.args.g (setting c.args.z c.args.sums.now) c.args.cell c.args.left c.args.lo c.args.hi c.args.work.now (marked c.args.key.now c.args.mark.now c.args.from) c.requires.0.0 (marked c.put_row.new.key c.put_row.new.mark c.put_row.result) c.is_put.result c.does_split.result c.is_put.ensures (not-false c.is_put.result c.if-not-is_put.false) c.does_split.ensures (not-true c.does_split.result c.if-not-does_split.true) c.put_row.ensures
+grow_cell-returns-then-not-does_split t c = cell-leaf c.args.g (setting c.args.z c.args.sums.now) c.args.cell c.args.left c.args.lo c.args.hi c.args.work.now (marked c.args.key.now c.args.mark.now c.args.from) c.requires.0.0 (marked c.put_row.new.key c.put_row.new.mark c.put_row.result) c.is_put.result c.does_split.result c.is_put.ensures (c.if-not-is_put.false) c.does_split.ensures (c.if-not-does_split.true) c.put_row.ensures
 
 pub grow_cell-descend-y-requires : goal.grow_cell-descend-y-requires
-grow_cell-descend-y-requires t c = let some = cell-some c.args.g (setting c.args.z c.args.sums.now) c.args.cell c.args.left c.args.lo c.args.hi c.args.work.now (marked c.args.key.now c.args.mark.now c.args.from) c.requires.0.0 c.requires.0.2.0 c.requires.0.2.1 c.requires.0.2.2 c.requires.0.2.3 c.does_split.result c.does_split.ensures (not-false c.does_split.result c.if-not-does_split.false) in (c.requires.0.0.good, omega (arith, c.requires.0.0.levels, some), c.requires.1)
+grow_cell-descend-y-requires t c = let some = cell-some c.args.g (setting c.args.z c.args.sums.now) c.args.cell c.args.left c.args.lo c.args.hi c.args.work.now (marked c.args.key.now c.args.mark.now c.args.from) c.requires.0.0 c.requires.0.2.0 c.requires.0.2.1 c.requires.0.2.2 c.requires.0.2.3 c.does_split.result c.does_split.ensures (c.if-not-does_split.false) in (c.requires.0.0.good, omega (arith, c.requires.0.0.levels, some), c.requires.1)
 
 pub grow_cell-deal_cell-pairs-requires : goal.grow_cell-deal_cell-pairs-requires
-grow_cell-deal_cell-pairs-requires t c = let e = c.descend-y.ensures.same c.args.sums.now in (c.requires.0.0, cell-some c.args.g (setting c.args.z c.args.sums.now) c.args.cell c.args.left c.args.lo c.args.hi c.args.work.now (marked c.args.key.now c.args.mark.now c.args.from) c.requires.0.0 c.requires.0.2.0 c.requires.0.2.1 c.requires.0.2.2 c.requires.0.2.3 c.does_split.result c.does_split.ensures (not-false c.does_split.result c.if-not-does_split.false), c.requires.0.1, (c.requires.0.2.0, owned_by c.args.g c.requires.0.2.0 c.requires.0.2.1, c.requires.0.2.2, subst (λ (q : Setting). CellWords c.args.g q c.requires.0.2.0 c.args.cell c.args.lo c.args.hi c.args.work.now (owned_by c.args.g c.requires.0.2.0 c.requires.0.2.1) c.requires.0.2.2) (sym e) (cell-words c.args.g (setting c.args.z c.args.sums.now) c.args.cell c.args.left c.args.lo c.args.hi c.args.work.now (marked c.args.key.now c.args.mark.now c.args.from) c.requires.0.0 c.requires.0.2.0 c.requires.0.2.1 c.requires.0.2.2 c.requires.0.2.3 c.is_put.result c.is_put.ensures (not-false c.is_put.result c.if-not-is_put.false))), c.descend-y.ensures.at)
+grow_cell-deal_cell-pairs-requires t c = let e = c.descend-y.ensures.same c.args.sums.now in (c.requires.0.0, cell-some c.args.g (setting c.args.z c.args.sums.now) c.args.cell c.args.left c.args.lo c.args.hi c.args.work.now (marked c.args.key.now c.args.mark.now c.args.from) c.requires.0.0 c.requires.0.2.0 c.requires.0.2.1 c.requires.0.2.2 c.requires.0.2.3 c.does_split.result c.does_split.ensures (c.if-not-does_split.false), c.requires.0.1, (c.requires.0.2.0, owned_by c.args.g c.requires.0.2.0 c.requires.0.2.1, c.requires.0.2.2, subst (λ (q : Setting). CellWords c.args.g q c.requires.0.2.0 c.args.cell c.args.lo c.args.hi c.args.work.now (owned_by c.args.g c.requires.0.2.0 c.requires.0.2.1) c.requires.0.2.2) (sym e) (cell-words c.args.g (setting c.args.z c.args.sums.now) c.args.cell c.args.left c.args.lo c.args.hi c.args.work.now (marked c.args.key.now c.args.mark.now c.args.from) c.requires.0.0 c.requires.0.2.0 c.requires.0.2.1 c.requires.0.2.2 c.requires.0.2.3 c.is_put.result c.is_put.ensures (c.if-not-is_put.false))), c.descend-y.ensures.at)
 
 pub grow_cell-grow_children-requires : goal.grow_cell-grow_children-requires
-grow_cell-grow_children-requires t c = let some = cell-some c.args.g (setting c.args.z c.args.sums.now) c.args.cell c.args.left c.args.lo c.args.hi c.args.work.now (marked c.args.key.now c.args.mark.now c.args.from) c.requires.0.0 c.requires.0.2.0 c.requires.0.2.1 c.requires.0.2.2 c.requires.0.2.3 c.does_split.result c.does_split.ensures (not-false c.does_split.result c.if-not-does_split.false) in let e = c.descend-y.ensures.same c.args.sums.now in (omega (arith, c.decreases), ((c.requires.0.0, some, (c.requires.0.2.0, c.requires.0.2.1, c.requires.0.2.2, subst (λ (q : Setting). AtChildren c.args.g q c.requires.0.2.0 c.args.cell c.args.lo c.args.hi c.deal_cell-pairs.result.counts c.deal_cell-pairs.result.to c.deal_cell-pairs.new.work (marked c.args.key.now c.args.mark.now c.args.from) c.requires.0.2.1 c.requires.0.2.2) (sym e) (cell-children c.args.g (setting c.args.z c.args.sums.now) c.args.cell c.args.left c.args.lo c.args.hi c.args.work.now (marked c.args.key.now c.args.mark.now c.args.from) c.requires.0.0 c.requires.0.2.0 c.requires.0.2.1 c.requires.0.2.2 c.requires.0.2.3 c.deal_cell-pairs.result.counts c.deal_cell-pairs.result.to c.deal_cell-pairs.new.work c.is_put.result c.does_split.result c.is_put.ensures (not-false c.is_put.result c.if-not-is_put.false) c.does_split.ensures (not-false c.does_split.result c.if-not-does_split.false) (subst (λ (q : Setting). DealsCell c.args.g q c.args.cell c.args.lo c.args.hi c.args.work.now c.deal_cell-pairs.result.counts c.deal_cell-pairs.result.to c.deal_cell-pairs.new.work) e c.deal_cell-pairs.ensures)))), c.descend-y.ensures.at))
+grow_cell-grow_children-requires t c = let some = cell-some c.args.g (setting c.args.z c.args.sums.now) c.args.cell c.args.left c.args.lo c.args.hi c.args.work.now (marked c.args.key.now c.args.mark.now c.args.from) c.requires.0.0 c.requires.0.2.0 c.requires.0.2.1 c.requires.0.2.2 c.requires.0.2.3 c.does_split.result c.does_split.ensures (c.if-not-does_split.false) in let e = c.descend-y.ensures.same c.args.sums.now in (omega (arith, c.decreases), ((c.requires.0.0, some, (c.requires.0.2.0, c.requires.0.2.1, c.requires.0.2.2, subst (λ (q : Setting). AtChildren c.args.g q c.requires.0.2.0 c.args.cell c.args.lo c.args.hi c.deal_cell-pairs.result.counts c.deal_cell-pairs.result.to c.deal_cell-pairs.new.work (marked c.args.key.now c.args.mark.now c.args.from) c.requires.0.2.1 c.requires.0.2.2) (sym e) (cell-children c.args.g (setting c.args.z c.args.sums.now) c.args.cell c.args.left c.args.lo c.args.hi c.args.work.now (marked c.args.key.now c.args.mark.now c.args.from) c.requires.0.0 c.requires.0.2.0 c.requires.0.2.1 c.requires.0.2.2 c.requires.0.2.3 c.deal_cell-pairs.result.counts c.deal_cell-pairs.result.to c.deal_cell-pairs.new.work c.is_put.result c.does_split.result c.is_put.ensures (c.if-not-is_put.false) c.does_split.ensures (c.if-not-does_split.false) (subst (λ (q : Setting). DealsCell c.args.g q c.args.cell c.args.lo c.args.hi c.args.work.now c.deal_cell-pairs.result.counts c.deal_cell-pairs.result.to c.deal_cell-pairs.new.work) e c.deal_cell-pairs.ensures)))), c.descend-y.ensures.at))
 
 pub grow_cell-returns : goal.grow_cell-returns
-grow_cell-returns t c = let e = c.descend-y.ensures.same c.args.sums.now in cell-inner c.args.g (setting c.args.z c.args.sums.now) c.args.cell c.args.left c.args.lo c.args.hi c.args.work.now (marked c.args.key.now c.args.mark.now c.args.from) c.requires.0.0 c.deal_cell-pairs.result.counts c.deal_cell-pairs.result.to c.deal_cell-pairs.new.work c.grow_children.new.work (marked c.grow_children.new.key c.grow_children.new.mark c.grow_children.result) c.is_put.result c.does_split.result c.is_put.ensures (not-false c.is_put.result c.if-not-is_put.false) c.does_split.ensures (not-false c.does_split.result c.if-not-does_split.false) (subst (λ (q : Setting). DealsCell c.args.g q c.args.cell c.args.lo c.args.hi c.args.work.now c.deal_cell-pairs.result.counts c.deal_cell-pairs.result.to c.deal_cell-pairs.new.work) e c.deal_cell-pairs.ensures) (subst (λ (q : Setting). AfterChildren c.args.g q c.args.cell c.args.left c.args.lo c.args.hi c.deal_cell-pairs.result.counts c.deal_cell-pairs.result.to c.deal_cell-pairs.new.work (marked c.args.key.now c.args.mark.now c.args.from) c.grow_children.new.work (marked c.grow_children.new.key c.grow_children.new.mark c.grow_children.result)) e c.grow_children.ensures)
+grow_cell-returns t c = let e = c.descend-y.ensures.same c.args.sums.now in cell-inner c.args.g (setting c.args.z c.args.sums.now) c.args.cell c.args.left c.args.lo c.args.hi c.args.work.now (marked c.args.key.now c.args.mark.now c.args.from) c.requires.0.0 c.deal_cell-pairs.result.counts c.deal_cell-pairs.result.to c.deal_cell-pairs.new.work c.grow_children.new.work (marked c.grow_children.new.key c.grow_children.new.mark c.grow_children.result) c.is_put.result c.does_split.result c.is_put.ensures (c.if-not-is_put.false) c.does_split.ensures (c.if-not-does_split.false) (subst (λ (q : Setting). DealsCell c.args.g q c.args.cell c.args.lo c.args.hi c.args.work.now c.deal_cell-pairs.result.counts c.deal_cell-pairs.result.to c.deal_cell-pairs.new.work) e c.deal_cell-pairs.ensures) (subst (λ (q : Setting). AfterChildren c.args.g q c.args.cell c.args.left c.args.lo c.args.hi c.deal_cell-pairs.result.counts c.deal_cell-pairs.result.to c.deal_cell-pairs.new.work (marked c.args.key.now c.args.mark.now c.args.from) c.grow_children.new.work (marked c.grow_children.new.key c.grow_children.new.mark c.grow_children.result)) e c.grow_children.ensures)
 
 pub grow_child-returns-then-not-is_put : goal.grow_child-returns-then-not-is_put
-grow_child-returns-then-not-is_put t c = child-out c.args.g (setting c.args.z c.args.sums.now) c.args.child.key c.args.left c.args.a c.args.at c.args.child.sum c.args.child.split c.args.counts.now c.args.work.now (marked c.args.key.now c.args.mark.now c.args.from) c.is_put.result c.is_put.ensures (not-true c.is_put.result c.if-not-is_put.true)
+grow_child-returns-then-not-is_put t c = child-out c.args.g (setting c.args.z c.args.sums.now) c.args.child.key c.args.left c.args.a c.args.at c.args.child.sum c.args.child.split c.args.counts.now c.args.work.now (marked c.args.key.now c.args.mark.now c.args.from) c.is_put.result c.is_put.ensures (c.if-not-is_put.true)
 
 pub grow_child-put_row-m-requires : goal.grow_child-put_row-m-requires
 grow_child-put_row-m-requires t c = (c.requires.0.2.3.stands.rows.bounded, child-few c.args.g (setting c.args.z c.args.sums.now) c.args.child.key c.args.left c.args.a c.args.at c.args.child.sum c.args.child.split c.args.counts.now c.args.work.now (marked c.args.key.now c.args.mark.now c.args.from) c.requires.0.2.0 c.requires.0.2.1 c.requires.0.2.2 c.requires.0.2.3)
 
 pub grow_child-returns-then-not-split : goal.grow_child-returns-then-not-split
-grow_child-returns-then-not-split t c = child-leaf c.args.g (setting c.args.z c.args.sums.now) c.args.child.key c.args.left c.args.a c.args.at c.args.child.sum c.args.child.split c.args.counts.now c.args.work.now (marked c.args.key.now c.args.mark.now c.args.from) (marked c.put_row-m.new.key c.put_row-m.new.mark c.put_row-m.result) c.is_put.result c.is_put.ensures (not-false c.is_put.result c.if-not-is_put.false) (not-true c.args.child.split c.if-not-split.true) c.put_row-m.ensures
+grow_child-returns-then-not-split t c = child-leaf c.args.g (setting c.args.z c.args.sums.now) c.args.child.key c.args.left c.args.a c.args.at c.args.child.sum c.args.child.split c.args.counts.now c.args.work.now (marked c.args.key.now c.args.mark.now c.args.from) (marked c.put_row-m.new.key c.put_row-m.new.mark c.put_row-m.result) c.is_put.result c.is_put.ensures (c.if-not-is_put.false) (c.if-not-split.true) c.put_row-m.ensures
 
 pub grow_child-descend-y-requires : goal.grow_child-descend-y-requires
 grow_child-descend-y-requires t c = (c.requires.0.0.good, omega (arith, c.requires.0.0.levels), c.requires.1)
 
 pub grow_child-grow_pairs-requires : goal.grow_child-grow_pairs-requires
-grow_child-grow_pairs-requires t c = let e = c.descend-y.ensures.same c.args.sums.now in (omega (arith, c.decreases), ((c.requires.0.0, c.requires.0.1, (c.requires.0.2.0, c.requires.0.2.1 ++ (c.args.child.key ∷ []), c.requires.0.2.2, subst (λ (q : Setting). AtPairs c.args.g q c.requires.0.2.0 c.args.child.key c.args.a c.args.at c.args.counts.now c.args.work.now (marked c.put_row-m.new.key c.put_row-m.new.mark c.put_row-m.result) (c.requires.0.2.1 ++ (c.args.child.key ∷ [])) c.requires.0.2.2) (sym e) (child-pairs c.args.g (setting c.args.z c.args.sums.now) c.args.child.key c.args.left c.args.a c.args.at c.args.child.sum c.args.child.split c.args.counts.now c.args.work.now (marked c.args.key.now c.args.mark.now c.args.from) (marked c.put_row-m.new.key c.put_row-m.new.mark c.put_row-m.result) (not-false c.args.child.split c.if-not-split.false) c.put_row-m.ensures c.requires.0.2.0 c.requires.0.2.1 c.requires.0.2.2 c.requires.0.2.3))), c.descend-y.ensures.at))
+grow_child-grow_pairs-requires t c = let e = c.descend-y.ensures.same c.args.sums.now in (omega (arith, c.decreases), ((c.requires.0.0, c.requires.0.1, (c.requires.0.2.0, c.requires.0.2.1 ++ (c.args.child.key ∷ []), c.requires.0.2.2, subst (λ (q : Setting). AtPairs c.args.g q c.requires.0.2.0 c.args.child.key c.args.a c.args.at c.args.counts.now c.args.work.now (marked c.put_row-m.new.key c.put_row-m.new.mark c.put_row-m.result) (c.requires.0.2.1 ++ (c.args.child.key ∷ [])) c.requires.0.2.2) (sym e) (child-pairs c.args.g (setting c.args.z c.args.sums.now) c.args.child.key c.args.left c.args.a c.args.at c.args.child.sum c.args.child.split c.args.counts.now c.args.work.now (marked c.args.key.now c.args.mark.now c.args.from) (marked c.put_row-m.new.key c.put_row-m.new.mark c.put_row-m.result) (c.if-not-split.false) c.put_row-m.ensures c.requires.0.2.0 c.requires.0.2.1 c.requires.0.2.2 c.requires.0.2.3))), c.descend-y.ensures.at))
 
 pub grow_child-returns : goal.grow_child-returns
-grow_child-returns t c = let e = c.descend-y.ensures.same c.args.sums.now in child-inner c.args.g (setting c.args.z c.args.sums.now) c.args.child.key c.args.left c.args.a c.args.at c.args.child.sum c.args.child.split c.args.counts.now c.args.work.now (marked c.args.key.now c.args.mark.now c.args.from) (marked c.put_row-m.new.key c.put_row-m.new.mark c.put_row-m.result) (marked c.grow_pairs.new.key c.grow_pairs.new.mark c.grow_pairs.result) c.grow_pairs.new.work c.is_put.result c.is_put.ensures (not-false c.is_put.result c.if-not-is_put.false) (not-false c.args.child.split c.if-not-split.false) c.put_row-m.ensures (subst (λ (q : Setting). AfterPairs c.args.g q c.args.child.key c.args.left c.args.a c.args.at c.args.counts.now c.args.work.now (marked c.put_row-m.new.key c.put_row-m.new.mark c.put_row-m.result) c.grow_pairs.new.work (marked c.grow_pairs.new.key c.grow_pairs.new.mark c.grow_pairs.result)) e c.grow_pairs.ensures)
+grow_child-returns t c = let e = c.descend-y.ensures.same c.args.sums.now in child-inner c.args.g (setting c.args.z c.args.sums.now) c.args.child.key c.args.left c.args.a c.args.at c.args.child.sum c.args.child.split c.args.counts.now c.args.work.now (marked c.args.key.now c.args.mark.now c.args.from) (marked c.put_row-m.new.key c.put_row-m.new.mark c.put_row-m.result) (marked c.grow_pairs.new.key c.grow_pairs.new.mark c.grow_pairs.result) c.grow_pairs.new.work c.is_put.result c.is_put.ensures (c.if-not-is_put.false) (c.if-not-split.false) c.put_row-m.ensures (subst (λ (q : Setting). AfterPairs c.args.g q c.args.child.key c.args.left c.args.a c.args.at c.args.counts.now c.args.work.now (marked c.put_row-m.new.key c.put_row-m.new.mark c.put_row-m.result) c.grow_pairs.new.work (marked c.grow_pairs.new.key c.grow_pairs.new.mark c.grow_pairs.result)) e c.grow_pairs.ensures)
 
 pub grow_children-overflow_shl-many : goal.grow_children-overflow_shl-many
 grow_children-overflow_shl-many t c = omega (arith, c.requires.0.0.good.most)

@@ -9,13 +9,13 @@ pub loop-node-init : goal.loop-node-init
 loop-node-init c = upto-start c.args.g c.args.key.now c.args.total.now
 
 pub returns-then-not-is_kept : goal.returns-then-not-is_kept
-returns-then-not-is_kept c = not-stored c.args.g c.args.key.now c.args.total.now c.loop-node.node c.loop-node.invariant c.loop-node-test.true (sym c.is_kept.ensures ∙ not-true _ c.if-not-is_kept.true)
+returns-then-not-is_kept c = not-stored c.args.g c.args.key.now c.args.total.now c.loop-node.node c.loop-node.invariant c.loop-node-test.true (sym c.is_kept.ensures ∙ c.if-not-is_kept.true)
 
 pub returns-then-not-agree : goal.returns-then-not-agree
-returns-then-not-agree c = not-split c.args.g c.args.key.now c.args.total.now c.loop-node.node c.loop-node.invariant c.loop-node-test.true (λ e. tell-false c.agree.result c.agree.ensures (not-true _ c.if-not-agree.true) (c.has_children.ensures ∙ e ∙ sym c.does_split-split.ensures))
+returns-then-not-agree c = not-split c.args.g c.args.key.now c.args.total.now c.loop-node.node c.loop-node.invariant c.loop-node-test.true (λ e. tell-false c.agree.result c.agree.ensures (c.if-not-agree.true) (c.has_children.ensures ∙ e ∙ sym c.does_split-split.ensures))
 
 pub loop-node-preserved : goal.loop-node-preserved
-loop-node-preserved c = upto-more c.args.g c.args.key.now c.args.total.now c.loop-node.node c.loop-node.invariant (sym c.is_kept.ensures ∙ not-false _ c.if-not-is_kept.false) (sym c.has_children.ensures ∙ (tell-true c.agree.result c.agree.ensures (not-false _ c.if-not-agree.false)) ∙ c.does_split-split.ensures)
+loop-node-preserved c = upto-more c.args.g c.args.key.now c.args.total.now c.loop-node.node c.loop-node.invariant (sym c.is_kept.ensures ∙ c.if-not-is_kept.false) (sym c.has_children.ensures ∙ (tell-true c.agree.result c.agree.ensures (c.if-not-agree.false)) ∙ c.does_split-split.ensures)
 
 pub returns : goal.returns
 returns c = upto_done c.args.g c.args.key.now c.args.total.now c.loop-node.node c.loop-node.invariant c.loop-node-test.false

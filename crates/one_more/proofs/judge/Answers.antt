@@ -20,16 +20,16 @@ pub returns-then-n-ge-MOST_POINTS : goal.returns-then-n-ge-MOST_POINTS
 returns-then-n-ge-MOST_POINTS c = many (asks_more c.args.b c.args.sources.now c.args.point c.args.limit c.args.keep (columns c.args.key.now c.args.own.now c.args.begin.now c.args.total.now) c.args.indices.now) (sym c.box_outcome-boxed.ensures ∙ c.in_default.is) c.if-sources-axes-ne0.false (omega (arith, c.if-n-ge-MOST_POINTS.true))
 
 pub returns-then-not-is_well_formed : goal.returns-then-not-is_well_formed
-returns-then-not-is_well_formed c = not-formed (asks_more c.args.b c.args.sources.now c.args.point c.args.limit c.args.keep (columns c.args.key.now c.args.own.now c.args.begin.now c.args.total.now) c.args.indices.now) (sym c.box_outcome-boxed.ensures ∙ c.in_default.is) c.if-sources-axes-ne0.false (omega (arith, c.if-n-ge-MOST_POINTS.false)) (formed-is c.args.b.axes (well_formed c.args.b.axes c.args.key.now c.args.own.now c.args.begin.now c.args.total.now) c.is_well_formed.result (axes-known c.args.b.axes (fine c.args.b (sym c.box_outcome-boxed.ensures ∙ c.in_default.is)).least (fine c.args.b (sym c.box_outcome-boxed.ensures ∙ c.in_default.is)).most) c.is_well_formed.ensures ∙ not-true _ c.if-not-is_well_formed.true)
+returns-then-not-is_well_formed c = not-formed (asks_more c.args.b c.args.sources.now c.args.point c.args.limit c.args.keep (columns c.args.key.now c.args.own.now c.args.begin.now c.args.total.now) c.args.indices.now) (sym c.box_outcome-boxed.ensures ∙ c.in_default.is) c.if-sources-axes-ne0.false (omega (arith, c.if-n-ge-MOST_POINTS.false)) (formed-is c.args.b.axes (well_formed c.args.b.axes c.args.key.now c.args.own.now c.args.begin.now c.args.total.now) c.is_well_formed.result (axes-known c.args.b.axes (fine c.args.b (sym c.box_outcome-boxed.ensures ∙ c.in_default.is)).least (fine c.args.b (sym c.box_outcome-boxed.ensures ∙ c.in_default.is)).most) c.is_well_formed.ensures ∙ c.if-not-is_well_formed.true)
 
 pub is_build_in-requires : goal.is_build_in-requires
-is_build_in-requires c = ((axes-known c.args.b.axes (fine c.args.b (sym c.box_outcome-boxed.ensures ∙ c.in_default.is)).least (fine c.args.b (sym c.box_outcome-boxed.ensures ∙ c.in_default.is)).most), (formed-is c.args.b.axes (well_formed c.args.b.axes c.args.key.now c.args.own.now c.args.begin.now c.args.total.now) c.is_well_formed.result (axes-known c.args.b.axes (fine c.args.b (sym c.box_outcome-boxed.ensures ∙ c.in_default.is)).least (fine c.args.b (sym c.box_outcome-boxed.ensures ∙ c.in_default.is)).most) c.is_well_formed.ensures ∙ not-false _ c.if-not-is_well_formed.false))
+is_build_in-requires c = ((axes-known c.args.b.axes (fine c.args.b (sym c.box_outcome-boxed.ensures ∙ c.in_default.is)).least (fine c.args.b (sym c.box_outcome-boxed.ensures ∙ c.in_default.is)).most), (formed-is c.args.b.axes (well_formed c.args.b.axes c.args.key.now c.args.own.now c.args.begin.now c.args.total.now) c.is_well_formed.result (axes-known c.args.b.axes (fine c.args.b (sym c.box_outcome-boxed.ensures ∙ c.in_default.is)).least (fine c.args.b (sym c.box_outcome-boxed.ensures ∙ c.in_default.is)).most) c.is_well_formed.ensures ∙ c.if-not-is_well_formed.false))
 
 pub returns-then-not-is_build_in : goal.returns-then-not-is_build_in
-returns-then-not-is_build_in c = not-built (asks_more c.args.b c.args.sources.now c.args.point c.args.limit c.args.keep (columns c.args.key.now c.args.own.now c.args.begin.now c.args.total.now) c.args.indices.now) (sym c.box_outcome-boxed.ensures ∙ c.in_default.is) c.if-sources-axes-ne0.false (omega (arith, c.if-n-ge-MOST_POINTS.false)) (formed-is c.args.b.axes (well_formed c.args.b.axes c.args.key.now c.args.own.now c.args.begin.now c.args.total.now) c.is_well_formed.result (axes-known c.args.b.axes (fine c.args.b (sym c.box_outcome-boxed.ensures ∙ c.in_default.is)).least (fine c.args.b (sym c.box_outcome-boxed.ensures ∙ c.in_default.is)).most) c.is_well_formed.ensures ∙ not-false _ c.if-not-is_well_formed.false) (sym c.is_build_in.ensures ∙ not-true _ c.if-not-is_build_in.true)
+returns-then-not-is_build_in c = not-built (asks_more c.args.b c.args.sources.now c.args.point c.args.limit c.args.keep (columns c.args.key.now c.args.own.now c.args.begin.now c.args.total.now) c.args.indices.now) (sym c.box_outcome-boxed.ensures ∙ c.in_default.is) c.if-sources-axes-ne0.false (omega (arith, c.if-n-ge-MOST_POINTS.false)) (formed-is c.args.b.axes (well_formed c.args.b.axes c.args.key.now c.args.own.now c.args.begin.now c.args.total.now) c.is_well_formed.result (axes-known c.args.b.axes (fine c.args.b (sym c.box_outcome-boxed.ensures ∙ c.in_default.is)).least (fine c.args.b (sym c.box_outcome-boxed.ensures ∙ c.in_default.is)).most) c.is_well_formed.ensures ∙ c.if-not-is_well_formed.false) (sym c.is_build_in.ensures ∙ c.if-not-is_build_in.true)
 
 pub point_outcome-requires : goal.point_outcome-requires
 point_outcome-requires c = (fine c.args.b (sym c.box_outcome-boxed.ensures ∙ c.in_default.is)).most
 
 pub returns : goal.returns
-returns c = c.point_outcome.ensures ∙ by-point (asks_more c.args.b c.args.sources.now c.args.point c.args.limit c.args.keep (columns c.args.key.now c.args.own.now c.args.begin.now c.args.total.now) c.args.indices.now) (sym c.box_outcome-boxed.ensures ∙ c.in_default.is) c.if-sources-axes-ne0.false (omega (arith, c.if-n-ge-MOST_POINTS.false)) (formed-is c.args.b.axes (well_formed c.args.b.axes c.args.key.now c.args.own.now c.args.begin.now c.args.total.now) c.is_well_formed.result (axes-known c.args.b.axes (fine c.args.b (sym c.box_outcome-boxed.ensures ∙ c.in_default.is)).least (fine c.args.b (sym c.box_outcome-boxed.ensures ∙ c.in_default.is)).most) c.is_well_formed.ensures ∙ not-false _ c.if-not-is_well_formed.false) (sym c.is_build_in.ensures ∙ not-false _ c.if-not-is_build_in.false)
+returns c = c.point_outcome.ensures ∙ by-point (asks_more c.args.b c.args.sources.now c.args.point c.args.limit c.args.keep (columns c.args.key.now c.args.own.now c.args.begin.now c.args.total.now) c.args.indices.now) (sym c.box_outcome-boxed.ensures ∙ c.in_default.is) c.if-sources-axes-ne0.false (omega (arith, c.if-n-ge-MOST_POINTS.false)) (formed-is c.args.b.axes (well_formed c.args.b.axes c.args.key.now c.args.own.now c.args.begin.now c.args.total.now) c.is_well_formed.result (axes-known c.args.b.axes (fine c.args.b (sym c.box_outcome-boxed.ensures ∙ c.in_default.is)).least (fine c.args.b (sym c.box_outcome-boxed.ensures ∙ c.in_default.is)).most) c.is_well_formed.ensures ∙ c.if-not-is_well_formed.false) (sym c.is_build_in.ensures ∙ c.if-not-is_build_in.false)

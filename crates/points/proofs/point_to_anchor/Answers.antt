@@ -31,10 +31,10 @@ pub outside-requires : goal.outside-requires
 outside-requires c = (done c).0.most
 
 pub returns-then-not-p : goal.returns-then-not-p
-returns-then-not-p c = let out = located-out (frame_of c.args.b) c.args.point c.locate-p.result (where-is c) (not-true _ c.if-not-p.true) in let all = refused-anchors c.args.b c.args.point c.args.level c.outside.result c.not_anchored-then-not-p.result _ c.not_anchored-then-not-p.ensures (point-out c.args.b c.args.point c.args.level c.outside.result c.outside.ensures (sym c.level_outcome-o.ensures ∙ c.in_default.is) out) in record { value = all.0; nests = all.1 }
+returns-then-not-p c = let out = located-out (frame_of c.args.b) c.args.point c.locate-p.result (where-is c) (c.if-not-p.true) in let all = refused-anchors c.args.b c.args.point c.args.level c.outside.result c.not_anchored-then-not-p.result _ c.not_anchored-then-not-p.ensures (point-out c.args.b c.args.point c.args.level c.outside.result c.outside.ensures (sym c.level_outcome-o.ensures ∙ c.in_default.is) out) in record { value = all.0; nests = all.1 }
 
 pub overflow_sub-up : goal.overflow_sub-up
 overflow_sub-up c = omega (arith, (done c).1)
 
 pub returns : goal.returns
-returns c = let i = located-in (frame_of c.args.b) c.args.point c.locate-p.result (where-is c) (not-false _ c.if-not-p.false) in let d = done c in let all = done-anchors c.args.b c.args.point c.args.level c.locate-p.result.anchor d.0 c.well_formed.0.1.1.1.0.1 d.1 (sym c.level_outcome-o.ensures ∙ c.in_default.is) i.0 i.1 in record { value = all.0; nests = all.1 }
+returns c = let i = located-in (frame_of c.args.b) c.args.point c.locate-p.result (where-is c) (c.if-not-p.false) in let d = done c in let all = done-anchors c.args.b c.args.point c.args.level c.locate-p.result.anchor d.0 c.well_formed.0.1.1.1.0.1 d.1 (sym c.level_outcome-o.ensures ∙ c.in_default.is) i.0 i.1 in record { value = all.0; nests = all.1 }

@@ -35,12 +35,12 @@ pub outside-requires : goal.outside-requires
 outside-requires c = (done c).0.most
 
 pub returns-then-not-p : goal.returns-then-not-p
-returns-then-not-p c = let out = located-out (frame_of c.args.b) c.args.point c.locate-p.result (where-is c) (not-true _ c.if-not-p.true) in
+returns-then-not-p c = let out = located-out (frame_of c.args.b) c.args.point c.locate-p.result (where-is c) (c.if-not-p.true) in
     refused-key c.args.b c.args.point c.args.level c.outside.result (point-out c.args.b c.args.point c.args.level c.outside.result c.outside.ensures (sym c.level_outcome-o.ensures ∙ c.in_default.is) out)
 
 -- inside: its anchors
 anchors-are : (c : goal.After-anchor-1) → (inside (frame_of c.args.b) c.args.point ≡ true) × (c.locate-p.result.anchor ≡ anchors16 (frame_of c.args.b) c.args.point)
-anchors-are c = located-in (frame_of c.args.b) c.args.point c.locate-p.result (where-is c) (not-false _ c.if-not-p.false)
+anchors-are c = located-in (frame_of c.args.b) c.args.point c.locate-p.result (where-is c) (c.if-not-p.false)
 
 pub encode-code-requires : goal.encode-code-requires
 encode-code-requires c = let f = (done c).0 in

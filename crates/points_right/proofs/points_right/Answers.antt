@@ -37,10 +37,10 @@ pub run_right-requires : goal.run_right-requires
 run_right-requires c = run-asks c.args.b.axes c.args.points.now c.args.key.now c.args.own.now c.args.begin.now c.args.total.now (judging c.args.b.axes c.args.points.now c.args.key.now c.args.own.now c.args.begin.now c.args.total.now c.requires.0 c.requires.1) c.loop-node.node (length c.args.order.now) c.frame_of-f.result.axes c.loop-node-test.true c.if-order-n.false (sym (judging c.args.b.axes c.args.points.now c.args.key.now c.args.own.now c.args.begin.now c.args.total.now c.requires.0 c.requires.1).root ∙ c.if-total-n.false ∙ sym c.if-order-n.false) (ap (λ (f : Frame). f.axes) c.frame_of-f.ensures)
 
 pub returns-then-not-run_right : goal.returns-then-not-run_right
-returns-then-not-run_right c = one-wrong (length c.args.points.now / c.args.b.axes) c.frame_of-f.result (frame_of c.args.b) c.frame_of-f.ensures c.args.points.now c.args.key.now c.args.own.now c.args.begin.now c.args.order.now c.loop-node.node c.loop-node-test.true (tell-false c.run_right.result c.run_right.ensures (not-true _ c.if-not-run_right.true))
+returns-then-not-run_right c = one-wrong (length c.args.points.now / c.args.b.axes) c.frame_of-f.result (frame_of c.args.b) c.frame_of-f.ensures c.args.points.now c.args.key.now c.args.own.now c.args.begin.now c.args.order.now c.loop-node.node c.loop-node-test.true (tell-false c.run_right.result c.run_right.ensures (c.if-not-run_right.true))
 
 pub loop-node-preserved : goal.loop-node-preserved
-loop-node-preserved c = before_more (length c.args.points.now / c.args.b.axes) (point_in c.frame_of-f.result c.args.points.now) c.args.key.now c.args.own.now c.args.begin.now c.args.order.now c.loop-node.node c.loop-node.invariant (tell-true c.run_right.result c.run_right.ensures (not-false _ c.if-not-run_right.false))
+loop-node-preserved c = before_more (length c.args.points.now / c.args.b.axes) (point_in c.frame_of-f.result c.args.points.now) c.args.key.now c.args.own.now c.args.begin.now c.args.order.now c.loop-node.node c.loop-node.invariant (tell-true c.run_right.result c.run_right.ensures (c.if-not-run_right.false))
 
 pub returns : goal.returns
 returns c = all_right (length c.args.points.now / c.args.b.axes) c.frame_of-f.result (frame_of c.args.b) c.frame_of-f.ensures c.args.points.now c.args.key.now c.args.own.now c.args.begin.now c.args.order.now c.loop-node.node c.loop-node.invariant c.loop-node-test.false c.if-order-n.false (sym (judging c.args.b.axes c.args.points.now c.args.key.now c.args.own.now c.args.begin.now c.args.total.now c.requires.0 c.requires.1).root ∙ c.if-total-n.false)

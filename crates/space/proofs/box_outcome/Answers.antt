@@ -12,10 +12,10 @@ pub returns-then-b-gt3 : goal.returns-then-b-gt3
 returns-then-b-gt3 c = many-axes c.args.b c.if-b-gt3.true
 
 pub returns-then-not-radius_known : goal.returns-then-not-radius_known
-returns-then-not-radius_known c = radius-off c.args.b (omega arith) (omega arith) (sym c.radius_known.ensures ∙ not-true _ c.if-not-radius_known.true)
+returns-then-not-radius_known c = radius-off c.args.b (omega arith) (omega arith) (sym c.radius_known.ensures ∙ c.if-not-radius_known.true)
 
 pub returns-then-not-centres_known : goal.returns-then-not-centres_known
-returns-then-not-centres_known c = centre-off c.args.b (omega arith) (omega arith) (sym c.radius_known.ensures ∙ not-false _ c.if-not-radius_known.false) (sym c.centres_known.ensures ∙ not-true _ c.if-not-centres_known.true)
+returns-then-not-centres_known c = centre-off c.args.b (omega arith) (omega arith) (sym c.radius_known.ensures ∙ c.if-not-radius_known.false) (sym c.centres_known.ensures ∙ c.if-not-centres_known.true)
 
 pub returns : goal.returns
-returns c = box-fine c.args.b (omega arith) (omega arith) (sym c.radius_known.ensures ∙ not-false _ c.if-not-radius_known.false) (sym c.centres_known.ensures ∙ not-false _ c.if-not-centres_known.false)
+returns c = box-fine c.args.b (omega arith) (omega arith) (sym c.radius_known.ensures ∙ c.if-not-radius_known.false) (sym c.centres_known.ensures ∙ c.if-not-centres_known.false)

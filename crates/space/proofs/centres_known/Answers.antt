@@ -17,10 +17,10 @@ pub bounds-b-n : goal.bounds-b-n
 bounds-b-n c = omega arith
 
 pub returns-then-not-magnitude : goal.returns-then-not-magnitude
-returns-then-not-magnitude c = centre-unknown c.args.b.centre c.loop-n.n (c.loop-n.n - 1) c.magnitude.result (omega (arith, c.loop-n-test.true)) c.magnitude.ensures (not-true _ c.if-not-magnitude.true) ∙ c.loop-n.invariant.1
+returns-then-not-magnitude c = centre-unknown c.args.b.centre c.loop-n.n (c.loop-n.n - 1) c.magnitude.result (omega (arith, c.loop-n-test.true)) c.magnitude.ensures (c.if-not-magnitude.true) ∙ c.loop-n.invariant.1
 
 pub loop-n-preserved : goal.loop-n-preserved
-loop-n-preserved c = (omega arith, centre-known c.args.b.centre c.loop-n.n (c.loop-n.n - 1) c.magnitude.result (omega (arith, c.loop-n-test.true)) c.magnitude.ensures (not-false _ c.if-not-magnitude.false) ∙ c.loop-n.invariant.1)
+loop-n-preserved c = (omega arith, centre-known c.args.b.centre c.loop-n.n (c.loop-n.n - 1) c.magnitude.result (omega (arith, c.loop-n-test.true)) c.magnitude.ensures (c.if-not-magnitude.false) ∙ c.loop-n.invariant.1)
 
 pub returns : goal.returns
 returns c = no-centres c.args.b.centre c.loop-n.n (omega arith) ∙ c.loop-n.invariant.1

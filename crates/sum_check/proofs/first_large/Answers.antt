@@ -9,10 +9,10 @@ pub loop-i-init : goal.loop-i-init
 loop-i-init c = look-start c.args.readings.now
 
 pub returns-then-not-is_small : goal.returns-then-not-is_small
-returns-then-not-is_small c = look-large c.args.readings.now c.loop-i.i c.loop-i.invariant c.loop-i-test.true c.is_small.result (read_small (get_or c.args.readings.now c.loop-i.i (pos 0)) c.is_small-arg-1.given _ c.is_small.ensures) (not-true _ c.if-not-is_small.true)
+returns-then-not-is_small c = look-large c.args.readings.now c.loop-i.i c.loop-i.invariant c.loop-i-test.true c.is_small.result (read_small (get_or c.args.readings.now c.loop-i.i (pos 0)) c.is_small-arg-1.given _ c.is_small.ensures) (c.if-not-is_small.true)
 
 pub loop-i-preserved : goal.loop-i-preserved
-loop-i-preserved c = look-more c.args.readings.now c.loop-i.i c.loop-i.invariant c.loop-i-test.true c.is_small.result (read_small (get_or c.args.readings.now c.loop-i.i (pos 0)) c.is_small-arg-1.given _ c.is_small.ensures) (not-false _ c.if-not-is_small.false)
+loop-i-preserved c = look-more c.args.readings.now c.loop-i.i c.loop-i.invariant c.loop-i-test.true c.is_small.result (read_small (get_or c.args.readings.now c.loop-i.i (pos 0)) c.is_small-arg-1.given _ c.is_small.ensures) (c.if-not-is_small.false)
 
 pub returns : goal.returns
 returns c = look-done c.args.readings.now c.loop-i.i c.loop-i.invariant c.loop-i-test.false

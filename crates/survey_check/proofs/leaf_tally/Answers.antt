@@ -10,16 +10,16 @@ pub is_leaf-requires : goal.is_leaf-requires
 is_leaf-requires c = (known c.args.axes c.args.key.now c.args.own.now c.args.begin.now c.args.total.now c.args.readings.now c.args.indices.now c.args.u_starts.now c.args.u_keys.now c.args.v_starts.now c.args.v_keys.now c.requires.passed, c.requires.before.1.within)
 
 pub returns-then-not-is_leaf : goal.returns-then-not-is_leaf
-returns-then-not-is_leaf c = record { leaves = inner-agrees c.args.axes c.args.key.now c.args.own.now c.args.begin.now c.args.total.now c.args.readings.now c.args.indices.now c.args.u_starts.now c.args.u_keys.now c.args.v_starts.now c.args.v_keys.now c.requires.passed (get_or c.args.key.now c.args.node 0) (sym c.is_leaf.ensures ∙ not-true _ c.if-not-is_leaf.true); additions = inner-additions c.args.axes c.args.key.now c.args.own.now c.args.begin.now c.args.total.now c.args.readings.now c.args.indices.now c.args.u_starts.now c.args.u_keys.now c.args.v_starts.now c.args.v_keys.now c.requires.passed (get_or c.args.key.now c.args.node 0) (sym c.is_leaf.ensures ∙ not-true _ c.if-not-is_leaf.true); few = omega arith; kept = c.requires.kept_2 }
+returns-then-not-is_leaf c = record { leaves = inner-agrees c.args.axes c.args.key.now c.args.own.now c.args.begin.now c.args.total.now c.args.readings.now c.args.indices.now c.args.u_starts.now c.args.u_keys.now c.args.v_starts.now c.args.v_keys.now c.requires.passed (get_or c.args.key.now c.args.node 0) (sym c.is_leaf.ensures ∙ c.if-not-is_leaf.true); additions = inner-additions c.args.axes c.args.key.now c.args.own.now c.args.begin.now c.args.total.now c.args.readings.now c.args.indices.now c.args.u_starts.now c.args.u_keys.now c.args.v_starts.now c.args.v_keys.now c.requires.passed (get_or c.args.key.now c.args.node 0) (sym c.is_leaf.ensures ∙ c.if-not-is_leaf.true); few = omega arith; kept = c.requires.kept_2 }
 
 pub node_part-near-requires : goal.node_part-near-requires
-node_part-near-requires c = (near-asked c.args.axes c.args.key.now c.args.own.now c.args.begin.now c.args.total.now c.args.readings.now c.args.indices.now c.args.u_starts.now c.args.u_keys.now c.args.v_starts.now c.args.v_keys.now c.requires.passed c.args.node c.requires.before.1.some c.requires.before.1.within (sym c.is_leaf.ensures ∙ not-false _ c.if-not-is_leaf.false) c.args.sums.now c.requires.before.0, c.requires.kept_2)
+node_part-near-requires c = (near-asked c.args.axes c.args.key.now c.args.own.now c.args.begin.now c.args.total.now c.args.readings.now c.args.indices.now c.args.u_starts.now c.args.u_keys.now c.args.v_starts.now c.args.v_keys.now c.requires.passed c.args.node c.requires.before.1.some c.requires.before.1.within (sym c.is_leaf.ensures ∙ c.if-not-is_leaf.false) c.args.sums.now c.requires.before.0, c.requires.kept_2)
 
 pub overflow_add-additions : goal.overflow_add-additions
-overflow_add-additions c = omega (arith, additions-fit c.args.axes c.args.key.now c.args.own.now c.args.begin.now c.args.total.now c.args.readings.now c.args.indices.now c.args.u_starts.now c.args.u_keys.now c.args.v_starts.now c.args.v_keys.now c.requires.passed c.args.node c.requires.before.1.some c.requires.before.1.within (sym c.is_leaf.ensures ∙ not-false _ c.if-not-is_leaf.false) c.args.sums.now c.requires.before.0 _ _ c.args.met c.args.listed c.node_part-near.ensures.sum c.node_part-near.ensures.count c.requires.before.1)
+overflow_add-additions c = omega (arith, additions-fit c.args.axes c.args.key.now c.args.own.now c.args.begin.now c.args.total.now c.args.readings.now c.args.indices.now c.args.u_starts.now c.args.u_keys.now c.args.v_starts.now c.args.v_keys.now c.requires.passed c.args.node c.requires.before.1.some c.requires.before.1.within (sym c.is_leaf.ensures ∙ c.if-not-is_leaf.false) c.args.sums.now c.requires.before.0 _ _ c.args.met c.args.listed c.node_part-near.ensures.sum c.node_part-near.ensures.count c.requires.before.1)
 
 pub overflow_add-near : goal.overflow_add-near
-overflow_add-near c = omega (arith, sums-fit c.args.axes c.args.key.now c.args.own.now c.args.begin.now c.args.total.now c.args.readings.now c.args.indices.now c.args.u_starts.now c.args.u_keys.now c.args.v_starts.now c.args.v_keys.now c.requires.passed c.args.node c.requires.before.1.some c.requires.before.1.within (sym c.is_leaf.ensures ∙ not-false _ c.if-not-is_leaf.false) c.args.sums.now c.requires.before.0 _ _ c.args.met c.args.listed c.node_part-near.ensures.sum c.node_part-near.ensures.count c.requires.before.1)
+overflow_add-near c = omega (arith, sums-fit c.args.axes c.args.key.now c.args.own.now c.args.begin.now c.args.total.now c.args.readings.now c.args.indices.now c.args.u_starts.now c.args.u_keys.now c.args.v_starts.now c.args.v_keys.now c.requires.passed c.args.node c.requires.before.1.some c.requires.before.1.within (sym c.is_leaf.ensures ∙ c.if-not-is_leaf.false) c.args.sums.now c.requires.before.0 _ _ c.args.met c.args.listed c.node_part-near.ensures.sum c.node_part-near.ensures.count c.requires.before.1)
 
 pub offset_bounds-sums-indices : goal.offset_bounds-sums-indices
 offset_bounds-sums-indices c = omega (arith, c.requires.before.0.size, c.well_formed.1.1.1.1.1.1.1.0)
@@ -28,7 +28,7 @@ pub bounds-sums-indices : goal.bounds-sums-indices
 bounds-sums-indices c = c.requires.before.0.size
 
 pub returns-then-near-met : goal.returns-then-near-met
-returns-then-near-met c = record { leaves = agrees-here c.args.axes c.args.key.now c.args.own.now c.args.begin.now c.args.total.now c.args.readings.now c.args.indices.now c.args.u_starts.now c.args.u_keys.now c.args.v_starts.now c.args.v_keys.now c.requires.passed c.args.node c.requires.before.1.some c.requires.before.1.within (sym c.is_leaf.ensures ∙ not-false _ c.if-not-is_leaf.false); additions = additions-is c.args.axes c.args.key.now c.args.own.now c.args.begin.now c.args.total.now c.args.readings.now c.args.indices.now c.args.u_starts.now c.args.u_keys.now c.args.v_starts.now c.args.v_keys.now c.requires.passed c.args.node c.requires.before.1.some c.requires.before.1.within (sym c.is_leaf.ensures ∙ not-false _ c.if-not-is_leaf.false) c.args.sums.now c.requires.before.0 _ _ c.args.met c.args.listed c.node_part-near.ensures.sum c.node_part-near.ensures.count c.requires.before.1; few = additions-fit c.args.axes c.args.key.now c.args.own.now c.args.begin.now c.args.total.now c.args.readings.now c.args.indices.now c.args.u_starts.now c.args.u_keys.now c.args.v_starts.now c.args.v_keys.now c.requires.passed c.args.node c.requires.before.1.some c.requires.before.1.within (sym c.is_leaf.ensures ∙ not-false _ c.if-not-is_leaf.false) c.args.sums.now c.requires.before.0 _ _ c.args.met c.args.listed c.node_part-near.ensures.sum c.node_part-near.ensures.count c.requires.before.1; kept = c.node_part-near.ensures.kept }
+returns-then-near-met c = record { leaves = agrees-here c.args.axes c.args.key.now c.args.own.now c.args.begin.now c.args.total.now c.args.readings.now c.args.indices.now c.args.u_starts.now c.args.u_keys.now c.args.v_starts.now c.args.v_keys.now c.requires.passed c.args.node c.requires.before.1.some c.requires.before.1.within (sym c.is_leaf.ensures ∙ c.if-not-is_leaf.false); additions = additions-is c.args.axes c.args.key.now c.args.own.now c.args.begin.now c.args.total.now c.args.readings.now c.args.indices.now c.args.u_starts.now c.args.u_keys.now c.args.v_starts.now c.args.v_keys.now c.requires.passed c.args.node c.requires.before.1.some c.requires.before.1.within (sym c.is_leaf.ensures ∙ c.if-not-is_leaf.false) c.args.sums.now c.requires.before.0 _ _ c.args.met c.args.listed c.node_part-near.ensures.sum c.node_part-near.ensures.count c.requires.before.1; few = additions-fit c.args.axes c.args.key.now c.args.own.now c.args.begin.now c.args.total.now c.args.readings.now c.args.indices.now c.args.u_starts.now c.args.u_keys.now c.args.v_starts.now c.args.v_keys.now c.requires.passed c.args.node c.requires.before.1.some c.requires.before.1.within (sym c.is_leaf.ensures ∙ c.if-not-is_leaf.false) c.args.sums.now c.requires.before.0 _ _ c.args.met c.args.listed c.node_part-near.ensures.sum c.node_part-near.ensures.count c.requires.before.1; kept = c.node_part-near.ensures.kept }
 
 pub returns : goal.returns
-returns c = let all = absurd (c.if-near-met.false (sums-agree c.args.axes c.args.key.now c.args.own.now c.args.begin.now c.args.total.now c.args.readings.now c.args.indices.now c.args.u_starts.now c.args.u_keys.now c.args.v_starts.now c.args.v_keys.now c.requires.passed c.args.node c.requires.before.1.some c.requires.before.1.within (sym c.is_leaf.ensures ∙ not-false _ c.if-not-is_leaf.false) c.args.sums.now c.requires.before.0 _ _ c.args.met c.args.listed c.node_part-near.ensures.sum c.node_part-near.ensures.count c.requires.before.1)) in record { leaves = all.0; additions = all.1.0; few = all.1.1.0; kept = all.1.1.1 }
+returns c = let all = absurd (c.if-near-met.false (sums-agree c.args.axes c.args.key.now c.args.own.now c.args.begin.now c.args.total.now c.args.readings.now c.args.indices.now c.args.u_starts.now c.args.u_keys.now c.args.v_starts.now c.args.v_keys.now c.requires.passed c.args.node c.requires.before.1.some c.requires.before.1.within (sym c.is_leaf.ensures ∙ c.if-not-is_leaf.false) c.args.sums.now c.requires.before.0 _ _ c.args.met c.args.listed c.node_part-near.ensures.sum c.node_part-near.ensures.count c.requires.before.1)) in record { leaves = all.0; additions = all.1.0; few = all.1.1.0; kept = all.1.1.1 }

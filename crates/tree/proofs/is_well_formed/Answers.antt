@@ -6,7 +6,7 @@ use Rattle.tree.proofs.Verdict.{other-axes, other-own, other-begin, other-total,
 use Rattle.tree.proofs.is_well_formed.Goals as goal
 
 pub returns-then-not-axes_known : goal.returns-then-not-axes_known
-returns-then-not-axes_known c = other-axes c.args.axes c.args.key.now c.args.own.now c.args.begin.now c.args.total.now (sym c.axes_known.ensures ∙ not-true _ c.if-not-axes_known.true)
+returns-then-not-axes_known c = other-axes c.args.axes c.args.key.now c.args.own.now c.args.begin.now c.args.total.now (sym c.axes_known.ensures ∙ c.if-not-axes_known.true)
 
 pub returns-then-own-key : goal.returns-then-own-key
 returns-then-own-key c = other-own c.args.axes c.args.key.now c.args.own.now c.args.begin.now c.args.total.now c.if-own-key.true
@@ -39,13 +39,13 @@ pub returns-then-begin-ne0 : goal.returns-then-begin-ne0
 returns-then-begin-ne0 c = other-first c.args.axes c.args.key.now c.args.own.now c.args.begin.now c.args.total.now c.if-begin-ne0.true
 
 pub rows_right-requires : goal.rows_right-requires
-rows_right-requires c = record { axes = (sym c.axes_known.ensures ∙ not-false _ c.if-not-axes_known.false); owns = c.if-own-key.false; begins = c.if-begin-key.false; some = c.if-key-lt1.false; root = c.if-key-ne0.false; rootless = c.if-own-ne0.false; first = c.if-begin-ne0.false }
+rows_right-requires c = record { axes = (sym c.axes_known.ensures ∙ c.if-not-axes_known.false); owns = c.if-own-key.false; begins = c.if-begin-key.false; some = c.if-key-lt1.false; root = c.if-key-ne0.false; rootless = c.if-own-ne0.false; first = c.if-begin-ne0.false }
 
 pub returns-then-not-rows_right : goal.returns-then-not-rows_right
-returns-then-not-rows_right c = other-rows c.args.axes c.args.key.now c.args.own.now c.args.begin.now c.args.total.now (sym c.rows_right.ensures ∙ not-true _ c.if-not-rows_right.true)
+returns-then-not-rows_right c = other-rows c.args.axes c.args.key.now c.args.own.now c.args.begin.now c.args.total.now (sym c.rows_right.ensures ∙ c.if-not-rows_right.true)
 
 pub totals_right-requires : goal.totals_right-requires
-totals_right-requires c = record { owns = c.if-own-key.false; begins = c.if-begin-key.false; totals = c.if-total-key.false; some = c.if-key-lt1.false; rows = sym c.rows_right.ensures ∙ not-false _ c.if-not-rows_right.false }
+totals_right-requires c = record { owns = c.if-own-key.false; begins = c.if-begin-key.false; totals = c.if-total-key.false; some = c.if-key-lt1.false; rows = sym c.rows_right.ensures ∙ c.if-not-rows_right.false }
 
 pub returns : goal.returns
-returns c = by-totals c.args.axes c.args.key.now c.args.own.now c.args.begin.now c.args.total.now _ (sym c.axes_known.ensures ∙ not-false _ c.if-not-axes_known.false) c.totals_right.ensures
+returns c = by-totals c.args.axes c.args.key.now c.args.own.now c.args.begin.now c.args.total.now _ (sym c.axes_known.ensures ∙ c.if-not-axes_known.false) c.totals_right.ensures

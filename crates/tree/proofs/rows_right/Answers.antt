@@ -21,7 +21,7 @@ pub may_follow-requires : goal.may_follow-requires
 may_follow-requires c = c.requires.axes
 
 pub returns-then-not-may_follow : goal.returns-then-not-may_follow
-returns-then-not-may_follow c = bad-row _ _ _ _ c.requires _ _ c.loop-i.invariant c.loop-i-test.true (sym c.may_follow.ensures ∙ not-true _ c.if-not-may_follow.true)
+returns-then-not-may_follow c = bad-row _ _ _ _ c.requires _ _ c.loop-i.invariant c.loop-i-test.true (sym c.may_follow.ensures ∙ c.if-not-may_follow.true)
 
 pub overflow_sub-i : goal.overflow_sub-i
 overflow_sub-i c = omega (arith, c.loop-i.invariant.some)
@@ -30,7 +30,7 @@ pub bounds-own-i : goal.bounds-own-i
 bounds-own-i c = omega (arith, c.loop-i-test.true, c.requires.owns, c.requires.begins)
 
 pub returns-then-not-may_own : goal.returns-then-not-may_own
-returns-then-not-may_own c = bad-own _ _ _ _ c.requires _ _ c.loop-i.invariant c.loop-i-test.true (sym c.may_own.ensures ∙ not-true _ c.if-not-may_own.true)
+returns-then-not-may_own c = bad-own _ _ _ _ c.requires _ _ c.loop-i.invariant c.loop-i-test.true (sym c.may_own.ensures ∙ c.if-not-may_own.true)
 
 pub bounds-begin-i : goal.bounds-begin-i
 bounds-begin-i c = omega (arith, c.loop-i-test.true, c.requires.owns, c.requires.begins)
@@ -51,7 +51,7 @@ pub overflow_add-run : goal.overflow_add-run
 overflow_add-run c = record { fits = omega (arith, c.if-run-count.false, c.loop-i.invariant.added.small) }
 
 pub loop-i-preserved : goal.loop-i-preserved
-loop-i-preserved c = pass-more _ _ _ _ c.requires _ _ c.loop-i.invariant c.loop-i-test.true (sym c.may_follow.ensures ∙ not-false _ c.if-not-may_follow.false) (sym c.may_own.ensures ∙ not-false _ c.if-not-may_own.false) c.if-begin-i.false c.if-run-count.false
+loop-i-preserved c = pass-more _ _ _ _ c.requires _ _ c.loop-i.invariant c.loop-i-test.true (sym c.may_follow.ensures ∙ c.if-not-may_follow.false) (sym c.may_own.ensures ∙ c.if-not-may_own.false) c.if-begin-i.false c.if-run-count.false
 
 pub returns : goal.returns
 returns c = pass-done _ _ _ _ c.requires _ _ c.loop-i.invariant c.loop-i-test.false

@@ -26,10 +26,10 @@ pub codes_right-requires : goal.codes_right-requires
 codes_right-requires c = (c.requires.0, c.requires.1)
 
 pub returns-then-not-codes_right : goal.returns-then-not-codes_right
-returns-then-not-codes_right c = not-codes c.args.b c.args.limit c.args.keep c.args.sources.now c.args.key.now c.args.own.now c.args.begin.now c.args.total.now c.args.order.now c.requires.0 c.requires.1 (take (rows_of c.args.b c.args.sources.now) c.points_to_codes-found.new.codes) (codes-first c.args.b c.args.sources.now c.args.work.now c.points_to_codes-found.new.codes (sym c.points_to_codes-found.ensures.value ∙ c.in_default.is) c.points_to_codes-found.ensures.codes_after) (tell-false c.codes_right.result c.codes_right.ensures (not-true _ c.if-not-codes_right.true))
+returns-then-not-codes_right c = not-codes c.args.b c.args.limit c.args.keep c.args.sources.now c.args.key.now c.args.own.now c.args.begin.now c.args.total.now c.args.order.now c.requires.0 c.requires.1 (take (rows_of c.args.b c.args.sources.now) c.points_to_codes-found.new.codes) (codes-first c.args.b c.args.sources.now c.args.work.now c.points_to_codes-found.new.codes (sym c.points_to_codes-found.ensures.value ∙ c.in_default.is) c.points_to_codes-found.ensures.codes_after) (tell-false c.codes_right.result c.codes_right.ensures (c.if-not-codes_right.true))
 
 pub is_grown-requires : goal.is_grown-requires
 is_grown-requires c = tree-keys c.args.b.axes c.args.key.now c.args.own.now c.args.begin.now c.args.total.now c.requires.0 c.requires.1
 
 pub returns : goal.returns
-returns c = coded-growth c.args.b c.args.limit c.args.keep c.args.sources.now c.args.key.now c.args.own.now c.args.begin.now c.args.total.now c.args.order.now c.requires.0 c.requires.1 (take (rows_of c.args.b c.args.sources.now) c.points_to_codes-found.new.codes) (codes-first c.args.b c.args.sources.now c.args.work.now c.points_to_codes-found.new.codes (sym c.points_to_codes-found.ensures.value ∙ c.in_default.is) c.points_to_codes-found.ensures.codes_after) c.is_grown.result c.is_grown.ensures (all_in c.args.b c.args.sources.now c.args.work.now c.points_to_codes-found.new.codes (sym c.points_to_codes-found.ensures.value ∙ c.in_default.is) c.points_to_codes-found.ensures.codes_after) (tell-true c.codes_right.result c.codes_right.ensures (not-false _ c.if-not-codes_right.false))
+returns c = coded-growth c.args.b c.args.limit c.args.keep c.args.sources.now c.args.key.now c.args.own.now c.args.begin.now c.args.total.now c.args.order.now c.requires.0 c.requires.1 (take (rows_of c.args.b c.args.sources.now) c.points_to_codes-found.new.codes) (codes-first c.args.b c.args.sources.now c.args.work.now c.points_to_codes-found.new.codes (sym c.points_to_codes-found.ensures.value ∙ c.in_default.is) c.points_to_codes-found.ensures.codes_after) c.is_grown.result c.is_grown.ensures (all_in c.args.b c.args.sources.now c.args.work.now c.points_to_codes-found.new.codes (sym c.points_to_codes-found.ensures.value ∙ c.in_default.is) c.points_to_codes-found.ensures.codes_after) (tell-true c.codes_right.result c.codes_right.ensures (c.if-not-codes_right.false))

@@ -5,19 +5,19 @@ use Rattle.write_file.proofs.Checks.{not_known, not-counted, not-tree, tree-done
 use Rattle.write_file.proofs.tree_outcome.Goals as goal
 
 pub returns-then-not-axes_known : goal.returns-then-not-axes_known
-returns-then-not-axes_known c = not_known c.args.axes c.args.key.now c.args.own.now c.args.begin.now c.args.total.now c.args.indices.now c.args.u_starts.now c.args.u_keys.now c.args.v_starts.now c.args.v_keys.now _ c.axes_known.ensures (not-true _ c.if-not-axes_known.true)
+returns-then-not-axes_known c = not_known c.args.axes c.args.key.now c.args.own.now c.args.begin.now c.args.total.now c.args.indices.now c.args.u_starts.now c.args.u_keys.now c.args.v_starts.now c.args.v_keys.now _ c.axes_known.ensures (c.if-not-axes_known.true)
 
 pub returns-then-not-lengths_fit : goal.returns-then-not-lengths_fit
-returns-then-not-lengths_fit c = not-counted c.args.axes c.args.key.now c.args.own.now c.args.begin.now c.args.total.now c.args.indices.now c.args.u_starts.now c.args.u_keys.now c.args.v_starts.now c.args.v_keys.now _ c.axes_known.ensures (not-false _ c.if-not-axes_known.false) _ c.lengths_fit.ensures (not-true _ c.if-not-lengths_fit.true)
+returns-then-not-lengths_fit c = not-counted c.args.axes c.args.key.now c.args.own.now c.args.begin.now c.args.total.now c.args.indices.now c.args.u_starts.now c.args.u_keys.now c.args.v_starts.now c.args.v_keys.now _ c.axes_known.ensures (c.if-not-axes_known.false) _ c.lengths_fit.ensures (c.if-not-lengths_fit.true)
 
 pub returns-in-Refused : goal.returns-in-Refused
-returns-in-Refused c = not-tree c.args.axes c.args.key.now c.args.own.now c.args.begin.now c.args.total.now c.args.indices.now c.args.u_starts.now c.args.u_keys.now c.args.v_starts.now c.args.v_keys.now _ c.axes_known.ensures (not-false _ c.if-not-axes_known.false) _ c.lengths_fit.ensures (not-false _ c.if-not-lengths_fit.false) _ (sym c.check_tree-checked.ensures ∙ c.in-Refused.is)
+returns-in-Refused c = not-tree c.args.axes c.args.key.now c.args.own.now c.args.begin.now c.args.total.now c.args.indices.now c.args.u_starts.now c.args.u_keys.now c.args.v_starts.now c.args.v_keys.now _ c.axes_known.ensures (c.if-not-axes_known.false) _ c.lengths_fit.ensures (c.if-not-lengths_fit.false) _ (sym c.check_tree-checked.ensures ∙ c.in-Refused.is)
 
 pub rest_right-requires : goal.rest_right-requires
 rest_right-requires c = sym c.check_tree-checked.ensures ∙ c.in_default.is
 
 pub returns-then-rest_right : goal.returns-then-rest_right
-returns-then-rest_right c = tree-done c.args.axes c.args.key.now c.args.own.now c.args.begin.now c.args.total.now c.args.indices.now c.args.u_starts.now c.args.u_keys.now c.args.v_starts.now c.args.v_keys.now _ c.axes_known.ensures (not-false _ c.if-not-axes_known.false) _ c.lengths_fit.ensures (not-false _ c.if-not-lengths_fit.false) (sym c.check_tree-checked.ensures ∙ c.in_default.is) _ c.rest_right.ensures c.if-rest_right.true
+returns-then-rest_right c = tree-done c.args.axes c.args.key.now c.args.own.now c.args.begin.now c.args.total.now c.args.indices.now c.args.u_starts.now c.args.u_keys.now c.args.v_starts.now c.args.v_keys.now _ c.axes_known.ensures (c.if-not-axes_known.false) _ c.lengths_fit.ensures (c.if-not-lengths_fit.false) (sym c.check_tree-checked.ensures ∙ c.in_default.is) _ c.rest_right.ensures c.if-rest_right.true
 
 pub returns : goal.returns
-returns c = not_right c.args.axes c.args.key.now c.args.own.now c.args.begin.now c.args.total.now c.args.indices.now c.args.u_starts.now c.args.u_keys.now c.args.v_starts.now c.args.v_keys.now _ c.axes_known.ensures (not-false _ c.if-not-axes_known.false) _ c.lengths_fit.ensures (not-false _ c.if-not-lengths_fit.false) (sym c.check_tree-checked.ensures ∙ c.in_default.is) _ c.rest_right.ensures c.if-rest_right.false
+returns c = not_right c.args.axes c.args.key.now c.args.own.now c.args.begin.now c.args.total.now c.args.indices.now c.args.u_starts.now c.args.u_keys.now c.args.v_starts.now c.args.v_keys.now _ c.axes_known.ensures (c.if-not-axes_known.false) _ c.lengths_fit.ensures (c.if-not-lengths_fit.false) (sym c.check_tree-checked.ensures ∙ c.in_default.is) _ c.rest_right.ensures c.if-rest_right.false

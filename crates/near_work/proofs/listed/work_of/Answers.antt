@@ -16,7 +16,7 @@ pub is_leaf-requires : goal.is_leaf-requires
 is_leaf-requires c = (tree-keys c.args.axes c.args.key.now c.args.own.now c.requires.0, c.requires.2)
 
 pub returns-then-not-is_leaf : goal.returns-then-not-is_leaf
-returns-then-not-is_leaf c = work_none c.args.axes c.args.key.now c.args.own.now c.args.counts.now _ (sym c.is_leaf.ensures ∙ not-true _ c.if-not-is_leaf.true)
+returns-then-not-is_leaf c = work_none c.args.axes c.args.key.now c.args.own.now c.args.counts.now _ (sym c.is_leaf.ensures ∙ c.if-not-is_leaf.true)
 
 pub bounds-starts-node : goal.bounds-starts-node
 bounds-starts-node c = let r = read-row (u_row c.args.axes c.args.key.now c.args.own.now) c.args.key.now c.args.starts.now c.args.flat.now c.requires.1 c.args.node c.requires.2 in omega (arith, r.there)
@@ -40,7 +40,7 @@ pub bounds-counts-node : goal.bounds-counts-node
 bounds-counts-node c = omega (arith, c.requires.2, c.requires.3.long)
 
 pub overflow_mul-result : goal.overflow_mul-result
-overflow_mul-result c = let r = read-row (u_row c.args.axes c.args.key.now c.args.own.now) c.args.key.now c.args.starts.now c.args.flat.now c.requires.1 c.args.node c.requires.2 in omega (arith, product-fits _ _ (weight-few c.args.axes c.args.key.now c.args.own.now c.requires.0 c.args.counts.now c.requires.3 c.args.node c.requires.2 (sym c.is_leaf.ensures ∙ not-false _ c.if-not-is_leaf.false)) (subst (λ n. n ≤ most_sources) (sym (c.row_sources-sources.ensures ∙ ap (row_sources c.args.key.now c.args.own.now) r.part)) (sources-few c.args.axes c.args.key.now c.args.own.now c.requires.0 _)))
+overflow_mul-result c = let r = read-row (u_row c.args.axes c.args.key.now c.args.own.now) c.args.key.now c.args.starts.now c.args.flat.now c.requires.1 c.args.node c.requires.2 in omega (arith, product-fits _ _ (weight-few c.args.axes c.args.key.now c.args.own.now c.requires.0 c.args.counts.now c.requires.3 c.args.node c.requires.2 (sym c.is_leaf.ensures ∙ c.if-not-is_leaf.false)) (subst (λ n. n ≤ most_sources) (sym (c.row_sources-sources.ensures ∙ ap (row_sources c.args.key.now c.args.own.now) r.part)) (sources-few c.args.axes c.args.key.now c.args.own.now c.requires.0 _)))
 
 pub returns : goal.returns
-returns c = let r = read-row (u_row c.args.axes c.args.key.now c.args.own.now) c.args.key.now c.args.starts.now c.args.flat.now c.requires.1 c.args.node c.requires.2 in work-some c.args.axes c.args.key.now c.args.own.now c.args.counts.now _ _ _ (sym c.is_leaf.ensures ∙ not-false _ c.if-not-is_leaf.false) (weight-of c.args.axes c.args.key.now c.args.own.now c.requires.0 c.args.counts.now c.requires.3 c.args.node c.requires.2) (c.row_sources-sources.ensures ∙ ap (row_sources c.args.key.now c.args.own.now) r.part)
+returns c = let r = read-row (u_row c.args.axes c.args.key.now c.args.own.now) c.args.key.now c.args.starts.now c.args.flat.now c.requires.1 c.args.node c.requires.2 in work-some c.args.axes c.args.key.now c.args.own.now c.args.counts.now _ _ _ (sym c.is_leaf.ensures ∙ c.if-not-is_leaf.false) (weight-of c.args.axes c.args.key.now c.args.own.now c.requires.0 c.args.counts.now c.requires.3 c.args.node c.requires.2) (c.row_sources-sources.ensures ∙ ap (row_sources c.args.key.now c.args.own.now) r.part)
