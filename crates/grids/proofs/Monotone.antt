@@ -5,7 +5,7 @@ use Prim.Native.Nat.{ℕ, ◌+◌, ◌-◌, ◌*◌, ◌≤◌, ◌<◌}
 use native.Mathlib.Nat.{mul_comm, mul-le-mul_right, mul-le-mul_left, mul-pos, le_trans, le_of_eq, mul-one}
 use native.Mathlib.Omega.{arith}
 use lib.IntN.{ℤ, pos}
-use lib.Dec.{T, ltb, eqb, not_t, eqb→eq, ltb→lt, lit<}
+use lib.Dec.{T, ltb, eqb, not_T, eqb→eq, ltb→lt, lit<}
 use lib.Ieee.{Float, nan, inf, fin, Format, up, down, unlike, round, sum, add, sub, mul, div, neg, of_int, le}
 use lib.Ieee.Fits.{down_pos, up_pos}
 use lib.Ieee.Bits.{cond_no}
@@ -63,7 +63,7 @@ plain-right true = refl
 plain-right false = refl
 
 not-zero : (n : ℕ) → 0 < n → T (not (eqb n 0))
-not-zero n h = not_t (eqb n 0) (λ (z : T (eqb n 0)). go n h (eqb→eq n 0 z))
+not-zero n h = not_T (eqb n 0) (λ (z : T (eqb n 0)). go n h (eqb→eq n 0 z))
   where
     go : (n : ℕ) → 0 < n → n ≡ 0 → ⊥
     go n h e = omega arith

@@ -5,7 +5,7 @@ use Prim.Native.Nat.{ℕ, zero, suc, ◌+◌, ◌-◌, ◌*◌, ◌/◌, ◌%◌
 use native.Mathlib.Nat.{le_trans, le_of_eq, le_of_lt, lt_irrefl, lt_of_lt_of_le, lt_of_le_of_lt, lt_of_not-le, le_of_mul-le-mul_right, mul-one, mul_comm, mul_assoc, mul_left_comm, mul_right_comm, mul-le-mul_right, mul-le-mul_left, mul-lt-mul_of_pos_right, mul-pos, sub-add_cancel}
 use native.Mathlib.Omega.{arith}
 use lib.IntN.{ℤ, pos, negsuc}
-use lib.Dec.{T, leb, ltb, eqb, ltb→lt, lt→ltb, not_t, eqb→eq, lit≤, lit<}
+use lib.Dec.{T, leb, ltb, eqb, ltb→lt, lt→ltb, not_T, eqb→eq, lit≤, lit<}
 use lib.Pow.{pow-add, pow_pos, pow_mono, shr_lt}
 use lib.Ieee.{Float, nan, inf, fin, Format, binary64, up, down, round, unlike, sub, mul, div, of_int, fits, lt, le}
 use lib.Ieee.Fits.{down_pos, up_pos, and_l, and_r}
@@ -58,7 +58,7 @@ div-at f (fin t m e) (fin false n g) s a c b d C B D h k =
     let x = m * up e * down g in
     let y = n * up g * down e in
     let cross : x * (c * b) ≡ a * d * y = crossed (m * up e) (down e) (n * up g) (down g) a b c d h.1 k.1 in
-    cond_no (eqb n 0) (cond (eqb m 0) nan (inf (unlike t false))) (round f (unlike t false) x y) (not_t (eqb n 0) (λ (z : T (eqb n 0)). not-zero n N (eqb→eq n 0 z)))
+    cond_no (eqb n 0) (cond (eqb m 0) nan (inf (unlike t false))) (round f (unlike t false) x y) (not_T (eqb n 0) (λ (z : T (eqb n 0)). not-zero n N (eqb→eq n 0 z)))
     ∙ ap (λ (w : Bool). round f w x y) (plain t ∙ h.0)
     ∙ round_same f s x y (a * d) (c * b) (mul-pos (mul-pos N (up_pos g)) (down_pos e)) (mul-pos C B) cross
   where

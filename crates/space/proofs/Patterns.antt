@@ -5,7 +5,7 @@ use Prim.Native.Nat.{ℕ, zero, suc, ◌+◌, ◌-◌, ◌*◌, ◌/◌, ◌%◌
 use native.Mathlib.Nat.{le_trans, le_of_eq, lt_irrefl, lt_of_lt_of_le, not-le_of_lt, le-div_iff_mul-le, div-lt_iff_lt-mul, div-eq_of_lt, mul-pos, mul-le-mul_right, mod-lt, mod-eq_of_lt, le-add_right}
 use native.Mathlib.Omega.{arith}
 use lib.IntN.{pos, neg_ℤ}
-use lib.Dec.{T, leb, ltb, eqb, ltb→lt, lt→ltb, leb→le, nleb→lt, not_t, eqb→eq, lit≤, lit<}
+use lib.Dec.{T, leb, ltb, eqb, ltb→lt, lt→ltb, leb→le, nleb→lt, not_T, eqb→eq, lit≤, lit<}
 use lib.Pow.{pow-add, pow_pos, pow_mono, shl_lt, shl-shr, shr-shr}
 use lib.Bits.{bit_and, bit_or, and_mask, or_shifted_r}
 use lib.Ieee.{Float, nan, inf, fin, binary64, up, down, odd, fits, is_nan, of_fields, of_bits, to_bits, ne}
@@ -29,7 +29,7 @@ at-cell x g d k D h e l =
 out-cell : (x : Float) (g d : ℕ) → 0 < d → HasValue x false g d → 65536 ≤ g / d → Outside ≡ cell_number 65536 (floor x)
 out-cell x g d D h l =
     let k = g / d in
-    sym (ap (cell_number 65536) (floor-plus x g d D h) ∙ ap (λ (b : Bool). code_or b k) (is_false (ltb k 65536) (not_t (ltb k 65536) (λ (t : T (ltb k 65536)). not-le_of_lt (ltb→lt k 65536 t) l))))
+    sym (ap (cell_number 65536) (floor-plus x g d D h) ∙ ap (λ (b : Bool). code_or b k) (is_false (ltb k 65536) (not_T (ltb k 65536) (λ (t : T (ltb k 65536)). not-le_of_lt (ltb→lt k 65536 t) l))))
 
 below-zero : (n k : ℕ) → 1 ≤ k → Outside ≡ cell_number n (whole (neg_ℤ (pos k)))
 below-zero n zero h = absurd (lt_irrefl 0 h)
@@ -77,7 +77,7 @@ pub with_lead : (t : ℕ) → t < 2 ^ 52 → 2 ^ 52 + t < 2 ^ 53
 with_lead t h = omega arith
 
 pub not_top : (j : ℕ) → suc j < 2047 → eqb (suc j) 2047 ≡ false
-not_top j h = is_false (eqb (suc j) 2047) (not_t (eqb (suc j) 2047) (λ (e : T (eqb (suc j) 2047)). go j h (eqb→eq (suc j) 2047 e)))
+not_top j h = is_false (eqb (suc j) 2047) (not_T (eqb (suc j) 2047) (λ (e : T (eqb (suc j) 2047)). go j h (eqb→eq (suc j) 2047 e)))
   where
     go : (j : ℕ) → suc j < 2047 → suc j ≡ 2047 → ⊥
     go j h e = omega arith
@@ -133,7 +133,7 @@ of_bits_is b = refl
 plus-fields : (b : ℕ) → b < 2 ^ 63 → of_bits binary64 b ≡ of_fields binary64 false (b / 2 ^ 52) (b % 2 ^ 52)
 plus-fields b h =
     of_bits_is b
-    ∙ ap (λ (s : Bool). of_fields binary64 s (b % 2 ^ 63 / 2 ^ 52) (b % 2 ^ 52)) (is_false (leb (2 ^ 63) b) (not_t (leb (2 ^ 63) b) (λ (t : T (leb (2 ^ 63) b)). not-le_of_lt h (leb→le (2 ^ 63) b t))))
+    ∙ ap (λ (s : Bool). of_fields binary64 s (b % 2 ^ 63 / 2 ^ 52) (b % 2 ^ 52)) (is_false (leb (2 ^ 63) b) (not_T (leb (2 ^ 63) b) (λ (t : T (leb (2 ^ 63) b)). not-le_of_lt h (leb→le (2 ^ 63) b t))))
     ∙ ap (λ (r : ℕ). of_fields binary64 false (r / 2 ^ 52) (b % 2 ^ 52)) (mod-eq_of_lt h)
 
 pub le→leb : (m n : ℕ) → m ≤ n → T (leb m n)

@@ -51,23 +51,23 @@ module _ (d a b : ℕ) where
 
 -- the row test, test by test
 module _ (d p k : ℕ) where
-  no : (follows d p k ≡ true → ⊥) → false ≡ follows d p k
-  no f = sym (refute f)
+  not-so : (follows d p k ≡ true → ⊥) → false ≡ follows d p k
+  not-so f = sym (refute f)
 
   pub level-low : level_of k < 1 → false ≡ follows d p k
   unfolding follows
-  level-low h = no (λ f. omega (arith, ltb-true 0 (level_of k) (and_l _ _ f)))
+  level-low h = not-so (λ f. omega (arith, ltb-true 0 (level_of k) (and_l _ _ f)))
 
   pub level-high : 16 < level_of k → false ≡ follows d p k
   unfolding follows
-  level-high h = no (λ f. omega (arith, leb-true (level_of k) 16 (and_l _ _ (and_r (ltb 0 (level_of k)) _ f))))
+  level-high h = not-so (λ f. omega (arith, leb-true (level_of k) 16 (and_l _ _ (and_r (ltb 0 (level_of k)) _ f))))
 
   held : follows d p k ≡ true → under d (parent d k) p ≡ true
   unfolding follows
   held f = and_l _ _ (and_r (leb (level_of k) 16) _ (and_r (ltb 0 (level_of k)) _ f))
 
   pub level-jump : level_of p + 1 < level_of k → false ≡ follows d p k
-  level-jump h = no (λ f. omega (arith, level-parent d k, leb-true (level_of (parent d k)) (level_of p) (and_l _ _ (held f))))
+  level-jump h = not-so (λ f. omega (arith, level-parent d k, leb-true (level_of (parent d k)) (level_of p) (and_l _ _ (held f))))
 
   module _ (x y : ℕ) (some : 1 ≤ level_of k) (most : level_of k ≤ 16) (step : level_of k ≤ level_of p + 1)
       (ex : x ≡ above d (level_of p + 1 - level_of k) (code_of p)) (ey : y ≡ above d 1 (code_of k)) where
@@ -78,7 +78,7 @@ module _ (d p k : ℕ) where
     parent_is = code-parent d k ∙ sym (above-one d (code_of k)) ∙ sym ey
 
     pub other-parent : (x ≡ y → ⊥) → false ≡ follows d p k
-    other-parent n = no (λ f. n (sym up_is ∙ eqb-true (above d (level_of p - level_of (parent d k)) (code_of p)) (code_of (parent d k)) (and_r (leb (level_of (parent d k)) (level_of p)) _ (held f)) ∙ parent_is))
+    other-parent n = not-so (λ f. n (sym up_is ∙ eqb-true (above d (level_of p - level_of (parent d k)) (code_of p)) (code_of (parent d k)) (and_r (leb (level_of (parent d k)) (level_of p)) _ (held f)) ∙ parent_is))
 
     pub by_order : x ≡ y → (r : Bool) → r ≡ before d p k → r ≡ follows d p k
     unfolding follows

@@ -16,7 +16,7 @@ pub returns-in_default-2 : goal.returns-in_default-2
 returns-in_default-2 c = of-past _ (omega arith)
 
 pub returns-in-2-to-6 : goal.returns-in-2-to-6
-returns-in-2-to-6 c = of-eight _ c.in-2-to-6.keys2
+returns-in-2-to-6 c = of-eight _ c.in-2-to-6.in-2-to-6-own.keys2
 
 pub returns-in-2-to-6-2 : goal.returns-in-2-to-6-2
 returns-in-2-to-6-2 c = of_narrow _ c.in_default-1.in_default-1-own.rest.0.1 (omega arith) (omega arith)

@@ -33,12 +33,12 @@ pub moved-to-requires : goal.moved-to-requires
 moved-to-requires c = (c.requires.0.most, from-small c.args.axes c.args.key c.level_of-level.result c.requires.0 c.level_of-level.ensures _ c.anchors_of-from.ensures c.loop-i.i _ (ap (λ (rs : List (List ℤ)). get_or rs c.loop-i.i []) c.requires.1), row-is-unit c.args.axes c.args.key c.level_of-level.result c.requires.0 c.level_of-level.ensures _ c.anchors_of-from.ensures c.loop-i.i _ (ap (λ (rs : List (List ℤ)). get_or rs c.loop-i.i []) c.requires.1) (in_rows c.args.axes _ _ _ c.requires.1 c.neighbours_of-count.ensures (omega arith)).1, sym c.stays.ensures ∙ c.if-stays.true)
 
 pub key_at-requires : goal.key_at-requires
-key-at-requires c κs = let f = c.before.before.before.before.before.before.before.before in let s = f.before in (
-  s.requires.0.some,
-  s.requires.0.most,
-  omega (arith, c.before.before.before.before.before.before.before.level-of.ensures, s.requires.0.level),
-  subst (λ xs. on_level s.args.axes c.before.before.before.before.before.before.before.level-of.result xs ≡ true) (sym c.moved.ensures) (moved_on s.args.axes s.args.key c.before.before.before.before.before.before.before.level-of.result s.requires.0 c.before.before.before.before.before.before.before.level-of.ensures _ c.before.before.before.before.before.before.anchors-of.ensures c.before.before.before.before.before.loop.i _ (ap (λ (rs : List (List ℤ)). get_or rs c.before.before.before.before.before.loop.i []) s.requires.1) (sym c.before.before.stays.ensures ∙ c.before.if1.true)),
-key_at-requires c = ? -- 
+key_at-requires c = (
+  c.requires.0.some,
+  c.requires.0.most,
+  omega (arith, c.level_of-level.ensures, c.requires.0.level),
+  subst (λ xs. on_level c.args.axes c.level_of-level.result xs ≡ true) (sym c.moved-to.ensures) (moved_on c.args.axes c.args.key c.level_of-level.result c.requires.0 c.level_of-level.ensures _ c.anchors_of-from.ensures c.loop-i.i _ (ap (λ (rs : List (List ℤ)). get_or rs c.loop-i.i []) c.requires.1) (sym c.stays.ensures ∙ c.if-stays.true)),
+)
 
 pub offset_bounds-found-len : goal.offset_bounds-found-len
 offset_bounds-found-len c = omega (arith, along-room c.args.axes c.args.key c.loop-i.i _ _ (in_rows c.args.axes _ _ _ c.requires.1 c.neighbours_of-count.ensures (omega arith)).1 c.loop-i.invariant.1)

@@ -20,10 +20,10 @@ other (negsuc zero) m n = absurd (m refl)
 other (negsuc (suc k)) m n = refl
 
 pub returns-in-minus1 : goal.returns-in-minus1
-returns-in-minus1 c = (held c.args.step _ c.ranges.step c.in-minus1.keys1, omega arith)
+returns-in-minus1 c = (held c.args.step _ c.ranges.step c.in-minus1.in-minus1-own.keys1, omega arith)
 
 pub returns-in-0 : goal.returns-in-0
-returns-in-0 c = (held c.args.step _ c.ranges.step c.in-0.keys2, omega arith)
+returns-in-0 c = (held c.args.step _ c.ranges.step c.in-0.in-0-own.keys2, omega arith)
 
 pub returns-in_default : goal.returns-in_default
 returns-in_default c = (other c.args.step c.in_default.in_default-own.rest.0.1 c.in_default.in_default-own.rest.1, omega arith)
