@@ -19,15 +19,11 @@ held-nan : fits binary64 nan ≡ true
 unfolding fits
 held-nan = refl
 
-held-each : (xs : List Float) (us : List Val) (i : ℕ) → shadow (each Float (FloatOf binary64).own xs us) → fits binary64 (get_or xs i nan) ≡ true
+held-each : (xs : List Float) (us : List Val) (i : ℕ) → shadow (each Float (FloatOf binary64).own_val xs us) → fits binary64 (get_or xs i nan) ≡ true
 held-each [] us i p = held-nan
 held-each (x ∷ xs) [] i p = absurd p
 held-each (x ∷ xs) (u ∷ us) zero p = p.0.1
 held-each (x ∷ xs) (u ∷ us) (suc i) p = held-each xs us i p.1
 
--- as a field of a struct
-held-field : (xs : List Float) (us : List Val) (i : ℕ) → shadow (each Float (FloatOf binary64).own (map (λ (x : Float). x) xs) us) → fits binary64 (get_or xs i nan) ≡ true
-held-field xs us i p = held-each xs us i (subst (λ (ys : List Float). shadow (each Float (FloatOf binary64).own ys us)) (map-id xs) p)
-
-pub held : (b : Box) (us : List Val) → fits binary64 b.radius ≡ true → shadow (each Float (FloatOf binary64).own (map (λ (x : Float). x) b.centre) us) → Held b
-held b us r p = record { radius = r; centre = λ a. held-field b.centre us a p }
+pub held : (b : Box) (us : List Val) → fits binary64 b.radius ≡ true → shadow (each Float (FloatOf binary64).own_val b.centre us) → Held b
+held b us r p = record { radius = r; centre = λ a. held-each b.centre us a p }

@@ -1,10 +1,12 @@
 #![tactic(auto)]
 
 // Replays the recorded answers of the key calls, one case a line of standard input: differential/README.md says how they are made.
-ghost use Rattle.std.specs.Prelude.{◌≤◌, ◌<◌, length};
+ghost use Rattle.std.specs.Prelude.{IfOk, ◌≤◌, ◌<◌, length};
 
 use cases::Verdict;
-use libc::{STDIN_FILENO, STDOUT_FILENO};
+use std::io;
+use std::io::Print;
+use whole_input::read_full;
 
 mod text; // text.rt: places, numbers and lists of numbers in a text
 mod calls; // calls.rt: the answer of a key call, and whether two answers are one
@@ -39,23 +41,21 @@ fn counted(verdict: Verdict) -> u64
 }
 
 // 1 for a line whose case differs, which is then named.
-fn reported(verdict: Verdict, line: u64) -> u64
-    ensures { result ≤ 1 }
+fn reported(rt: &impl Print, verdict: Verdict, line: u64) -> io::Result<u64>
+    ensures { IfOk result (λ count. count ≤ 1) }
 {
     match verdict {
-        Verdict::Comment => 0,
-        Verdict::Agrees => 0,
+        Verdict::Comment => Ok(0),
+        Verdict::Agrees => Ok(0),
         Verdict::Differs => {
-            io::write_all(STDOUT_FILENO, b"line ");
-            io::print_decimal(STDOUT_FILENO, line);
-            io::write_all(STDOUT_FILENO, b" differs\n");
-            1
+            println!(rt; "line {line} differs")?;
+            Ok(1)
         }
     }
 }
 
 // Judges each line, and names those that differ.
-fn replay(s: &[u8]) -> Tally {
+fn replay(rt: &impl Print, s: &[u8]) -> io::Result<Tally> {
     let mut line: u64 = 0;
     let mut cases: u64 = 0;
     let mut differ: u64 = 0;
@@ -65,26 +65,24 @@ fn replay(s: &[u8]) -> Tally {
         let verdict = cases::judge(&s[at..end]);
         line += 1;
         cases += counted(verdict);
-        differ += reported(verdict, line);
+        differ += reported(rt, verdict, line)?;
         at = next_line(s, at, end);
     }
-    Tally { cases, differ }
+    Ok(Tally { cases, differ })
 }
 
-fn write_tally(tally: Tally) {
-    io::write_all(STDOUT_FILENO, b"key vectors: ");
-    io::print_decimal(STDOUT_FILENO, tally.cases);
-    io::write_all(STDOUT_FILENO, b" cases, ");
-    io::print_decimal(STDOUT_FILENO, tally.differ);
-    io::write_all(STDOUT_FILENO, b" differ\n");
+fn write_tally(rt: &impl Print, tally: Tally) -> io::Result<()> {
+    let cases = tally.cases;
+    let differ = tally.differ;
+    println!(rt; "key vectors: {cases} cases, {differ} differ")
 }
 
-fn main() {
+fn main(rt: HostRuntime) -> io::Result<()> {
     let mut room = [0u8; 262144];
-    let n = io::read_full(STDIN_FILENO, &mut room);
+    let n = read_full(&mut rt.reader(), &mut room)?;
     if n == 262144 {
-        io::write_all(STDOUT_FILENO, b"key vectors: the input is too long\n");
-        return;
+        println!(rt; "key vectors: the input is too long")?;
+        return Ok(());
     }
-    write_tally(replay(&room[..n]));
+    write_tally(&rt, replay(&rt, &room[..n])?)
 }

@@ -4,47 +4,45 @@
 // program does, and the leaf of each target is looked up in it. differential/README.md says how they are made. Where a
 // slice is short, which no file brings about, nothing is answered; that differs from every record.
 use build::Built;
-use libc::{STDIN_FILENO, STDOUT_FILENO};
 use lookup::LookedUp;
 use refusal::{Outcome, Refusal};
 use space::Box;
+use std::io;
+use std::io::Print;
 use survey::Survey;
+use whole_input::read_full;
 
-fn write_refusal(refusal: Refusal) {
+fn write_refusal(rt: &impl Print, refusal: Refusal) -> io::Result<()> {
     let told = refusal::tell(refusal);
-    io::write_all(STDOUT_FILENO, b"refused ");
-    io::print_decimal(STDOUT_FILENO, told.number);
-    io::write_all(STDOUT_FILENO, b" ");
-    io::print_decimal(STDOUT_FILENO, told.value as u64);
+    let number = told.number;
+    let value = told.value;
+    print!(rt; "refused {number} {value}")?;
     if told.count == 3 {
-        io::write_all(STDOUT_FILENO, b" ");
-        io::print_decimal(STDOUT_FILENO, told.axis as u64);
-        io::write_all(STDOUT_FILENO, b" ");
-        io::print_decimal(STDOUT_FILENO, told.reason as u64);
+        let axis = told.axis;
+        let reason = told.reason;
+        print!(rt; " {axis} {reason}")?;
     }
-    io::write_all(STDOUT_FILENO, b"\n");
+    println!(rt; "")
 }
 
 // How many points there were, the sum of the steps, and each point's leaf.
-fn write_leaves(points: usize, steps: usize, leaves: &[u64]) {
-    io::write_all(STDOUT_FILENO, b"leaves ");
-    io::print_decimal(STDOUT_FILENO, points as u64);
-    io::write_all(STDOUT_FILENO, b" ");
-    io::print_decimal(STDOUT_FILENO, steps as u64);
+fn write_leaves(rt: &impl Print, points: usize, steps: usize, leaves: &[u64]) -> io::Result<()> {
+    print!(rt; "leaves {points} {steps}")?;
     let mut i = 0;
     while i < leaves.len() {
         if points <= i {
             break;
         }
-        io::write_all(STDOUT_FILENO, b" ");
-        io::print_decimal(STDOUT_FILENO, leaves[i]);
+        let leaf = leaves[i];
+        print!(rt; " {leaf}")?;
         i += 1;
     }
-    io::write_all(STDOUT_FILENO, b"\n");
+    println!(rt; "")
 }
 
 // Looks up the points in a tree of so many nodes.
 fn look_up(
+    rt: &impl Print,
     b: Box,
     key: &[u64],
     own: &[usize],
@@ -53,18 +51,18 @@ fn look_up(
     nodes: usize,
     points: &[f64],
     rows: usize,
-) {
+) -> io::Result<()> {
     if key.len() < nodes {
-        return;
+        return Ok(());
     }
     if own.len() < nodes {
-        return;
+        return Ok(());
     }
     if begin.len() < nodes {
-        return;
+        return Ok(());
     }
     if total.len() < nodes {
-        return;
+        return Ok(());
     }
     let mut leaves = [0u64; 4088];
     let found = lookup::points_to_keys(
@@ -77,13 +75,14 @@ fn look_up(
         &mut leaves,
     );
     match found {
-        LookedUp::Refused(refusal) => write_refusal(refusal),
-        LookedUp::Found(steps) => write_leaves(rows, steps, &leaves),
+        LookedUp::Refused(refusal) => write_refusal(rt, refusal),
+        LookedUp::Found(steps) => write_leaves(rt, rows, steps, &leaves),
     }
 }
 
 // Builds the tree of the sources, and looks up the targets in it.
 fn build(
+    rt: &impl Print,
     b: Box,
     limit: usize,
     order: usize,
@@ -91,7 +90,7 @@ fn build(
     sources: &[f64],
     targets: &[f64],
     rows: usize,
-) {
+) -> io::Result<()> {
     let mut work = [0u64; 8176];
     let mut indices = [0usize; 4088];
     let mut key = [0u64; 2048];
@@ -114,21 +113,29 @@ fn build(
         &mut total,
     );
     match built {
-        Built::Refused(refusal) => write_refusal(refusal),
-        Built::Tree(nodes, _) => look_up(b, &key, &own, &begin, &total, nodes, targets, rows),
+        Built::Refused(refusal) => write_refusal(rt, refusal),
+        Built::Tree(nodes, _) => look_up(rt, b, &key, &own, &begin, &total, nodes, targets, rows),
     }
 }
 
 // What a file says, with its numbers in two slices of which the first m and n count.
-fn build_rows(survey: Survey, sources: &[f64], m: usize, targets: &[f64], n: usize) {
+fn build_rows(
+    rt: &impl Print,
+    survey: Survey,
+    sources: &[f64],
+    m: usize,
+    targets: &[f64],
+    n: usize,
+) -> io::Result<()> {
     if sources.len() < m {
-        return;
+        return Ok(());
     }
     if targets.len() < n {
-        return;
+        return Ok(());
     }
     let b = survey.b;
     build(
+        rt,
         b,
         survey.limit,
         survey.order,
@@ -136,10 +143,10 @@ fn build_rows(survey: Survey, sources: &[f64], m: usize, targets: &[f64], n: usi
         &sources[..m],
         &targets[..n],
         survey.targets,
-    );
+    )
 }
 
-fn answer(file: &[u8]) {
+fn answer(rt: &impl Print, file: &[u8]) -> io::Result<()> {
     let mut sources = [0.0f64; 4088];
     let mut targets = [0.0f64; 4088];
     let survey = survey::read_survey(file, &mut sources, &mut targets);
@@ -148,43 +155,41 @@ fn answer(file: &[u8]) {
     let n = survey.targets * b.axes;
     let outcome = survey.outcome;
     match outcome {
-        Outcome::Refused(refusal) => write_refusal(refusal),
-        Outcome::Done => build_rows(survey, &sources, m, &targets, n),
+        Outcome::Refused(refusal) => write_refusal(rt, refusal),
+        Outcome::Done => build_rows(rt, survey, &sources, m, &targets, n),
     }
 }
 
 // A file's number, and what is answered to it.
-fn write_answer(number: u64, whole: bool, file: &[u8]) {
-    io::write_all(STDOUT_FILENO, b"file ");
-    io::print_decimal(STDOUT_FILENO, number);
-    io::write_all(STDOUT_FILENO, b"\n");
+fn write_answer(rt: &impl Print, number: u64, whole: bool, file: &[u8]) -> io::Result<()> {
+    println!(rt; "file {number}")?;
     if whole {
-        answer(file);
-        return;
+        return answer(rt, file);
     }
-    io::write_all(STDOUT_FILENO, b"not whole\n");
+    println!(rt; "not whole")
 }
 
 // Answers each file of a container.
-fn replay(s: &[u8]) {
+fn replay(rt: &impl Print, s: &[u8]) -> io::Result<()> {
     let mut number: u64 = 0;
     let mut at: usize = 0;
     while at < s.len() {
         let part = container::part_at(s, at);
         let start = part.start;
         let end = part.end;
-        write_answer(number, part.whole, &s[start..end]);
+        write_answer(rt, number, part.whole, &s[start..end])?;
         number += 1;
         at = end;
     }
+    Ok(())
 }
 
-fn main() {
+fn main(rt: HostRuntime) -> io::Result<()> {
     let mut room = [0u8; 65536];
-    let n = io::read_full(STDIN_FILENO, &mut room);
+    let n = read_full(&mut rt.reader(), &mut room)?;
     if n == 65536 {
-        io::write_all(STDOUT_FILENO, b"lookup vectors: the input is too long\n");
-        return;
+        println!(rt; "lookup vectors: the input is too long")?;
+        return Ok(());
     }
-    replay(&room[..n]);
+    replay(&rt, &room[..n])
 }

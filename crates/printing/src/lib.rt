@@ -8,9 +8,10 @@ ghost use Rattle.build.specs.Outcomes.{node_room};
 ghost use Rattle.printing.specs.Printed.{columns_text, survey_text_in, survey_text, file_text};
 
 use build::Built;
-use libc::STDOUT_FILENO;
 use refusal::Outcome;
 use space::Box;
+use std::io;
+use std::io::Print;
 use survey::Survey;
 use text::Text;
 
@@ -147,14 +148,12 @@ pub fn list_file(file: &[u8], out: &mut [u8]) -> Text
 }
 
 // Prints the listing of a file, by way of a slice for its text.
-pub fn print_listing(file: &[u8], out: &mut [u8])
+pub fn print_listing(rt: &impl Print, file: &[u8], out: &mut [u8]) -> io::Result<()>
     ensures text { out.new ≡ text_left (length out.old) (file_text file.now) }
 {
     let text = list_file(file, out);
     match text {
-        Text::Length(len) => {
-            io::write_all(STDOUT_FILENO, &out[..len]);
-        }
-        Text::Short => {}
+        Text::Length(len) => rt.write_all(&out[..len]),
+        Text::Short => Ok(()),
     }
 }

@@ -1,5 +1,5 @@
 -- A V row over d axes has at most 6 ^ d - 3 ^ d cells: on each axis a cell whose parent is near b's has one of 6 offsets to b, 3 of them near.
-use mathlib.Core.Path.{◌≡◌, refl, sym, ap₂, ◌∙◌}
+use mathlib.Core.Path.{◌≡◌, refl, sym, ap₂, ◌∙◌, subst}
 use mathlib.Core.Bool.{Bool, true, false, ◌&&◌}
 use mathlib.Core.List.{List, [], ◌∷◌, map}
 use Prim.Native.Nat.{ℕ, zero, suc, ◌+◌, ◌*◌, ◌-◌, ◌/◌, ◌%◌, ◌^◌, ◌≤◌, ◌<◌, zero-le}
@@ -62,7 +62,13 @@ module _ (d : ℕ) (keys : List ℕ) (dist : Distinct keys) (level b : ℕ) wher
           go (yes k) = e a k
           go (no k) =
               let same : a ≡ n = omega arith in
-              rw same (omega (arith, (off-span n q fit x mx (and_l _ _ hx)).0, (off-span n q fit y my (and_l _ _ hy)).0, eqb-true (off n x) v (and_r (q x) _ hx), eqb-true (off n y) v (and_r (q y) _ hy)))
+              let left : off n x + 2 * anchor d n level (b / 2 ^ d) ≡ anchor d n (suc level) (code_of x) + 2 = (off-span n q fit x mx (and_l _ _ hx)).0 in
+              let right : off n y + 2 * anchor d n level (b / 2 ^ d) ≡ anchor d n (suc level) (code_of y) + 2 = (off-span n q fit y my (and_l _ _ hy)).0 in
+              let one : off n x ≡ v = eqb-true (off n x) v (and_r (q x) _ hx) in
+              let other : off n y ≡ v = eqb-true (off n y) v (and_r (q y) _ hy) in
+              let there : anchor d n (suc level) (code_of x) ≡ anchor d n (suc level) (code_of y) = omega arith in
+              let P : ℕ → Type 0 = λ m. anchor d m (suc level) (code_of x) ≡ anchor d m (suc level) (code_of y) in
+              subst P (sym same) there
 
   by-offset : (n : ℕ) (q : ℕ → Bool) → Fit (suc n) q → count q keys ≡ sum (map (λ v. count (λ x. q x && eqb (off n x) v) keys) (range 0 6))
   by-offset n q fit = count-split q (off n) keys 6 (λ x m h. (off-span n q fit x m h).1)

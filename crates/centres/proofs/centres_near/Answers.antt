@@ -31,29 +31,33 @@ centre_on-value_a-requires c = (c.requires.0, c.anchors_of-anchor_a.ensures, ome
 pub centre_on-value_b-requires : goal.centre_on-value_b-requires
 centre_on-value_b-requires c = (c.requires.1, c.anchors_of-anchor_b.ensures, omega (arith, c.requires.0.most, c.loop-n.invariant.0))
 
--- one axis: the two centres, and how far they are apart
-axis : (c : tie.After-magnitude invariant-loop decreases-loop) →
-    Axis c.before.before.before.before.before.before.before.before.before.before.before.args.b c.before.before.before.before.before.before.before.before.before.before.before.args.first c.before.before.before.before.before.before.before.before.before.before.before.args.second (c.before.before.before.before.loop.n - 1) c.before.before.centre-on.result c.before.centre-on2.result c.magnitude.result (mul binary64 (of_bits binary64 4602678819172646912) (add binary64 c.before.before.before.before.before.before.before.before.before.side-at.result c.before.before.before.before.before.before.before.side-at2.result))
-axis c =
-    let b = c.before.before.before.before.before.before.before.before.before.before.before.args.b in
-    record {
-      first = c.before.before.centre-on.ensures;
-      second = c.before.centre-on2.ensures;
-      apart = c.magnitude.ensures;
-      length =
-          reach-is b c.before.before.before.before.before.before.before.before.before.before.before.args.first c.before.before.before.before.before.before.before.before.before.before.before.args.second _ _
-          (c.before.before.before.before.before.before.before.before.before.side-at.ensures ∙ ap (side b.radius) c.before.before.before.before.before.before.before.before.before.before.level-of.ensures) (c.before.before.before.before.before.before.before.side-at2.ensures ∙ ap (side b.radius) c.before.before.before.before.before.before.before.before.level-of2.ensures);
-    }
-
 pub returns-then-not-magnitude-length : goal.returns-then-not-magnitude-length
 unfolding of_bits tolerance lib.Ieee.round
-returns-then-not-magnitude-length c = near-stop c.args.b c.args.first c.args.second c.loop-n.n (c.loop-n.n - 1) _ _ _ _ _ refl (omega (arith, c.loop-n-test.true)) (axis c) (c.if-not-magnitude-length.true) ∙ c.loop-n.invariant.1
+returns-then-not-magnitude-length c =
+    let axis : Axis c.args.b c.args.first c.args.second (c.loop-n.n - 1) c.centre_on-value_a.result c.centre_on-value_b.result c.magnitude.result (mul binary64 (of_bits binary64 4602678819172646912) (add binary64 c.side_at-length_a.result c.side_at-length_b.result)) = record {
+      first = c.centre_on-value_a.ensures;
+      second = c.centre_on-value_b.ensures;
+      apart = c.magnitude.ensures;
+      length =
+          reach-is c.args.b c.args.first c.args.second _ _
+          (c.side_at-length_a.ensures ∙ ap (side c.args.b.radius) c.level_of.ensures) (c.side_at-length_b.ensures ∙ ap (side c.args.b.radius) c.level_of-2.ensures);
+    } in
+    near-stop c.args.b c.args.first c.args.second c.loop-n.n (c.loop-n.n - 1) _ _ _ _ _ refl (omega (arith, c.loop-n-test.true)) axis (c.if-not-magnitude-length.true) ∙ c.loop-n.invariant.1
 
 pub loop-n-preserved : goal.loop-n-preserved
 unfolding of_bits tolerance lib.Ieee.round
-loop-n-preserved c = (
+loop-n-preserved c =
+    let axis : Axis c.args.b c.args.first c.args.second (c.loop-n.n - 1) c.centre_on-value_a.result c.centre_on-value_b.result c.magnitude.result (mul binary64 (of_bits binary64 4602678819172646912) (add binary64 c.side_at-length_a.result c.side_at-length_b.result)) = record {
+      first = c.centre_on-value_a.ensures;
+      second = c.centre_on-value_b.ensures;
+      apart = c.magnitude.ensures;
+      length =
+          reach-is c.args.b c.args.first c.args.second _ _
+          (c.side_at-length_a.ensures ∙ ap (side c.args.b.radius) c.level_of.ensures) (c.side_at-length_b.ensures ∙ ap (side c.args.b.radius) c.level_of-2.ensures);
+    } in
+    (
       omega (arith, c.loop-n.invariant.0),
-      near_next c.args.b c.args.first c.args.second c.loop-n.n (c.loop-n.n - 1) _ _ _ _ _ refl (omega (arith, c.loop-n-test.true)) (axis c) (c.if-not-magnitude-length.false) ∙ c.loop-n.invariant.1,
+      near_next c.args.b c.args.first c.args.second c.loop-n.n (c.loop-n.n - 1) _ _ _ _ _ refl (omega (arith, c.loop-n-test.true)) axis (c.if-not-magnitude-length.false) ∙ c.loop-n.invariant.1,
     )
 
 pub returns : goal.returns

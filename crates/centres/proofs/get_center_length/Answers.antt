@@ -11,24 +11,30 @@ use Rattle.centres.proofs.get_center_length.Goals as goal
 pub returns-in-Refused : goal.returns-in-Refused
 returns-in-Refused c = refused-centre c.args.b c.args.key c.in-Refused.refusal (sym c.in-Refused.is ∙ c.key_outcome-o.ensures)
 
--- not refused: the key is valid
-done : (c : goal.In_default) → ValidKey c.args.b.axes c.args.key
-done c = (key-done c.args.b c.args.key (sym c.key_outcome-o.ensures ∙ c.in_default.is)).1
-
 pub anchors_of-anchor-requires : goal.anchors_of-anchor-requires
-anchors_of-anchor-requires c = done c
+anchors_of-anchor-requires c =
+    let done : ValidKey c.args.b.axes c.args.key = (key-done c.args.b c.args.key (sym c.key_outcome-o.ensures ∙ c.in_default.is)).1 in
+    done
 
 pub centre_on-x-requires : goal.centre_on-x-requires
-centre_on-x-requires c = (done c, c.anchors_of-anchor.ensures, lit< tt)
+centre_on-x-requires c =
+    let done : ValidKey c.args.b.axes c.args.key = (key-done c.args.b c.args.key (sym c.key_outcome-o.ensures ∙ c.in_default.is)).1 in
+    (done, c.anchors_of-anchor.ensures, lit< tt)
 
 pub centre_on-y-requires : goal.centre_on-y-requires
-centre_on-y-requires c = (done c, c.anchors_of-anchor.ensures, lit< tt)
+centre_on-y-requires c =
+    let done : ValidKey c.args.b.axes c.args.key = (key-done c.args.b c.args.key (sym c.key_outcome-o.ensures ∙ c.in_default.is)).1 in
+    (done, c.anchors_of-anchor.ensures, lit< tt)
 
 pub centre_on-z-requires : goal.centre_on-z-requires
-centre_on-z-requires c = (done c, c.anchors_of-anchor.ensures, lit< tt)
+centre_on-z-requires c =
+    let done : ValidKey c.args.b.axes c.args.key = (key-done c.args.b c.args.key (sym c.key_outcome-o.ensures ∙ c.in_default.is)).1 in
+    (done, c.anchors_of-anchor.ensures, lit< tt)
 
 pub side_at-requires : goal.side_at-requires
-side_at-requires c = omega (arith, c.level_of.ensures, (done c).level)
+side_at-requires c =
+    let done : ValidKey c.args.b.axes c.args.key = (key-done c.args.b c.args.key (sym c.key_outcome-o.ensures ∙ c.in_default.is)).1 in
+    omega (arith, c.level_of.ensures, done.level)
 
 pub returns : goal.returns
 returns c = done-centre c.args.b c.args.key c.centre_on-x.result c.centre_on-y.result c.centre_on-z.result c.side_at.result

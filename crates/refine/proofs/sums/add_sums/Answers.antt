@@ -1,5 +1,6 @@
 -- The first entries are lent for the sums; without a column there are no codes.
 use native.Mathlib.Omega.{arith}
+use borrow.Author.Rules.{Fits-under}
 use Rattle.refine.proofs.Made.{shift_small, above-width, cells-shifted, lent, lent-shifted, none_made, made}
 use Rattle.refine.proofs.sums.add_sums.Goals as goal
 

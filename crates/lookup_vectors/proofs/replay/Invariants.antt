@@ -1,0 +1,10 @@
+-- The place moves on by a length at least. The measure is what is left of the container.
+use Prim.Native.Nat.{◌≤◌, ◌-◌}
+use lib.ListN.{length}
+use Rattle.lookup_vectors.proofs.replay.Given as goal
+
+abbrev pub invariant-loop-at : goal.invariant-loop-at
+invariant-loop-at l = ? -- invariant-loop s number₀ at₀ number at = (number ≤ at) × (at ≤ length s)
+
+abbrev pub decreases-loop-at : goal.decreases-loop-at
+decreases-loop-at l = ? -- decreases-loop s number₀ at₀ number at = length s - at
