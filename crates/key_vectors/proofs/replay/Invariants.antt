@@ -4,7 +4,7 @@ use lib.ListN.{length}
 use Rattle.key_vectors.proofs.replay.Given as goal
 
 abbrev pub invariant-loop-at : goal.invariant-loop-at
-invariant-loop-at l = ? -- invariant-loop s line₀ cases₀ differ₀ at₀ line cases differ at = (line ≤ at) × (cases ≤ at) × (differ ≤ at) × (at ≤ length s)
+invariant-loop-at g l = (l.line ≤ l.at) × (l.cases ≤ l.at) × (l.differ ≤ l.at) × (l.at ≤ length l.s)
 
 abbrev pub decreases-loop-at : goal.decreases-loop-at
-decreases-loop-at l = ? -- decreases-loop s line₀ cases₀ differ₀ at₀ line cases differ at = length s - at
+decreases-loop-at g l = length l.s - l.at

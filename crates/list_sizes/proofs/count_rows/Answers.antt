@@ -1,5 +1,4 @@
 -- Each row is put into room for it, so that its count is its length.
-use Prim.Native.Nat.{◌-◌}
 use mathlib.Core.Path.{refl, ◌∙◌}
 use native.Mathlib.Omega.{arith}
 use lib.ListN.{get_or}
@@ -22,16 +21,16 @@ pub loop-i-smaller : goal.loop-i-smaller
 loop-i-smaller c = omega (arith, c.loop-i-test.true)
 
 pub loop-i-preserved : goal.loop-i-preserved
-loop-again c = let p = c.before.before.before.before.before.before.before.before.before.before.before.before.before.before.before.before.before.before.before.before.before.before.before.before.before.requires in let a = c.before.before.before.before.before.before.before.before.before.before.before.before.before.before.before.before.before.before.before.before.before.before.before.before.before.args in let n = c.before.before.before.before.before.before.before.before.before.before.before.before.before.before.before.before.loop.invariant in let l = c.before.before.before.before.before.before.before.before.before.before.before.before.before.before.before.loop-test.true in let i = c.before.before.before.before.before.before.before.before.before.before.before.before.before.before.before.before.loop.i in let k = get_or a.key.now i 0 in let q = c.before.before.before.before.before.before.before.before.before.before.put-node in let kept = q.auto.1.1.1.1.1.1.1 in (
-  counted-more (u_row a.axes a.key.now a.own.now) a.key.now i _ _ _ l n.0 (row_count _ _ (u_row a.axes a.key.now a.own.now k) _ q.ensures.1.0 kept.1.1.0 (omega (arith, u_short a.axes a.key.now a.own.now k, n.4, p.1.0))) c.before.more.ensures,
-  counted-more (v_row a.axes a.key.now a.own.now) a.key.now i _ _ _ l n.1 (row_count _ _ (v_row a.axes a.key.now a.own.now k) _ q.ensures.1.1 kept.1.1.1.0 (omega (arith, v_short a.axes a.key.now a.own.now p.0.0.tree i l, n.5, p.1.1))) c.more2.ensures,
-  q.ensures.0,
+loop-i-preserved c = let k = get_or c.args.key.now c.loop-i.i 0 in (
+  counted-more (u_row c.args.axes c.args.key.now c.args.own.now) c.args.key.now c.loop-i.i _ _ _ c.loop-i-test.true c.loop-i.invariant.0 (row_count _ _ (u_row c.args.axes c.args.key.now c.args.own.now k) _ c.put_node-sizes.ensures.near c.put_node-sizes.auto.u_keys (omega (arith, u_short c.args.axes c.args.key.now c.args.own.now k, c.loop-i.invariant.4, c.requires.key_in_bounds.0))) c.more-u.ensures,
+  counted-more (v_row c.args.axes c.args.key.now c.args.own.now) c.args.key.now c.loop-i.i _ _ _ c.loop-i-test.true c.loop-i.invariant.1 (row_count _ _ (v_row c.args.axes c.args.key.now c.args.own.now k) _ c.put_node-sizes.ensures.far c.put_node-sizes.auto.v_keys (omega (arith, v_short c.args.axes c.args.key.now c.args.own.now c.requires.linked_tree.0.tree c.loop-i.i c.loop-i-test.true, c.loop-i.invariant.5, c.requires.key_in_bounds.1))) c.more-v.ensures,
+  c.put_node-sizes.ensures.ready,
   omega arith,
-  kept.1.1.0 ∙ n.4,
-  kept.1.1.1.0 ∙ n.5,
-  kept.0 ∙ n.6,
-  kept.1.0 ∙ n.7,
-loop-i-preserved c = ? -- 
+  c.put_node-sizes.auto.u_keys ∙ c.loop-i.invariant.4,
+  c.put_node-sizes.auto.v_keys ∙ c.loop-i.invariant.5,
+  c.put_node-sizes.auto.stack ∙ c.loop-i.invariant.6,
+  c.put_node-sizes.auto.held ∙ c.loop-i.invariant.7,
+)
 
 pub returns : goal.returns
 returns c = (counted-all (u_row c.args.axes c.args.key.now c.args.own.now) c.args.key.now _ _ c.loop-i.invariant.0 c.loop-i-test.false, counted-all (v_row c.args.axes c.args.key.now c.args.own.now) c.args.key.now _ _ c.loop-i.invariant.1 c.loop-i-test.false)

@@ -5,7 +5,7 @@ use lib.ListN.{length}
 use Rattle.listing_vectors.proofs.replay.Given as goal
 
 abbrev pub invariant-loop-at : goal.invariant-loop-at
-invariant-loop-at l = ? -- invariant-loop s out₀ number₀ at₀ out number at = (number ≤ at) × (at ≤ length s) × (length out ≡ length out₀)
+invariant-loop-at g l = (l.number ≤ l.at) × (l.at ≤ length l.s) × (length l.out ≡ length l.initial.out)
 
 abbrev pub decreases-loop-at : goal.decreases-loop-at
-decreases-loop-at l = ? -- decreases-loop s out₀ number₀ at₀ out number at = length s - at
+decreases-loop-at g l = length l.s - l.at

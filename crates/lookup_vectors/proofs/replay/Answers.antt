@@ -3,7 +3,7 @@ use native.Mathlib.Omega.{arith}
 use Rattle.lookup_vectors.proofs.replay.Goals as goal
 
 pub loop-at-smaller : goal.loop-at-smaller
-loop-at-smaller c = omega (arith, c.part_at-part.ensures.further c.loop-at-test.true, c.loop-at-test.true, c.part_at-part.ensures.inside.1)
+loop-at-smaller g c = omega (arith, c.part_at-part.ensures.further c.loop-at-test.true, c.loop-at-test.true, c.part_at-part.ensures.inside.1)
 
 pub loop-at-preserved : goal.loop-at-preserved
-loop-at-preserved c = (omega (arith, c.part_at-part.ensures.further c.loop-at-test.true, c.loop-at.invariant.0), c.part_at-part.ensures.inside.1)
+loop-at-preserved g c = (omega (arith, c.part_at-part.ensures.further c.loop-at-test.true, c.loop-at.invariant.0), c.part_at-part.ensures.inside.1)

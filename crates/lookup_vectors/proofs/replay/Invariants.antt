@@ -4,7 +4,7 @@ use lib.ListN.{length}
 use Rattle.lookup_vectors.proofs.replay.Given as goal
 
 abbrev pub invariant-loop-at : goal.invariant-loop-at
-invariant-loop-at l = ? -- invariant-loop s number₀ at₀ number at = (number ≤ at) × (at ≤ length s)
+invariant-loop-at g l = (l.number ≤ l.at) × (l.at ≤ length l.s)
 
 abbrev pub decreases-loop-at : goal.decreases-loop-at
-decreases-loop-at l = ? -- decreases-loop s number₀ at₀ number at = length s - at
+decreases-loop-at g l = length l.s - l.at

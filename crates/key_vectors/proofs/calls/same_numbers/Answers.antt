@@ -17,11 +17,11 @@ returns-then-a-n c = sym (every-fails (λ k. eqb (get_or c.args.a k 0) (get_or c
     ∙ c.loop-n.invariant.1
 
 pub loop-n-preserved : goal.loop-n-preserved
-loop-again c = (
+loop-n-preserved c = (
   search rules,
-  sym (every-next (λ k. eqb (get_or c.before.before.before.args.t1 k 0) (get_or c.before.before.before.args.t2 k 0)) c.before.before.loop.n (c.before.before.loop.n - 1) (omega arith) (eq-eqb _ _ c.if1.false))
-      ∙ c.before.before.loop.invariant.1,
-loop-n-preserved c = ? -- 
+  sym (every-next (λ k. eqb (get_or c.args.a k 0) (get_or c.args.b k 0)) c.loop-n.n (c.loop-n.n - 1) (omega arith) (eq-eqb _ _ c.if-a-n.false))
+      ∙ c.loop-n.invariant.1,
+)
 
 pub returns : goal.returns
 returns c = sym (every-none _ c.loop-n.n (omega arith)) ∙ c.loop-n.invariant.1
