@@ -137,8 +137,8 @@ fn put_node(
     let numbered = put_decimal(out, n, number as u64);
     let named = put_field(out, numbered, key[node]);
     let owned = put_field(out, named, start_at(own, node) as u64);
-    let near = put_row(out, owned, b'u', u_starts, u_keys, node);
-    let far = put_row(out, near, b'v', v_starts, v_keys, node);
+    let near = put_row(out, owned, b'U', u_starts, u_keys, node);
+    let far = put_row(out, near, b'V', v_starts, v_keys, node);
     put(out, far, b'\n')
 }
 

@@ -1,4 +1,5 @@
 -- `grids::row_point` meets its contract: the axes from a on are done.
+use Rattle.grids.proofs.Loops.{rowing-shape}
 use mathlib.Core.Path.{refl}
 use Prim.Native.Nat.{◌-◌}
 use native.Mathlib.Omega.{arith}
@@ -16,3 +17,9 @@ loop-a-preserved c = rowing_more c.args.axes c.args.g c.args.row c.requires.0 c.
 
 pub returns : goal.returns
 returns c = λ a h. c.loop-a.invariant.done a (omega (arith, c.loop-a-test.false)) h
+
+pub nonzero_rem-rest : goal.nonzero_rem-rest
+nonzero_rem-rest c = omega (arith, rowing-shape c.args.axes c.args.g c.args.row c.requires.0 c.requires.1 c.loop-a.point c.loop-a.rest c.loop-a.a (c.loop-a.a - 1) c.loop-a.invariant (omega (arith, c.loop-a-test.true)))
+
+pub nonzero_div-rest : goal.nonzero_div-rest
+nonzero_div-rest c = omega (arith, rowing-shape c.args.axes c.args.g c.args.row c.requires.0 c.requires.1 c.loop-a.point c.loop-a.rest c.loop-a.a (c.loop-a.a - 1) c.loop-a.invariant (omega (arith, c.loop-a-test.true)))
