@@ -20,7 +20,7 @@ pub bounds-spots-i : goal.bounds-spots-i
 bounds-spots-i c = omega (arith, c.requires.linked_tree.3.room, c.loop-i-test.true)
 
 pub put_children-m-requires : goal.put_children-m-requires
-put_children-m-requires c = ((c.requires.linked_tree.0, listed-beside c.requires.linked_tree.0 c.requires.linked_tree.1 c.requires.linked_tree.2 c.requires.linked_tree.3 c.loop-i-test.true, listed-inner c.requires.linked_tree.0 c.requires.linked_tree.1 c.requires.linked_tree.2 c.requires.linked_tree.3 c.loop-i-test.true), (around-own c.requires.linked_tree.0 c.requires.linked_tree.1 c.requires.linked_tree.2 c.requires.linked_tree.3 c.loop-i-test.true c.loop-i.invariant.0, (omega (arith, c.requires.in_bounds, c.loop-i.invariant.1), around-room c.requires.linked_tree.0 c.requires.linked_tree.1 c.requires.linked_tree.2 c.requires.linked_tree.3 c.loop-i-test.true c.loop-i.invariant.0)))
+put_children-m-requires c = record { linked_tree = (c.requires.linked_tree.0, listed-beside c.requires.linked_tree.0 c.requires.linked_tree.1 c.requires.linked_tree.2 c.requires.linked_tree.3 c.loop-i-test.true, listed-inner c.requires.linked_tree.0 c.requires.linked_tree.1 c.requires.linked_tree.2 c.requires.linked_tree.3 c.loop-i-test.true); entries_in = around-own c.requires.linked_tree.0 c.requires.linked_tree.1 c.requires.linked_tree.2 c.requires.linked_tree.3 c.loop-i-test.true c.loop-i.invariant.0; in_bounds = (omega (arith, c.requires.in_bounds, c.loop-i.invariant.1), around-room c.requires.linked_tree.0 c.requires.linked_tree.1 c.requires.linked_tree.2 c.requires.linked_tree.3 c.loop-i-test.true c.loop-i.invariant.0) }
 
 pub loop-i-preserved : goal.loop-i-preserved
 loop-i-preserved c = (around-more c.requires.linked_tree.0 c.requires.linked_tree.1 c.requires.linked_tree.2 c.requires.linked_tree.3 c.loop-i-test.true c.loop-i.invariant.0 _ _ _ _ c.put_children-m.ensures, c.put_children-m.auto.frame ∙ c.loop-i.invariant.1)

@@ -15,13 +15,13 @@ pub loop-i-init : goal.loop-i-init
 loop-i-init c = pass-start c.args.s.axes (column_in c.args.file.now 1) (column_in c.args.file.now 2) (column_in c.args.file.now 4) c.args.far c.args.row.cell (part (column_in c.args.file.now c.args.code) c.args.from c.args.to)
 
 pub rises_at-requires : goal.rises_at-requires
-rises_at-requires c = (c.requires.sectioned, (c.requires.from_le_to.0, c.requires.from_le_to.1, (omega (arith, c.loop-i-test.true, (part_length (column_in c.args.file.now c.args.code) c.args.from c.args.to c.requires.from_le_to.0 c.requires.from_le_to.1)))))
+rises_at-requires c = record { sectioned = c.requires.sectioned; from_le_to = (c.requires.from_le_to.0, c.requires.from_le_to.1, (omega (arith, c.loop-i-test.true, (part_length (column_in c.args.file.now c.args.code) c.args.from c.args.to c.requires.from_le_to.0 c.requires.from_le_to.1)))) }
 
 pub returns-then-not-rises_at : goal.returns-then-not-rises_at
 returns-then-not-rises_at c = pass-falls c.args.s.axes (column_in c.args.file.now 1) (column_in c.args.file.now 2) (column_in c.args.file.now 4) c.args.far c.args.row.cell (part (column_in c.args.file.now c.args.code) c.args.from c.args.to) c.loop-i.i (omega (arith, c.loop-i-test.true, (part_length (column_in c.args.file.now c.args.code) c.args.from c.args.to c.requires.from_le_to.0 c.requires.from_le_to.1))) (sym c.rises_at.ensures ∙ c.if-not-rises_at.true)
 
 pub entry_at-k-requires : goal.entry_at-k-requires
-entry_at-k-requires c = (c.requires.sectioned, (c.requires.from_le_to.0, c.requires.from_le_to.1, (omega (arith, c.loop-i-test.true, (part_length (column_in c.args.file.now c.args.code) c.args.from c.args.to c.requires.from_le_to.0 c.requires.from_le_to.1)))))
+entry_at-k-requires c = record { sectioned = c.requires.sectioned; from_le_to = (c.requires.from_le_to.0, c.requires.from_le_to.1, (omega (arith, c.loop-i-test.true, (part_length (column_in c.args.file.now c.args.code) c.args.from c.args.to c.requires.from_le_to.0 c.requires.from_le_to.1)))) }
 
 pub seek-spot-requires : goal.seek-spot-requires
 seek-spot-requires c = (c.requires.sectioned.0, c.requires.counted.0)
@@ -30,7 +30,7 @@ pub returns-in_default : goal.returns-in_default
 returns-in_default c = lost c.args.s.axes (column_in c.args.file.now 1) (column_in c.args.file.now 2) (column_in c.args.file.now 4) c.args.far c.args.row.cell (part (column_in c.args.file.now c.args.code) c.args.from c.args.to) c.loop-i.i c.loop-i.sum (omega (arith, c.loop-i-test.true, (part_length (column_in c.args.file.now c.args.code) c.args.from c.args.to c.requires.from_le_to.0 c.requires.from_le_to.1))) c.entry_at-k.result c.entry_at-k.ensures c.seek-spot.result c.seek-spot.ensures c.in_default.is
 
 pub is_taken-requires : goal.is_taken-requires
-is_taken-requires c = (c.requires.sectioned.0, (c.requires.counted.0, c.requires.counted.1, node_at c.args.s.axes (column_in c.args.file.now 1) (column_in c.args.file.now 2) (column_in c.args.file.now 4) c.args.far c.args.row.cell (part (column_in c.args.file.now c.args.code) c.args.from c.args.to) c.loop-i.i c.loop-i.sum (omega (arith, c.loop-i-test.true, (part_length (column_in c.args.file.now c.args.code) c.args.from c.args.to c.requires.from_le_to.0 c.requires.from_le_to.1))) c.entry_at-k.result c.entry_at-k.ensures c.seek-spot.result c.seek-spot.ensures _ _ c.in-At.is))
+is_taken-requires c = record { sectioned = c.requires.sectioned.0; counted = (c.requires.counted.0, c.requires.counted.1, node_at c.args.s.axes (column_in c.args.file.now 1) (column_in c.args.file.now 2) (column_in c.args.file.now 4) c.args.far c.args.row.cell (part (column_in c.args.file.now c.args.code) c.args.from c.args.to) c.loop-i.i c.loop-i.sum (omega (arith, c.loop-i-test.true, (part_length (column_in c.args.file.now c.args.code) c.args.from c.args.to c.requires.from_le_to.0 c.requires.from_le_to.1))) c.entry_at-k.result c.entry_at-k.ensures c.seek-spot.result c.seek-spot.ensures _ _ c.in-At.is) }
 
 pub returns-then-not-is_taken : goal.returns-then-not-is_taken
 returns-then-not-is_taken c = fails c.args.s.axes (column_in c.args.file.now 1) (column_in c.args.file.now 2) (column_in c.args.file.now 4) c.args.far c.args.row.cell (part (column_in c.args.file.now c.args.code) c.args.from c.args.to) c.loop-i.i c.loop-i.sum (omega (arith, c.loop-i-test.true, (part_length (column_in c.args.file.now c.args.code) c.args.from c.args.to c.requires.from_le_to.0 c.requires.from_le_to.1))) c.entry_at-k.result c.entry_at-k.ensures c.seek-spot.result c.seek-spot.ensures _ _ c.in-At.is c.is_taken.result c.is_taken.ensures (c.if-not-is_taken.true)
