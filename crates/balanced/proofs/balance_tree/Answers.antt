@@ -34,7 +34,7 @@ pub slice_bounds-settle-end-2 : goal.slice_bounds-settle-end-2
 slice_bounds-settle-end-2 c = sym (length-take-le _ _ (omega (arith, (c.start-started.ensures.started_with c.in_default.is).fits, c.node_room-room.ensures, c.start-started.auto.new_key)))
 
 pub settle-requires : goal.settle-requires
-settle-requires c = let s = (c.start-started.ensures.started_with c.in_default.is) in let e = ap length s.cells in ((subst (Settles c.args.b c.args.points.now) (sym s.cells) s.settles, s.works, s.orders), (omega (arith, e, s.number, s.fits, c.node_room-room.ensures), omega (arith, e, s.number, s.fits, c.node_room-room.ensures), omega (arith, e, s.number, s.fits, c.node_room-room.ensures)))
+settle-requires c = let s = (c.start-started.ensures.started_with c.in_default.is) in let e = ap length s.cells in record { settles = (subst (Settles c.args.b c.args.points.now) (sym s.cells) s.settles, s.works, s.orders); key_in_bounds = (omega (arith, e, s.number, s.fits, c.node_room-room.ensures), omega (arith, e, s.number, s.fits, c.node_room-room.ensures), omega (arith, e, s.number, s.fits, c.node_room-room.ensures)) }
 
 pub returns : goal.returns
 returns c = let z = (ap (λ (x : ℕ). balance_outcome c.args.b c.args.points.now (columns c.args.key.now c.args.own.now c.args.begin.now c.args.total.now) c.args.indices.now (length c.args.work.now) (length c.args.new_indices.now) x) (sym c.node_room-room.ensures) ∙ sym c.start-started.ensures.outcome_value ∙ c.in_default.is) in let s = (c.start-started.ensures.started_with c.in_default.is) in record { value = answer-done (balance_outcome c.args.b c.args.points.now (columns c.args.key.now c.args.own.now c.args.begin.now c.args.total.now) c.args.indices.now (length c.args.work.now) (length c.args.new_indices.now) (node_room (length c.args.new_key.now) (length c.args.new_own.now) (length c.args.new_begin.now) (length c.args.new_total.now))) z _ _ (balanced_cells c.args.b.axes c.args.key.now) _ s.number s.cells c.depth_of-depth.ensures; work_after = c.clear.ensures ∙ ap (λ (n : ℕ). replicate n 0) c.settle.auto.work; new_indices_after = left-done (balance_outcome c.args.b c.args.points.now (columns c.args.key.now c.args.own.now c.args.begin.now c.args.total.now) c.args.indices.now (length c.args.work.now) (length c.args.new_indices.now) (node_room (length c.args.new_key.now) (length c.args.new_own.now) (length c.args.new_begin.now) (length c.args.new_total.now))) z (length c.args.new_indices.now) (order_column c.args.b.axes (balanced_cells c.args.b.axes c.args.key.now) (codes_of c.args.b c.args.points.now)) _ _ (ap (λ (ks : List ℕ). order_column c.args.b.axes ks (codes_of c.args.b c.args.points.now)) s.cells) c.settle.ensures.indices_after; new_key_after = left-keys (balance_outcome c.args.b c.args.points.now (columns c.args.key.now c.args.own.now c.args.begin.now c.args.total.now) c.args.indices.now (length c.args.work.now) (length c.args.new_indices.now) (node_room (length c.args.new_key.now) (length c.args.new_own.now) (length c.args.new_begin.now) (length c.args.new_total.now))) z (length c.args.new_key.now) _ (balanced_cells c.args.b.axes c.args.key.now) _ _ s.number s.cells c.start-started.auto.new_key c.clear_from.ensures; new_own_after = left-done (balance_outcome c.args.b c.args.points.now (columns c.args.key.now c.args.own.now c.args.begin.now c.args.total.now) c.args.indices.now (length c.args.work.now) (length c.args.new_indices.now) (node_room (length c.args.new_key.now) (length c.args.new_own.now) (length c.args.new_begin.now) (length c.args.new_total.now))) z (length c.args.new_own.now) (own_column c.args.b.axes (balanced_cells c.args.b.axes c.args.key.now) (codes_of c.args.b c.args.points.now)) _ _ (ap (λ (ks : List ℕ). own_column c.args.b.axes ks (codes_of c.args.b c.args.points.now)) s.cells) c.settle.ensures.own_after; new_begin_after = left-done (balance_outcome c.args.b c.args.points.now (columns c.args.key.now c.args.own.now c.args.begin.now c.args.total.now) c.args.indices.now (length c.args.work.now) (length c.args.new_indices.now) (node_room (length c.args.new_key.now) (length c.args.new_own.now) (length c.args.new_begin.now) (length c.args.new_total.now))) z (length c.args.new_begin.now) (begin_column (own_column c.args.b.axes (balanced_cells c.args.b.axes c.args.key.now) (codes_of c.args.b c.args.points.now))) _ _ (ap (λ (ks : List ℕ). begin_column (own_column c.args.b.axes ks (codes_of c.args.b c.args.points.now))) s.cells) c.settle.ensures.begin_after; new_total_after = left-done (balance_outcome c.args.b c.args.points.now (columns c.args.key.now c.args.own.now c.args.begin.now c.args.total.now) c.args.indices.now (length c.args.work.now) (length c.args.new_indices.now) (node_room (length c.args.new_key.now) (length c.args.new_own.now) (length c.args.new_begin.now) (length c.args.new_total.now))) z (length c.args.new_total.now) (total_column c.args.b.axes (balanced_cells c.args.b.axes c.args.key.now) (own_column c.args.b.axes (balanced_cells c.args.b.axes c.args.key.now) (codes_of c.args.b c.args.points.now))) _ _ (ap (λ (ks : List ℕ). total_column c.args.b.axes ks (own_column c.args.b.axes ks (codes_of c.args.b c.args.points.now))) s.cells) c.settle.ensures.total_after }

@@ -7,7 +7,7 @@ pub loop-i-init : goal.loop-i-init
 loop-i-init c = (c.requires.kept_2, add_start c.args.axes c.args.key.now c.args.total.now c.args.begin.now c.args.indices.now c.args.readings.now c.args.sums.now c.requires.summed.0 c.args.row.now)
 
 pub cell_part-cell-requires : goal.cell_part-cell-requires
-cell_part-cell-requires c = (c.requires.summed.0, c.loop-i.invariant.0)
+cell_part-cell-requires c = record { summed = c.requires.summed.0; kept_2 = c.loop-i.invariant.0 }
 
 pub overflow_add-sum : goal.overflow_add-sum
 overflow_add-sum c = omega (arith, (add-fits c.args.axes c.args.key.now c.args.total.now c.args.begin.now c.args.indices.now c.args.readings.now c.args.sums.now c.requires.summed.0 c.args.row.now c.requires.summed.1 c.loop-i.sum c.loop-i.count c.loop-i.i c.loop-i.invariant.1 c.loop-i-test.true _ _ c.cell_part-cell.ensures.sum c.cell_part-cell.ensures.count).0)

@@ -36,7 +36,7 @@ pub bounds-far-level : goal.bounds-far-level
 bounds-far-level c = omega (arith, (level_in c.args.s.axes (column_in c.args.file.now 1) (column_in c.args.file.now 2) (column_in c.args.file.now 4) (column_in c.args.file.now 6) (column_in c.args.file.now 7) (column_in c.args.file.now 8) (column_in c.args.file.now 9) c.requires.1 c.requires.2 c.loop-node.far c.loop-node.node c.loop-node.invariant (omega (arith, c.loop-node-test.true, c.count_of-n.ensures)) c.key_of-k.result c.key_of-k.ensures).1, c.loop-node.invariant.rides.size)
 
 pub node_sources-says-requires : goal.node_sources-says-requires
-node_sources-says-requires c = ((c.requires.0, c.requires.1, c.requires.2), (below c.args.s.axes (column_in c.args.file.now 1) (column_in c.args.file.now 2) (column_in c.args.file.now 4) (column_in c.args.file.now 6) (column_in c.args.file.now 7) (column_in c.args.file.now 8) (column_in c.args.file.now 9) c.requires.1 c.requires.2 c.loop-node.far c.loop-node.node c.loop-node.invariant (omega (arith, c.loop-node-test.true, c.count_of-n.ensures)) c.key_of-k.result c.key_of-k.ensures, above-small c.args.s.axes (column_in c.args.file.now 1) (column_in c.args.file.now 2) (column_in c.args.file.now 4) (column_in c.args.file.now 6) (column_in c.args.file.now 7) (column_in c.args.file.now 8) (column_in c.args.file.now 9) c.requires.1 c.requires.2 c.loop-node.far c.loop-node.node c.loop-node.invariant (omega (arith, c.loop-node-test.true, c.count_of-n.ensures)) c.key_of-k.result c.key_of-k.ensures))
+node_sources-says-requires c = record { sectioned = (c.requires.0, c.requires.1, c.requires.2); below = (below c.args.s.axes (column_in c.args.file.now 1) (column_in c.args.file.now 2) (column_in c.args.file.now 4) (column_in c.args.file.now 6) (column_in c.args.file.now 7) (column_in c.args.file.now 8) (column_in c.args.file.now 9) c.requires.1 c.requires.2 c.loop-node.far c.loop-node.node c.loop-node.invariant (omega (arith, c.loop-node-test.true, c.count_of-n.ensures)) c.key_of-k.result c.key_of-k.ensures, above-small c.args.s.axes (column_in c.args.file.now 1) (column_in c.args.file.now 2) (column_in c.args.file.now 4) (column_in c.args.file.now 6) (column_in c.args.file.now 7) (column_in c.args.file.now 8) (column_in c.args.file.now 9) c.requires.1 c.requires.2 c.loop-node.far c.loop-node.node c.loop-node.invariant (omega (arith, c.loop-node-test.true, c.count_of-n.ensures)) c.key_of-k.result c.key_of-k.ensures) }
 
 pub returns-in_default : goal.returns-in_default
 returns-in_default c = fails c.args.s.axes (column_in c.args.file.now 1) (column_in c.args.file.now 2) (column_in c.args.file.now 4) (column_in c.args.file.now 6) (column_in c.args.file.now 7) (column_in c.args.file.now 8) (column_in c.args.file.now 9) c.requires.1 c.requires.2 c.loop-node.far c.loop-node.node c.loop-node.invariant (omega (arith, c.loop-node-test.true, c.count_of-n.ensures)) c.key_of-k.result c.key_of-k.ensures c.node_sources-says.result c.node_sources-says.ensures c.in_default.is

@@ -31,7 +31,7 @@ pub bounds-far-level : goal.bounds-far-level
 bounds-far-level c = omega (arith, (level_in c.args.axes c.args.key.now c.args.own.now c.args.total.now c.args.u_starts.now c.args.u_keys.now c.args.v_starts.now c.args.v_keys.now c.requires.0 c.requires.1 c.loop-node.far c.loop-node.node c.loop-node.invariant.1 c.loop-node-test.true).1, c.loop-node.invariant.1.rides.size)
 
 pub node_sources-says-requires : goal.node_sources-says-requires
-node_sources-says-requires c = ((c.requires.0, c.loop-node.invariant.0, c.requires.1), (below c.args.axes c.args.key.now c.args.own.now c.args.total.now c.args.u_starts.now c.args.u_keys.now c.args.v_starts.now c.args.v_keys.now c.requires.0 c.requires.1 c.loop-node.far c.loop-node.node c.loop-node.invariant.1 c.loop-node-test.true, above-small c.args.axes c.args.key.now c.args.own.now c.args.total.now c.args.u_starts.now c.args.u_keys.now c.args.v_starts.now c.args.v_keys.now c.requires.0 c.requires.1 c.loop-node.far c.loop-node.node c.loop-node.invariant.1 c.loop-node-test.true))
+node_sources-says-requires c = record { counted = (c.requires.0, c.loop-node.invariant.0, c.requires.1); below = (below c.args.axes c.args.key.now c.args.own.now c.args.total.now c.args.u_starts.now c.args.u_keys.now c.args.v_starts.now c.args.v_keys.now c.requires.0 c.requires.1 c.loop-node.far c.loop-node.node c.loop-node.invariant.1 c.loop-node-test.true, above-small c.args.axes c.args.key.now c.args.own.now c.args.total.now c.args.u_starts.now c.args.u_keys.now c.args.v_starts.now c.args.v_keys.now c.requires.0 c.requires.1 c.loop-node.far c.loop-node.node c.loop-node.invariant.1 c.loop-node-test.true) }
 
 pub returns-in_default : goal.returns-in_default
 returns-in_default c = λ r. judge-fails c.args.axes c.args.key.now c.args.own.now c.args.total.now c.args.u_starts.now c.args.u_keys.now c.args.v_starts.now c.args.v_keys.now c.requires.0 c.requires.1 r c.loop-node.far c.loop-node.node c.loop-node.invariant.1 c.loop-node-test.true c.node_sources-says.result c.node_sources-says.ensures.says c.in_default.is

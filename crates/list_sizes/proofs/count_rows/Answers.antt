@@ -12,7 +12,7 @@ pub loop-i-init : goal.loop-i-init
 loop-i-init c = let w = (well c.args.axes c.args.key.now c.args.own.now c.requires.linked_tree.0.tree).some in (counted_none (u_row c.args.axes c.args.key.now c.args.own.now) c.args.key.now (root-u _ _ _ c.requires.linked_tree.0.tree) w, counted_none (v_row c.args.axes c.args.key.now c.args.own.now) c.args.key.now (root-v _ _ _ c.requires.linked_tree.0.tree) w, c.requires.linked_tree.1, omega arith, refl, refl, refl, refl)
 
 pub put_node-sizes-requires : goal.put_node-sizes-requires
-put_node-sizes-requires c = ((c.requires.linked_tree.0, c.loop-i.invariant.3, c.loop-i-test.true), c.loop-i.invariant.2)
+put_node-sizes-requires c = record { linked_tree = (c.requires.linked_tree.0, c.loop-i.invariant.3, c.loop-i-test.true); ready_2 = c.loop-i.invariant.2 }
 
 pub overflow_add-i : goal.overflow_add-i
 overflow_add-i c = record { fits = omega (arith, c.well_formed.1.0, c.loop-i-test.true) }

@@ -20,7 +20,7 @@ pub loop-i-init : goal.loop-i-init
 loop-i-init c = (pair-begun (list_row c.args.axes c.args.key.now c.args.own.now false) (list_row c.args.axes c.args.key.now c.args.own.now true) c.args.key.now (root-u _ _ _ c.requires.linked_tree.0.tree) (root-v _ _ _ c.requires.linked_tree.0.tree) (well _ _ _ c.requires.linked_tree.0.tree).some c.args.starts.now c.args.u_keys.now c.args.v_keys.now (omega (arith, c.requires.rows_room.0, (well _ _ _ c.requires.linked_tree.0.tree).some)) c.requires.rows_room.2, c.requires.linked_tree.1, omega arith, refl, refl, refl, refl, refl)
 
 pub put_node-sizes-requires : goal.put_node-sizes-requires
-put_node-sizes-requires c = ((c.requires.linked_tree.0, c.loop-i.invariant.2, c.loop-i-test.true), c.loop-i.invariant.1)
+put_node-sizes-requires c = record { linked_tree = (c.requires.linked_tree.0, c.loop-i.invariant.2, c.loop-i-test.true); ready_2 = c.loop-i.invariant.1 }
 
 pub returns-then-u_keys-sizes : goal.returns-then-u_keys-sizes
 returns-then-u_keys-sizes c = pair-over (list_row c.args.axes c.args.key.now c.args.own.now false) (list_row c.args.axes c.args.key.now c.args.own.now true) c.args.key.now _ _ _ _ _ _ _ _ _ _ c.loop-i.invariant.0 c.loop-i-test.true c.put_node-sizes.ensures.near c.put_node-sizes.ensures.far c.if-u_keys-sizes.true _

@@ -11,7 +11,7 @@ use Rattle.near_pass.proofs.Work.{near-own-few, kept-few}
 use Rattle.near_pass.proofs.keep.Goals as goal
 
 pub near_sum-here-requires : goal.near_sum-here-requires
-near_sum-here-requires c = ((c.requires.linked_tree.0.tree, c.requires.linked_tree.1, c.requires.linked_tree.2, c.requires.in_bounds.0), ((c.requires.in_bounds.1, omega (arith, (well c.args.axes c.args.key.now c.args.own.now c.requires.linked_tree.0.tree).owns)), near-own-few c.args.axes c.args.key.now c.args.own.now c.requires.linked_tree.0.tree c.args.node c.requires.linked_tree.1 c.requires.linked_tree.2))
+near_sum-here-requires c = record { sound_tree = (c.requires.linked_tree.0.tree, c.requires.linked_tree.1, c.requires.linked_tree.2, c.requires.in_bounds.0); near_node = (c.requires.in_bounds.1, omega (arith, (well c.args.axes c.args.key.now c.args.own.now c.requires.linked_tree.0.tree).owns)); column_bound = near-own-few c.args.axes c.args.key.now c.args.own.now c.requires.linked_tree.0.tree c.args.node c.requires.linked_tree.1 c.requires.linked_tree.2 }
 
 pub overflow_sub-sums : goal.overflow_sub-sums
 overflow_sub-sums c = omega (arith, node-deep c.args.axes c.args.key.now c.args.own.now c.requires.linked_tree.0.tree c.args.node c.requires.linked_tree.1 c.requires.linked_tree.2)

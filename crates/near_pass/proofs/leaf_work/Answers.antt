@@ -14,7 +14,7 @@ pub overflow_sub-up : goal.overflow_sub-up
 overflow_sub-up c = omega (arith, node-deep c.args.axes c.args.key.now c.args.own.now c.requires.linked_tree.0.tree c.args.node c.requires.linked_tree.1 c.requires.linked_tree.2)
 
 pub near_sum-deeper-requires : goal.near_sum-deeper-requires
-near_sum-deeper-requires c = ((c.requires.linked_tree.0.tree, c.requires.linked_tree.1, c.requires.linked_tree.2, c.requires.in_bounds.0), ((c.requires.in_bounds.1, omega (arith, (total-facts c.args.axes c.args.key.now c.args.own.now c.args.total.now c.requires.linked_tree.0.totals).0)), omega (arith, leaf-near c.args.axes c.args.key.now c.args.own.now c.requires.linked_tree.0.tree c.args.node c.requires.linked_tree.1 c.requires.linked_tree.2 c.requires.linked_tree.3 c.args.total.now c.requires.linked_tree.0.totals, sources-few c.args.axes c.args.key.now c.args.own.now c.requires.linked_tree.0.tree (get_or c.args.key.now c.args.node 0))))
+near_sum-deeper-requires c = record { sound_tree = (c.requires.linked_tree.0.tree, c.requires.linked_tree.1, c.requires.linked_tree.2, c.requires.in_bounds.0); near_node = (c.requires.in_bounds.1, omega (arith, (total-facts c.args.axes c.args.key.now c.args.own.now c.args.total.now c.requires.linked_tree.0.totals).0)); column_bound = omega (arith, leaf-near c.args.axes c.args.key.now c.args.own.now c.requires.linked_tree.0.tree c.args.node c.requires.linked_tree.1 c.requires.linked_tree.2 c.requires.linked_tree.3 c.args.total.now c.requires.linked_tree.0.totals, sources-few c.args.axes c.args.key.now c.args.own.now c.requires.linked_tree.0.tree (get_or c.args.key.now c.args.node 0)) }
 
 pub bounds-sums-up : goal.bounds-sums-up
 bounds-sums-up c = omega (arith, node-deep c.args.axes c.args.key.now c.args.own.now c.requires.linked_tree.0.tree c.args.node c.requires.linked_tree.1 c.requires.linked_tree.2, node-most c.args.axes c.args.key.now c.args.own.now c.requires.linked_tree.0.tree c.args.node c.requires.linked_tree.1 c.requires.linked_tree.2, (c.requires.in_bounds.2 c.requires.linked_tree.2).room)

@@ -13,7 +13,7 @@ pub loop-node-init : goal.loop-node-init
 loop-node-init c = (omega arith, summing-more _ _ 0 0 (summing-none (work_of c.args.axes c.args.key.now c.args.own.now c.args.counts.now) c.args.key.now) 0 (well c.args.axes c.args.key.now c.args.own.now c.requires.linked_tree.0.tree).some (work_none c.args.axes c.args.key.now c.args.own.now c.args.counts.now (get_or c.args.key.now 0 0) (root-leaf c.args.axes c.args.key.now c.args.own.now c.requires.linked_tree.0.tree)), c.requires.ready.0, c.requires.ready.1, refl, refl, refl)
 
 pub visit-work-requires : goal.visit-work-requires
-visit-work-requires c = ((c.requires.linked_tree.0, c.loop-node.invariant.0, c.loop-node-test.true, c.requires.linked_tree.1), (c.loop-node.invariant.2, c.loop-node.invariant.3))
+visit-work-requires c = record { linked_tree = (c.requires.linked_tree.0, c.loop-node.invariant.0, c.loop-node-test.true, c.requires.linked_tree.1); ready_2 = (c.loop-node.invariant.2, c.loop-node.invariant.3) }
 
 pub overflow_add-work : goal.overflow_add-work
 overflow_add-work c = omega (arith, summing-room _ _ _ _ c.loop-node.invariant.1 _ c.loop-node-test.true c.visit-work.ensures.work, all-le c.args.axes c.args.key.now c.args.own.now c.requires.linked_tree.0.tree c.args.counts.now c.requires.linked_tree.1)

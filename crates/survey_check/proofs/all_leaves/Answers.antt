@@ -16,7 +16,7 @@ pub bounds-key-node : goal.bounds-key-node
 bounds-key-node c = c.loop-node-test.true
 
 pub node_part-row-requires : goal.node_part-row-requires
-node_part-row-requires c = (far-asked c.args.axes c.args.key.now c.args.own.now c.args.begin.now c.args.total.now c.args.readings.now c.args.indices.now c.args.u_starts.now c.args.u_keys.now c.args.v_starts.now c.args.v_keys.now c.requires.passed c.loop-node.node c.loop-node.invariant.1.some c.loop-node-test.true c.args.sums.now c.requires.before, c.loop-node.invariant.0)
+node_part-row-requires c = record { row_asked = far-asked c.args.axes c.args.key.now c.args.own.now c.args.begin.now c.args.total.now c.args.readings.now c.args.indices.now c.args.u_starts.now c.args.u_keys.now c.args.v_starts.now c.args.v_keys.now c.requires.passed c.loop-node.node c.loop-node.invariant.1.some c.loop-node-test.true c.args.sums.now c.requires.before; kept_2 = c.loop-node.invariant.0 }
 
 pub overflow_sub-met : goal.overflow_sub-met
 overflow_sub-met c = tour-deep c.args.axes c.args.key.now c.args.own.now c.args.begin.now c.args.total.now c.args.readings.now c.args.indices.now c.args.u_starts.now c.args.u_keys.now c.args.v_starts.now c.args.v_keys.now c.requires.passed c.loop-node.far c.loop-node.cells c.loop-node.leaves c.loop-node.additions c.loop-node.node c.loop-node.invariant.1 c.loop-node-test.true
@@ -58,7 +58,7 @@ pub bounds-cells-level-in-loop-node : goal.bounds-cells-level-in-loop-node
 bounds-cells-level-in-loop-node c = omega (arith, cells_in c.args.axes c.args.key.now c.args.own.now c.args.begin.now c.args.total.now c.args.readings.now c.args.indices.now c.args.u_starts.now c.args.u_keys.now c.args.v_starts.now c.args.v_keys.now c.requires.passed c.loop-node.far c.loop-node.cells c.loop-node.leaves c.loop-node.additions c.loop-node.node c.loop-node.invariant.1 c.loop-node-test.true, c.loop-node.invariant.1.cells-rides.size)
 
 pub leaf_tally-tally-requires : goal.leaf_tally-tally-requires
-leaf_tally-tally-requires c = (c.requires.passed, ((c.requires.before, far-known c.args.axes c.args.key.now c.args.own.now c.args.begin.now c.args.total.now c.args.readings.now c.args.indices.now c.args.u_starts.now c.args.u_keys.now c.args.v_starts.now c.args.v_keys.now c.requires.passed c.loop-node.far c.loop-node.cells c.loop-node.leaves c.loop-node.additions c.loop-node.node c.loop-node.invariant.1 c.loop-node-test.true _ _ c.node_part-row.ensures.sum c.row_length.ensures), c.node_part-row.ensures.kept))
+leaf_tally-tally-requires c = record { passed = c.requires.passed; before = (c.requires.before, far-known c.args.axes c.args.key.now c.args.own.now c.args.begin.now c.args.total.now c.args.readings.now c.args.indices.now c.args.u_starts.now c.args.u_keys.now c.args.v_starts.now c.args.v_keys.now c.requires.passed c.loop-node.far c.loop-node.cells c.loop-node.leaves c.loop-node.additions c.loop-node.node c.loop-node.invariant.1 c.loop-node-test.true _ _ c.node_part-row.ensures.sum c.row_length.ensures); kept_2 = c.node_part-row.ensures.kept }
 
 pub overflow_add-leaves : goal.overflow_add-leaves
 overflow_add-leaves c = omega (arith, leaves-fit c.args.axes c.args.key.now c.args.own.now c.args.begin.now c.args.total.now c.args.readings.now c.args.indices.now c.args.u_starts.now c.args.u_keys.now c.args.v_starts.now c.args.v_keys.now c.requires.passed c.loop-node.far c.loop-node.cells c.loop-node.leaves c.loop-node.additions c.loop-node.node c.loop-node.invariant.1 c.loop-node-test.true _ _ c.node_part-row.ensures.sum c.row_length.ensures _ _ _ c.leaf_tally-tally.ensures.leaves c.leaf_tally-tally.ensures.additions refl, c.well_formed.1.0)

@@ -13,7 +13,7 @@ pub returns-then-not-is_leaf : goal.returns-then-not-is_leaf
 returns-then-not-is_leaf c = record { leaves = inner-agrees c.args.axes c.args.key.now c.args.own.now c.args.begin.now c.args.total.now c.args.readings.now c.args.indices.now c.args.u_starts.now c.args.u_keys.now c.args.v_starts.now c.args.v_keys.now c.requires.passed (get_or c.args.key.now c.args.node 0) (sym c.is_leaf.ensures ∙ c.if-not-is_leaf.true); additions = inner-additions c.args.axes c.args.key.now c.args.own.now c.args.begin.now c.args.total.now c.args.readings.now c.args.indices.now c.args.u_starts.now c.args.u_keys.now c.args.v_starts.now c.args.v_keys.now c.requires.passed (get_or c.args.key.now c.args.node 0) (sym c.is_leaf.ensures ∙ c.if-not-is_leaf.true); few = omega arith; kept = c.requires.kept_2 }
 
 pub node_part-near-requires : goal.node_part-near-requires
-node_part-near-requires c = (near-asked c.args.axes c.args.key.now c.args.own.now c.args.begin.now c.args.total.now c.args.readings.now c.args.indices.now c.args.u_starts.now c.args.u_keys.now c.args.v_starts.now c.args.v_keys.now c.requires.passed c.args.node c.requires.before.1.some c.requires.before.1.within (sym c.is_leaf.ensures ∙ c.if-not-is_leaf.false) c.args.sums.now c.requires.before.0, c.requires.kept_2)
+node_part-near-requires c = record { row_asked = near-asked c.args.axes c.args.key.now c.args.own.now c.args.begin.now c.args.total.now c.args.readings.now c.args.indices.now c.args.u_starts.now c.args.u_keys.now c.args.v_starts.now c.args.v_keys.now c.requires.passed c.args.node c.requires.before.1.some c.requires.before.1.within (sym c.is_leaf.ensures ∙ c.if-not-is_leaf.false) c.args.sums.now c.requires.before.0; kept_2 = c.requires.kept_2 }
 
 pub overflow_add-additions : goal.overflow_add-additions
 overflow_add-additions c = omega (arith, additions-fit c.args.axes c.args.key.now c.args.own.now c.args.begin.now c.args.total.now c.args.readings.now c.args.indices.now c.args.u_starts.now c.args.u_keys.now c.args.v_starts.now c.args.v_keys.now c.requires.passed c.args.node c.requires.before.1.some c.requires.before.1.within (sym c.is_leaf.ensures ∙ c.if-not-is_leaf.false) c.args.sums.now c.requires.before.0 _ _ c.args.met c.args.listed c.node_part-near.ensures.sum c.node_part-near.ensures.count c.requires.before.1)

@@ -30,7 +30,7 @@ pub slice_bounds-row_part-count : goal.slice_bounds-row_part-count
 slice_bounds-row_part-count c = part_up c.args.key.now c.args.starts.now c.args.flat.now c.requires.row_asked.starts_right c.args.node c.requires.row_asked.within
 
 pub row_part-requires : goal.row_part-requires
-row_part-requires c = ((c.requires.row_asked.summed, subst (λ r. sources_in c.args.key.now c.args.total.now r ≤ most_sources) (sym (part-is c.args.key.now c.args.starts.now c.args.flat.now c.requires.row_asked.starts_right c.args.node c.requires.row_asked.within)) c.requires.row_asked.few), c.requires.kept_2)
+row_part-requires c = record { summed = (c.requires.row_asked.summed, subst (λ r. sources_in c.args.key.now c.args.total.now r ≤ most_sources) (sym (part-is c.args.key.now c.args.starts.now c.args.flat.now c.requires.row_asked.starts_right c.args.node c.requires.row_asked.within)) c.requires.row_asked.few); kept_2 = c.requires.kept_2 }
 
 pub returns : goal.returns
 returns c = record { sum = c.row_part.ensures.sum ∙ ap (row_lifted c.args.key.now c.args.total.now c.args.begin.now c.args.indices.now c.args.readings.now) (part-is c.args.key.now c.args.starts.now c.args.flat.now c.requires.row_asked.starts_right c.args.node c.requires.row_asked.within); count = c.row_part.ensures.count ∙ ap (sources_in c.args.key.now c.args.total.now) (part-is c.args.key.now c.args.starts.now c.args.flat.now c.requires.row_asked.starts_right c.args.node c.requires.row_asked.within); kept = c.row_part.ensures.kept }
