@@ -16,16 +16,16 @@ pub find_entries-found-requires : goal.find_entries-found-requires
 find_entries-found-requires c = (trailer-is c.args.file.now c.if-n-lt8.false _ c.u32_at-entries.ensures.0 c.if-entries-n.false, trailer-room c.args.file.now c.if-n-lt8.false _ c.u32_at-entries.ensures.0 c.if-entries-n.false)
 
 pub returns-then-not-found : goal.returns-then-not-found
-returns-then-not-found c = not_good c.args.file.now c.if-n-lt8.false _ c.u32_at-entries.ensures.0 c.if-entries-n.false _ c.u32_at-axes.ensures.0 _ c.axes_known.ensures (not-false _ c.if-not-axes_known.false) _ c.find_entries-found.ensures _ ((not-true _ c.if-not-found.true) c.refused-then-not-found.ensures
+returns-then-not-found c = not_good c.args.file.now c.if-n-lt8.false _ c.u32_at-entries.ensures.0 c.if-entries-n.false _ c.u32_at-axes.ensures.0 _ c.axes_known.ensures (c.if-not-axes_known.false) _ c.find_entries-found.ensures _ (not-true _ c.if-not-found.true) c.refused-then-not-found.ensures
 
 pub all_present-requires : goal.all_present-requires
 all_present-requires c = c.find_entries-found.ensures.size
 
 pub returns-then-not-all_present : goal.returns-then-not-all_present
-returns-then-not-all_present c = not-present c.args.file.now c.if-n-lt8.false _ c.u32_at-entries.ensures.0 c.if-entries-n.false _ c.u32_at-axes.ensures.0 _ c.axes_known.ensures (not-false _ c.if-not-axes_known.false) _ c.find_entries-found.ensures (not-false _ c.if-not-found.false) _ c.all_present.ensures _ ((not-true _ c.if-not-all_present.true) c.refused-then-not-all_present.ensures
+returns-then-not-all_present c = not-present c.args.file.now c.if-n-lt8.false _ c.u32_at-entries.ensures.0 c.if-entries-n.false _ c.u32_at-axes.ensures.0 _ c.axes_known.ensures (c.if-not-axes_known.false) _ c.find_entries-found.ensures (not-false _ c.if-not-found.false) _ c.all_present.ensures _ (c.if-not-all_present.true) c.refused-then-not-all_present.ensures
 
 pub locate-requires : goal.locate-requires
-locate-requires c = placed c.args.file.now c.if-n-lt8.false _ c.u32_at-entries.ensures.0 c.if-entries-n.false _ c.u32_at-axes.ensures.0 _ c.axes_known.ensures (not-false _ c.if-not-axes_known.false) _ c.find_entries-found.ensures (not-false _ c.if-not-found.false) _ c.all_present.ensures (not-false _ c.if-not-all_present.false)
+locate-requires c = placed c.args.file.now c.if-n-lt8.false _ c.u32_at-entries.ensures.0 c.if-entries-n.false _ c.u32_at-axes.ensures.0 _ c.axes_known.ensures (c.if-not-axes_known.false) _ c.find_entries-found.ensures (not-false _ c.if-not-found.false) _ c.all_present.ensures (c.if-not-all_present.false)
 
 pub returns : goal.returns
-returns c = all_found c.args.file.now c.if-n-lt8.false _ c.u32_at-entries.ensures.0 c.if-entries-n.false _ c.u32_at-axes.ensures.0 _ c.axes_known.ensures (not-false _ c.if-not-axes_known.false) _ c.find_entries-found.ensures (not-false _ c.if-not-found.false) _ c.all_present.ensures (not-false _ c.if-not-all_present.false) _ c.locate.ensures
+returns c = all_found c.args.file.now c.if-n-lt8.false _ c.u32_at-entries.ensures.0 c.if-entries-n.false _ c.u32_at-axes.ensures.0 _ c.axes_known.ensures (c.if-not-axes_known.false) _ c.find_entries-found.ensures (not-false _ c.if-not-found.false) _ c.all_present.ensures (c.if-not-all_present.false) _ c.locate.ensures

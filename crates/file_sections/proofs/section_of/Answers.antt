@@ -7,7 +7,7 @@ pub returns-in-1 : goal.returns-in-1
 returns-in-1 c = of-wide _ c.in-1.is
 
 pub returns-in-10-to-31 : goal.returns-in-10-to-31
-returns-in-10-to-31 c = of-later _ (omega arith) (omega arith) c.if-code-lt7.false (omega arith)
+returns-in-10-to-31 c = of-later _ (omega arith) (omega arith) (omega arith) (omega arith)
 
 pub returns-in_default : goal.returns-in_default
 returns-in_default c = of_none _ (omega arith)
@@ -16,7 +16,7 @@ pub returns-in_default-2 : goal.returns-in_default-2
 returns-in_default-2 c = of-past _ (omega arith)
 
 pub returns-in-2-to-6 : goal.returns-in-2-to-6
-returns-in-2-to-6 c = of-eight _ c.in-2-to-6.in-2-to-6-own.keys2
+returns-in-2-to-6 c = of-eight _ (omega arith)
 
 pub returns-in-2-to-6-2 : goal.returns-in-2-to-6-2
 returns-in-2-to-6-2 c = of_narrow _ (omega arith) (omega arith) (omega arith)
