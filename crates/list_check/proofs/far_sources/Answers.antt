@@ -36,3 +36,6 @@ overflow_add-above c = omega (arith, far-small c.args.axes c.args.key.now c.args
 
 pub returns : goal.returns
 returns c = record { says = far-says c.args.axes c.args.key.now c.args.own.now c.args.total.now c.args.starts.now c.args.flat.now c.args.node c.args.above c.requires.counted.2 c.requires.below.0.within c.args.row.cell c.requires.below.2 c.row_sources-brought.result c.row_sources-brought.ensures.brings _ c.in-At.is _ c.held.ensures; table = c.row_sources-brought.ensures.table }
+
+pub slice_bounds-row_sources-end : goal.slice_bounds-row_sources-end
+slice_bounds-row_sources-end c = part_in c.args.key.now c.args.starts.now c.args.flat.now c.requires.counted.2 c.args.node c.requires.below.0.within

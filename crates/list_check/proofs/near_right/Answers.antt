@@ -49,3 +49,6 @@ bounds-total-0 c = total-in c.args.axes c.args.key.now c.args.own.now c.args.tot
 
 pub returns : goal.returns
 returns c = record { tells = near-tells c.args.axes c.args.key.now c.args.own.now c.args.total.now c.args.starts.now c.args.flat.now c.args.node c.args.met c.requires.counted.2 c.requires.below.0.within (sym c.is_leaf.ensures ∙ c.if-not-is_leaf.false) c.args.row.cell c.requires.below.2 c.row_sources-brought.result c.row_sources-brought.ensures.brings _ c.in-At.is; table = c.row_sources-brought.ensures.table }
+
+pub slice_bounds-row_sources-end : goal.slice_bounds-row_sources-end
+slice_bounds-row_sources-end c = part_in c.args.key.now c.args.starts.now c.args.flat.now c.requires.counted.2 c.args.node c.requires.below.0.within

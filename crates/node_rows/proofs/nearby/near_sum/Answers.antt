@@ -20,3 +20,6 @@ sum_at-requires c = summable c.args.axes c.args.key.now c.args.own.now c.args.no
 
 pub returns : goal.returns
 returns c = c.sum_at.ensures ∙ entries-near c.args.axes c.args.key.now c.args.own.now c.args.node c.args.stack.now c.args.near.now c.args.t c.requires.near_node.0 c.args.column.now _ _ refl refl
+
+pub slice_bounds-layer-end : goal.slice_bounds-layer-end
+slice_bounds-layer-end c = omega (arith, node-deep c.args.axes c.args.key.now c.args.own.now c.requires.sound_tree.0 c.args.node c.requires.sound_tree.1 c.requires.sound_tree.2, node-most c.args.axes c.args.key.now c.args.own.now c.requires.sound_tree.0 c.args.node c.requires.sound_tree.1 c.requires.sound_tree.2, c.requires.sound_tree.3)
