@@ -55,7 +55,7 @@ pub find_node-found-requires : goal.find_node-found-requires
 find_node-found-requires c = c.requires.columns.axes
 
 pub returns-in_default : goal.returns-in_default
-returns-in_default c = let all = absurd (climb-lost c.args.axes c.args.key.now c.args.total.now c.args.begin.now c.args.indices.now c.args.readings.now c.args.starts.now c.args.flat.now c.args.node c.requires _ _ _ c.loop-axes.invariant _ c.row_sum-sum.ensures.sum c.row_sum-sum.ensures.bounded (omega (arith, c.if-k-eq0.false)) c.parent_of.result c.parent_of.ensures c.find_node-found.result c.find_node-found.ensures c.in_default.is) in record { sum = all.0; cells = all.1.0; bounded = all.1.1 }
+returns-in_default c = absurd (climb-lost c.args.axes c.args.key.now c.args.total.now c.args.begin.now c.args.indices.now c.args.readings.now c.args.starts.now c.args.flat.now c.args.node c.requires _ _ _ c.loop-axes.invariant _ c.row_sum-sum.ensures.sum c.row_sum-sum.ensures.bounded (omega (arith, c.if-k-eq0.false)) c.parent_of.result c.parent_of.ensures c.find_node-found.result c.find_node-found.ensures c.in_default.is)
 
 pub loop-axes-smaller : goal.loop-axes-smaller
 loop-axes-smaller c = (climb-more c.args.axes c.args.key.now c.args.total.now c.args.begin.now c.args.indices.now c.args.readings.now c.args.starts.now c.args.flat.now c.args.node c.requires _ _ _ c.loop-axes.invariant _ c.row_sum-sum.ensures.sum c.row_sum-sum.ensures.bounded (omega (arith, c.if-k-eq0.false)) c.parent_of.result c.parent_of.ensures c.find_node-found.result c.find_node-found.ensures _ c.in-At.is).1

@@ -7,7 +7,7 @@ use Prim.Native.Nat.{◌-◌}
 use Rattle.row_sums.proofs.row_sum.Given as goal
 
 abbrev pub invariant-loop-k : goal.invariant-loop-k
-invariant-loop-k l = Walking l.axes l.key l.count l.begin l.indices l.readings l.row (to_z w64 l.sum) l.at
+invariant-loop-k l = Walking l.axes l.key l.count l.begin l.indices l.readings l.row l.sum l.at
 
 abbrev pub decreases-loop-k : goal.decreases-loop-k
 decreases-loop-k l = length l.row - l.at

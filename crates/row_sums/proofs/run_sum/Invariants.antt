@@ -6,7 +6,7 @@ use Rattle.row_sums.proofs.Runs.{Running}
 use Rattle.row_sums.proofs.run_sum.Given as goal
 
 abbrev pub invariant-loop-i : goal.invariant-loop-i
-invariant-loop-i l = Running l.indices l.readings l.from l.count (to_z w64 l.sum) l.i
+invariant-loop-i l = Running l.indices l.readings l.from l.count l.sum l.i
 
 abbrev pub decreases-loop-i : goal.decreases-loop-i
 decreases-loop-i l = l.count - l.i

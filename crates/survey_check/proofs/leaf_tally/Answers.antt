@@ -31,4 +31,4 @@ pub returns-then-near-met : goal.returns-then-near-met
 returns-then-near-met c = record { leaves = agrees-here c.args.axes c.args.key.now c.args.own.now c.args.begin.now c.args.total.now c.args.readings.now c.args.indices.now c.args.u_starts.now c.args.u_keys.now c.args.v_starts.now c.args.v_keys.now c.requires.passed c.args.node c.requires.before.1.some c.requires.before.1.within (sym c.is_leaf.ensures ∙ c.if-not-is_leaf.false); additions = additions-is c.args.axes c.args.key.now c.args.own.now c.args.begin.now c.args.total.now c.args.readings.now c.args.indices.now c.args.u_starts.now c.args.u_keys.now c.args.v_starts.now c.args.v_keys.now c.requires.passed c.args.node c.requires.before.1.some c.requires.before.1.within (sym c.is_leaf.ensures ∙ c.if-not-is_leaf.false) c.args.sums.now c.requires.before.0 _ _ c.args.met c.args.listed c.node_part-near.ensures.sum c.node_part-near.ensures.count c.requires.before.1; few = additions-fit c.args.axes c.args.key.now c.args.own.now c.args.begin.now c.args.total.now c.args.readings.now c.args.indices.now c.args.u_starts.now c.args.u_keys.now c.args.v_starts.now c.args.v_keys.now c.requires.passed c.args.node c.requires.before.1.some c.requires.before.1.within (sym c.is_leaf.ensures ∙ c.if-not-is_leaf.false) c.args.sums.now c.requires.before.0 _ _ c.args.met c.args.listed c.node_part-near.ensures.sum c.node_part-near.ensures.count c.requires.before.1; kept = c.node_part-near.ensures.kept }
 
 pub returns : goal.returns
-returns c = let all = absurd (c.if-near-met.false (sums-agree c.args.axes c.args.key.now c.args.own.now c.args.begin.now c.args.total.now c.args.readings.now c.args.indices.now c.args.u_starts.now c.args.u_keys.now c.args.v_starts.now c.args.v_keys.now c.requires.passed c.args.node c.requires.before.1.some c.requires.before.1.within (sym c.is_leaf.ensures ∙ c.if-not-is_leaf.false) c.args.sums.now c.requires.before.0 _ _ c.args.met c.args.listed c.node_part-near.ensures.sum c.node_part-near.ensures.count c.requires.before.1)) in record { leaves = all.0; additions = all.1.0; few = all.1.1.0; kept = all.1.1.1 }
+returns c = absurd (c.if-near-met.false (sums-agree c.args.axes c.args.key.now c.args.own.now c.args.begin.now c.args.total.now c.args.readings.now c.args.indices.now c.args.u_starts.now c.args.u_keys.now c.args.v_starts.now c.args.v_keys.now c.requires.passed c.args.node c.requires.before.1.some c.requires.before.1.within (sym c.is_leaf.ensures ∙ c.if-not-is_leaf.false) c.args.sums.now c.requires.before.0 _ _ c.args.met c.args.listed c.node_part-near.ensures.sum c.node_part-near.ensures.count c.requires.before.1))
