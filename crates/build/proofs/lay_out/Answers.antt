@@ -22,3 +22,9 @@ sum_sources-depth-requires c = let p = passed c.args.b c.args.sources.now c.args
 
 pub returns : goal.returns
 returns c = let p = passed c.args.b c.args.sources.now c.args.targets.now c.args.order (length c.args.work.now) (sym c.prepare-prepared.ensures.value ∙ c.in_default.is) in record { outcome_value = laid_so (asks c.args.b 0 c.args.order true c.args.sources.now c.args.targets.now) (length c.args.work.now) (length c.args.indices.now) (sym c.prepare-prepared.ensures.value ∙ c.in_default.is) (omega (arith, c.if-indices-rows.false)); laid_out = λ d limit keep. work-laid (asks c.args.b limit c.args.order keep c.args.sources.now c.args.targets.now) (length c.args.work.now) p c.prepare-prepared.new.work c.prepare-prepared.auto.work (c.prepare-prepared.ensures.points_laid c.in_default.is) c.sum_sources-depth.result c.args.room c.sum_sources-depth.new.indices c.sizes_of-sizes.result c.sizes_of-sizes.ensures (omega (arith, c.if-indices-rows.false, c.sum_sources-depth.auto.indices)) c.sum_sources-depth.ensures }
+
+pub nonzero_div-rows : goal.nonzero_div-rows
+nonzero_div-rows c = let p = passed c.args.b c.args.sources.now c.args.targets.now c.args.order (length c.args.work.now) (sym c.prepare-prepared.ensures.value ∙ c.in_default.is) in omega (arith, p.call.box.least)
+
+pub nonzero_div-marks : goal.nonzero_div-marks
+nonzero_div-marks c = let p = passed c.args.b c.args.sources.now c.args.targets.now c.args.order (length c.args.work.now) (sym c.prepare-prepared.ensures.value ∙ c.in_default.is) in omega (arith, p.call.box.least)
