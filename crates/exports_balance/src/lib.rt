@@ -33,8 +33,7 @@ fn tell_balanced(answer: Balanced, nodes: &mut usize, depth: &mut u64) -> Ended
 }
 
 // The old columns and their order column are read; the new ones are lent.
-#[unsafe(no_mangle)]
-pub extern "C" fn lohandema_balance_tree(
+pub fn lohandema_balance_tree(
     centre: &[f64; 3],
     radius: f64,
     axes: usize,

@@ -34,8 +34,7 @@ pub fn tell_built(answer: Built, nodes: &mut usize, depth: &mut u64) -> Ended
 }
 
 // `order` is that of the expansions; the order column is `indices`.
-#[unsafe(no_mangle)]
-pub extern "C" fn lohandema_build_tree(
+pub fn lohandema_build_tree(
     centre: &[f64; 3],
     radius: f64,
     axes: usize,
@@ -94,8 +93,7 @@ pub fn grid_at(origin: &[f64; 3], spacing: &[f64; 3], shape: &[usize; 3]) -> Gri
 }
 
 // The targets are the points of a grid.
-#[unsafe(no_mangle)]
-pub extern "C" fn lohandema_build_tree_on_grid(
+pub fn lohandema_build_tree_on_grid(
     centre: &[f64; 3],
     radius: f64,
     axes: usize,

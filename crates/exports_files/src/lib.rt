@@ -29,8 +29,7 @@ fn tell_written(answer: Written, written: &mut usize) -> Ended
 }
 
 // The file of a tree, and its length.
-#[unsafe(no_mangle)]
-pub extern "C" fn lohandema_write_tree(
+pub fn lohandema_write_tree(
     axes: usize,
     key: &[u64],
     own: &[usize],

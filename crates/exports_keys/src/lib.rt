@@ -63,32 +63,28 @@ fn tell_keys(list: KeyList, keys: &mut [u64; Three::NEIGHBOURS], len: &mut usize
     end_of(outcome)
 }
 
-#[unsafe(no_mangle)]
-pub extern "C" fn lohandema_get_level(axes: usize, key: u64, level: &mut u64) -> Ended
+pub fn lohandema_get_level(axes: usize, key: u64, level: &mut u64) -> Ended
     ensures ended { result ≡ told (number_end (level_answer axes key)) }
     ensures level { level.new ≡ number_in (level_answer axes key) }
 {
     tell_number(morton::get_level(axes, key), level)
 }
 
-#[unsafe(no_mangle)]
-pub extern "C" fn lohandema_get_parent(axes: usize, key: u64, parent: &mut u64) -> Ended
+pub fn lohandema_get_parent(axes: usize, key: u64, parent: &mut u64) -> Ended
     ensures ended { result ≡ told (number_end (parent_answer axes key)) }
     ensures parent { parent.new ≡ number_in (parent_answer axes key) }
 {
     tell_number(morton::get_parent(axes, key), parent)
 }
 
-#[unsafe(no_mangle)]
-pub extern "C" fn lohandema_get_child_index(axes: usize, key: u64, index: &mut u64) -> Ended
+pub fn lohandema_get_child_index(axes: usize, key: u64, index: &mut u64) -> Ended
     ensures ended { result ≡ told (number_end (child_index_answer axes key)) }
     ensures index { index.new ≡ number_in (child_index_answer axes key) }
 {
     tell_number(morton::get_child_index(axes, key), index)
 }
 
-#[unsafe(no_mangle)]
-pub extern "C" fn lohandema_encode_morton_point(
+pub fn lohandema_encode_morton_point(
     axes: usize,
     anchor: &[u64; 3],
     level: u64,
@@ -101,8 +97,7 @@ pub extern "C" fn lohandema_encode_morton_point(
     tell_number(anchors::encode_morton_point(axes, place, level), key)
 }
 
-#[unsafe(no_mangle)]
-pub extern "C" fn lohandema_get_children(
+pub fn lohandema_get_children(
     axes: usize,
     key: u64,
     keys: &mut [u64; Three::NEIGHBOURS],
@@ -115,8 +110,7 @@ pub extern "C" fn lohandema_get_children(
     tell_keys(morton::get_children(axes, key), keys, len)
 }
 
-#[unsafe(no_mangle)]
-pub extern "C" fn lohandema_get_siblings(
+pub fn lohandema_get_siblings(
     axes: usize,
     key: u64,
     keys: &mut [u64; Three::NEIGHBOURS],
@@ -129,8 +123,7 @@ pub extern "C" fn lohandema_get_siblings(
     tell_keys(morton::get_siblings(axes, key), keys, len)
 }
 
-#[unsafe(no_mangle)]
-pub extern "C" fn lohandema_get_ancestors(
+pub fn lohandema_get_ancestors(
     axes: usize,
     key: u64,
     keys: &mut [u64; Three::NEIGHBOURS],
@@ -143,8 +136,7 @@ pub extern "C" fn lohandema_get_ancestors(
     tell_keys(morton::get_ancestors(axes, key), keys, len)
 }
 
-#[unsafe(no_mangle)]
-pub extern "C" fn lohandema_get_neighbours(
+pub fn lohandema_get_neighbours(
     axes: usize,
     key: u64,
     keys: &mut [u64; Three::NEIGHBOURS],
@@ -157,13 +149,7 @@ pub extern "C" fn lohandema_get_neighbours(
     tell_keys(neighbours::get_neighbours(axes, key), keys, len)
 }
 
-#[unsafe(no_mangle)]
-pub extern "C" fn lohandema_decode_key(
-    axes: usize,
-    key: u64,
-    anchor: &mut [u64; 3],
-    level: &mut u64,
-) -> Ended
+pub fn lohandema_decode_key(axes: usize, key: u64, anchor: &mut [u64; 3], level: &mut u64) -> Ended
     ensures ended { result ≡ told (decode_answer axes key).outcome }
     ensures anchor { anchor.new ≡ (decode_answer axes key).anchor }
     ensures level { level.new ≡ (decode_answer axes key).level }
@@ -176,8 +162,7 @@ pub extern "C" fn lohandema_decode_key(
     end_of(outcome)
 }
 
-#[unsafe(no_mangle)]
-pub extern "C" fn lohandema_touching(axes: usize, a: u64, b: u64, touches: &mut bool) -> Ended
+pub fn lohandema_touching(axes: usize, a: u64, b: u64, touches: &mut bool) -> Ended
     ensures ended { result ≡ told (touch_end (touching_answer axes a b)) }
     ensures touches { touches.new ≡ touch_in (touching_answer axes a b) }
 {

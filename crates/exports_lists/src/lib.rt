@@ -35,8 +35,7 @@ fn tell_lists(answer: ListsAnswer, u: &mut usize, v: &mut usize) -> Ended
     }
 }
 
-#[unsafe(no_mangle)]
-pub extern "C" fn lohandema_get_interaction_lists(
+pub fn lohandema_get_interaction_lists(
     axes: usize,
     key: &[u64],
     own: &[usize],
@@ -71,8 +70,7 @@ pub extern "C" fn lohandema_get_interaction_lists(
 }
 
 // How many keys both lists have, with no list.
-#[unsafe(no_mangle)]
-pub extern "C" fn lohandema_get_list_sizes(
+pub fn lohandema_get_list_sizes(
     axes: usize,
     key: &[u64],
     own: &[usize],
@@ -97,8 +95,7 @@ pub extern "C" fn lohandema_get_list_sizes(
 }
 
 // Near work of a tree with targets, or with its sources as targets where there are none; the counts are left as the targets of each node.
-#[unsafe(no_mangle)]
-pub extern "C" fn lohandema_get_near_work(
+pub fn lohandema_get_near_work(
     centre: &[f64; 3],
     radius: f64,
     axes: usize,

@@ -12,8 +12,7 @@ ghost use Rattle.exports_build.specs.Told.{built_end, nodes_in, depth_in};
 use exports_keys::Ended;
 
 // The tree that was built and its order column are read; those of the longer list are lent.
-#[unsafe(no_mangle)]
-pub extern "C" fn lohandema_add_source(
+pub fn lohandema_add_source(
     centre: &[f64; 3],
     radius: f64,
     axes: usize,

@@ -27,8 +27,7 @@ pub fn box_at(centre: &[f64; 3], radius: f64, axes: usize) -> Box
     }
 }
 
-#[unsafe(no_mangle)]
-pub extern "C" fn lohandema_box_outcome(centre: &[f64; 3], radius: f64, axes: usize) -> Ended
+pub fn lohandema_box_outcome(centre: &[f64; 3], radius: f64, axes: usize) -> Ended
     ensures { result ≡ told (box_outcome (box_at centre.now radius axes)) }
 {
     let b = box_at(centre, radius, axes);
@@ -36,8 +35,7 @@ pub extern "C" fn lohandema_box_outcome(centre: &[f64; 3], radius: f64, axes: us
     exports_keys::end_of(outcome)
 }
 
-#[unsafe(no_mangle)]
-pub extern "C" fn lohandema_point_to_anchor(
+pub fn lohandema_point_to_anchor(
     centre: &[f64; 3],
     radius: f64,
     axes: usize,
@@ -57,8 +55,7 @@ pub extern "C" fn lohandema_point_to_anchor(
     exports_keys::end_of(outcome)
 }
 
-#[unsafe(no_mangle)]
-pub extern "C" fn lohandema_point_to_key(
+pub fn lohandema_point_to_key(
     centre: &[f64; 3],
     radius: f64,
     axes: usize,
@@ -84,8 +81,7 @@ pub extern "C" fn lohandema_point_to_key(
     }
 }
 
-#[unsafe(no_mangle)]
-pub extern "C" fn lohandema_get_side_length(
+pub fn lohandema_get_side_length(
     centre: &[f64; 3],
     radius: f64,
     axes: usize,
@@ -109,8 +105,7 @@ pub extern "C" fn lohandema_get_side_length(
     }
 }
 
-#[unsafe(no_mangle)]
-pub extern "C" fn lohandema_get_center_length(
+pub fn lohandema_get_center_length(
     centre: &[f64; 3],
     radius: f64,
     axes: usize,
@@ -131,8 +126,7 @@ pub extern "C" fn lohandema_get_center_length(
     exports_keys::end_of(outcome)
 }
 
-#[unsafe(no_mangle)]
-pub extern "C" fn lohandema_are_adjacent(
+pub fn lohandema_are_adjacent(
     centre: &[f64; 3],
     radius: f64,
     axes: usize,
@@ -158,8 +152,7 @@ pub extern "C" fn lohandema_are_adjacent(
     }
 }
 
-#[unsafe(no_mangle)]
-pub extern "C" fn lohandema_calculate_tree_center_and_radius(
+pub fn lohandema_calculate_tree_center_and_radius(
     extents: &[f64],
     centre: &mut [f64; 3],
     radius: &mut f64,
@@ -179,8 +172,7 @@ pub extern "C" fn lohandema_calculate_tree_center_and_radius(
 }
 
 // The least depth whose cells are at least as many as the sources, held to 1..16.
-#[unsafe(no_mangle)]
-pub extern "C" fn lohandema_reference_depth(axes: usize, sources: usize, depth: &mut u64) -> Ended
+pub fn lohandema_reference_depth(axes: usize, sources: usize, depth: &mut u64) -> Ended
     ensures ended { result ≡ told (depth_end axes) }
     ensures depth { depth.new ≡ reference_depth_in axes sources }
 {

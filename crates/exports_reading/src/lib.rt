@@ -36,8 +36,7 @@ fn tell_read(
 }
 
 // The tree of a file, with its order column and its lists, and how many axes, nodes, sources, U keys and V keys there are.
-#[unsafe(no_mangle)]
-pub extern "C" fn lohandema_read_tree(
+pub fn lohandema_read_tree(
     file: &[u8],
     indices: &mut [usize],
     key: &mut [u64],

@@ -41,8 +41,7 @@ fn tell_salvaged(
 }
 
 // The old columns and their order column are read; the new ones and the change list are lent.
-#[unsafe(no_mangle)]
-pub extern "C" fn lohandema_salvage(
+pub fn lohandema_salvage(
     axes: usize,
     key: &[u64],
     own: &[usize],

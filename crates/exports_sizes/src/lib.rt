@@ -31,8 +31,7 @@ fn tell_count(answer: Counted, nodes: &mut usize) -> Ended
 }
 
 // `order` is that of the expansions; `work` and `indices` are as long as in the build.
-#[unsafe(no_mangle)]
-pub extern "C" fn lohandema_count_nodes(
+pub fn lohandema_count_nodes(
     centre: &[f64; 3],
     radius: f64,
     axes: usize,
@@ -61,8 +60,7 @@ pub extern "C" fn lohandema_count_nodes(
 }
 
 // The targets are the points of a grid.
-#[unsafe(no_mangle)]
-pub extern "C" fn lohandema_count_nodes_on_grid(
+pub fn lohandema_count_nodes_on_grid(
     centre: &[f64; 3],
     radius: f64,
     axes: usize,

@@ -17,16 +17,14 @@ use sum_check::SumAnswer;
 use survey_check::SurveyAnswer;
 
 // Whether the order column has each index below the total once.
-#[unsafe(no_mangle)]
-pub extern "C" fn lohandema_is_arrangement(indices: &[usize], total: usize) -> bool
+pub fn lohandema_is_arrangement(indices: &[usize], total: usize) -> bool
     ensures { result ≡ arranges indices.now total }
 {
     arrangement::is_arrangement(indices, total)
 }
 
 // Whether the lists are the tree's.
-#[unsafe(no_mangle)]
-pub extern "C" fn lohandema_lists_right(
+pub fn lohandema_lists_right(
     axes: usize,
     key: &[u64],
     own: &[usize],
@@ -82,8 +80,7 @@ fn tell_sums(answer: SumAnswer, near: &mut i64, far: &mut i64, additions: &mut u
 }
 
 // The near sum and the far sum of a leaf's readings, and the number of additions.
-#[unsafe(no_mangle)]
-pub extern "C" fn lohandema_sum_check(
+pub fn lohandema_sum_check(
     axes: usize,
     key: &[u64],
     own: &[usize],
@@ -136,8 +133,7 @@ fn tell_survey(answer: SurveyAnswer, leaves: &mut usize, additions: &mut usize) 
 }
 
 // How many leaves' near and far sum together are the plain sum of all readings, and the additions of all leaves.
-#[unsafe(no_mangle)]
-pub extern "C" fn lohandema_check_sums(
+pub fn lohandema_check_sums(
     axes: usize,
     key: &[u64],
     own: &[usize],

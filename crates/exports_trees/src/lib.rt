@@ -21,8 +21,7 @@ use lookup::{LookedUp, PointLeaf};
 use refusal::Outcome;
 use sourced::CellsAnswer;
 
-#[unsafe(no_mangle)]
-pub extern "C" fn lohandema_is_well_formed(
+pub fn lohandema_is_well_formed(
     axes: usize,
     key: &[u64],
     own: &[usize],
@@ -34,8 +33,7 @@ pub extern "C" fn lohandema_is_well_formed(
     tree::is_well_formed(axes, key, own, begin, total)
 }
 
-#[unsafe(no_mangle)]
-pub extern "C" fn lohandema_depth_of(key: &[u64]) -> u64
+pub fn lohandema_depth_of(key: &[u64]) -> u64
     ensures { result ≡ depth_of key.now }
 {
     tree::depth_of(key)
@@ -64,8 +62,7 @@ fn part_at(
 }
 
 // A leaf's part of the order column: what it owns.
-#[unsafe(no_mangle)]
-pub extern "C" fn lohandema_leaf_sources(
+pub fn lohandema_leaf_sources(
     own: &[usize],
     begin: &[usize],
     order: &[usize],
@@ -80,8 +77,7 @@ pub extern "C" fn lohandema_leaf_sources(
 }
 
 // Any cell's part of the order column: all sources in it.
-#[unsafe(no_mangle)]
-pub extern "C" fn lohandema_cell_sources(
+pub fn lohandema_cell_sources(
     total: &[usize],
     begin: &[usize],
     order: &[usize],
@@ -95,8 +91,7 @@ pub extern "C" fn lohandema_cell_sources(
     part_at(total, begin, order, node, start)
 }
 
-#[unsafe(no_mangle)]
-pub extern "C" fn lohandema_points_to_keys(
+pub fn lohandema_points_to_keys(
     centre: &[f64; 3],
     radius: f64,
     axes: usize,
@@ -131,8 +126,7 @@ pub extern "C" fn lohandema_points_to_keys(
 }
 
 // The leaf that holds one point, and the steps to it.
-#[unsafe(no_mangle)]
-pub extern "C" fn lohandema_point_to_leaf(
+pub fn lohandema_point_to_leaf(
     centre: &[f64; 3],
     radius: f64,
     axes: usize,
@@ -169,8 +163,7 @@ pub extern "C" fn lohandema_point_to_leaf(
     }
 }
 
-#[unsafe(no_mangle)]
-pub extern "C" fn lohandema_get_points_to_leaves_map(
+pub fn lohandema_get_points_to_leaves_map(
     axes: usize,
     key: &[u64],
     own: &[usize],
@@ -193,8 +186,7 @@ pub extern "C" fn lohandema_get_points_to_leaves_map(
     exports_keys::end_of(end)
 }
 
-#[unsafe(no_mangle)]
-pub extern "C" fn lohandema_get_sourced_cells(
+pub fn lohandema_get_sourced_cells(
     axes: usize,
     key: &[u64],
     own: &[usize],

@@ -12,7 +12,7 @@ pub returns-then-not-nodes_right : goal.returns-then-not-nodes_right
 returns-then-not-nodes_right c = λ r. tell-false c.nodes_right.result c.nodes_right.ensures (c.if-not-nodes_right.true) r.inner
 
 pub returns-then-not-g : goal.returns-then-not-g
-returns-then-not-g c = all_grown c.args.g c.args.key.now c.args.total.now c.requires.0 c.has_children.result c.is_kept-kept.result c.has_children.ensures c.is_kept-kept.ensures (tell-true c.agree.result c.agree.ensures (c.if-not-agree.false)) (tell-true c.nodes_right.result c.nodes_right.ensures (c.if-not-nodes_right.false)) (λ k. absurd (clash k (c.if-not-g.true)))
+returns-then-not-g c = all_grown c.args.g c.args.key.now c.args.total.now c.requires.0 c.has_children.result c.is_kept-kept.result c.has_children.ensures c.is_kept-kept.ensures (tell-true c.agree.result c.agree.ensures (c.if-not-agree.false)) (tell-true c.nodes_right.result c.nodes_right.ensures (c.if-not-nodes_right.false)) (λ k. absurd (clash k ((not-true _ c.if-not-g.true))))
 
 pub returns : goal.returns
-returns c = by-full c.args.g c.args.key.now c.args.total.now c.requires.0 c.is_full.result c.is_full.ensures c.has_children.result c.is_kept-kept.result c.has_children.ensures c.is_kept-kept.ensures (tell-true c.agree.result c.agree.ensures (c.if-not-agree.false)) (tell-true c.nodes_right.result c.nodes_right.ensures (c.if-not-nodes_right.false)) (c.if-not-g.false)
+returns c = by-full c.args.g c.args.key.now c.args.total.now c.requires.0 c.is_full.result c.is_full.ensures c.has_children.result c.is_kept-kept.result c.has_children.ensures c.is_kept-kept.ensures (tell-true c.agree.result c.agree.ensures (c.if-not-agree.false)) (tell-true c.nodes_right.result c.nodes_right.ensures (c.if-not-nodes_right.false)) ((not-false _ c.if-not-g.false))

@@ -1,0 +1,77 @@
+// The balancing for C.
+ghost use Rattle.std.specs.Prelude.{◌≡◌, length, replicate};
+ghost use Rattle.tree.specs.Columns.{columns};
+ghost use Rattle.balanced.specs.Outcomes.{rooms, balance_answer, order_left, keys_left, own_left, begins_left, totals_left};
+ghost use Rattle.exports_keys.specs.Told.{told};
+ghost use Rattle.exports_points.specs.Boxes.{box_at};
+ghost use Rattle.exports_balance.specs.Told.{balanced_end, nodes_in, depth_in};
+
+use exports_keys::Ended;
+
+// The old columns and their order column are read; the new ones are lent.
+#[unsafe(no_mangle)]
+pub extern "C" fn lohandema_balance_tree(
+    centre: &[f64; 3],
+    radius: f64,
+    axes: usize,
+    points: &[f64],
+    key: &[u64],
+    own: &[usize],
+    begin: &[usize],
+    total: &[usize],
+    indices: &[usize],
+    work: &mut [u64],
+    new_indices: &mut [usize],
+    new_key: &mut [u64],
+    new_own: &mut [usize],
+    new_begin: &mut [usize],
+    new_total: &mut [usize],
+    nodes: &mut usize,
+    depth: &mut u64,
+) -> Ended
+    ensures ended { result ≡ told (balanced_end (balance_answer
+        (box_at centre.now radius axes) points.now (columns key.now own.now begin.now total.now) indices.now
+        (rooms work.old new_indices.old new_key.old new_own.old new_begin.old new_total.old))) }
+    ensures work { work.new ≡ replicate (length work.old) 0 }
+    ensures new_indices { new_indices.new ≡ order_left
+        (box_at centre.now radius axes) points.now (columns key.now own.now begin.now total.now) indices.now
+        (rooms work.old new_indices.old new_key.old new_own.old new_begin.old new_total.old) }
+    ensures new_key { new_key.new ≡ keys_left
+        (box_at centre.now radius axes) points.now (columns key.now own.now begin.now total.now) indices.now
+        (rooms work.old new_indices.old new_key.old new_own.old new_begin.old new_total.old) }
+    ensures new_own { new_own.new ≡ own_left
+        (box_at centre.now radius axes) points.now (columns key.now own.now begin.now total.now) indices.now
+        (rooms work.old new_indices.old new_key.old new_own.old new_begin.old new_total.old) }
+    ensures new_begin { new_begin.new ≡ begins_left
+        (box_at centre.now radius axes) points.now (columns key.now own.now begin.now total.now) indices.now
+        (rooms work.old new_indices.old new_key.old new_own.old new_begin.old new_total.old) }
+    ensures new_total { new_total.new ≡ totals_left
+        (box_at centre.now radius axes) points.now (columns key.now own.now begin.now total.now) indices.now
+        (rooms work.old new_indices.old new_key.old new_own.old new_begin.old new_total.old) }
+    ensures nodes { nodes.new ≡ nodes_in (balance_answer
+        (box_at centre.now radius axes) points.now (columns key.now own.now begin.now total.now) indices.now
+        (rooms work.old new_indices.old new_key.old new_own.old new_begin.old new_total.old)) }
+    ensures depth { depth.new ≡ depth_in (balance_answer
+        (box_at centre.now radius axes) points.now (columns key.now own.now begin.now total.now) indices.now
+        (rooms work.old new_indices.old new_key.old new_own.old new_begin.old new_total.old)) }
+{
+    exports_balance::lohandema_balance_tree(
+        centre,
+        radius,
+        axes,
+        points,
+        key,
+        own,
+        begin,
+        total,
+        indices,
+        work,
+        new_indices,
+        new_key,
+        new_own,
+        new_begin,
+        new_total,
+        nodes,
+        depth,
+    )
+}

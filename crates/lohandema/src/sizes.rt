@@ -1,0 +1,71 @@
+// How many nodes a build has, for C.
+ghost use Rattle.std.specs.Prelude.{◌≡◌, length, replicate};
+ghost use Rattle.build.specs.Asked.{asks_for, asks_on_grid};
+ghost use Rattle.node_count.specs.Counts.{nodes_answer};
+ghost use Rattle.exports_keys.specs.Told.{told};
+ghost use Rattle.exports_points.specs.Boxes.{box_at};
+ghost use Rattle.exports_build.specs.Told.{grid_at};
+ghost use Rattle.exports_sizes.specs.Told.{count_end, nodes_in};
+
+use exports_keys::Ended;
+
+// `order` is that of the expansions; `work` and `indices` are as long as in the build.
+#[unsafe(no_mangle)]
+pub extern "C" fn lohandema_count_nodes(
+    centre: &[f64; 3],
+    radius: f64,
+    axes: usize,
+    sources: &[f64],
+    targets: &[f64],
+    limit: usize,
+    order: usize,
+    keep: bool,
+    refine: bool,
+    work: &mut [u64],
+    indices: &mut [usize],
+    nodes: &mut usize,
+) -> Ended
+    ensures ended { result ≡ told (count_end (nodes_answer (asks_for (box_at centre.now radius axes) sources.now targets.now limit order keep refine)
+        work.old indices.old)) }
+    ensures work { work.new ≡ replicate (length work.old) 0 }
+    ensures indices { indices.new ≡ replicate (length indices.old) 0 }
+    ensures nodes { nodes.new ≡ nodes_in (nodes_answer (asks_for (box_at centre.now radius axes) sources.now targets.now limit order keep refine)
+        work.old indices.old) }
+{
+    exports_sizes::lohandema_count_nodes(
+        centre, radius, axes, sources, targets, limit, order, keep, refine, work, indices, nodes,
+    )
+}
+
+// The targets are the points of a grid.
+#[unsafe(no_mangle)]
+pub extern "C" fn lohandema_count_nodes_on_grid(
+    centre: &[f64; 3],
+    radius: f64,
+    axes: usize,
+    sources: &[f64],
+    origin: &[f64; 3],
+    spacing: &[f64; 3],
+    shape: &[usize; 3],
+    limit: usize,
+    order: usize,
+    keep: bool,
+    refine: bool,
+    work: &mut [u64],
+    indices: &mut [usize],
+    nodes: &mut usize,
+) -> Ended
+    ensures ended { result ≡ told (count_end (nodes_answer
+        (asks_on_grid (box_at centre.now radius axes) sources.now (grid_at origin.now spacing.now shape.now) limit order keep refine)
+        work.old indices.old)) }
+    ensures work { work.new ≡ replicate (length work.old) 0 }
+    ensures indices { indices.new ≡ replicate (length indices.old) 0 }
+    ensures nodes { nodes.new ≡ nodes_in (nodes_answer
+        (asks_on_grid (box_at centre.now radius axes) sources.now (grid_at origin.now spacing.now shape.now) limit order keep refine)
+        work.old indices.old) }
+{
+    exports_sizes::lohandema_count_nodes_on_grid(
+        centre, radius, axes, sources, origin, spacing, shape, limit, order, keep, refine, work,
+        indices, nodes,
+    )
+}
