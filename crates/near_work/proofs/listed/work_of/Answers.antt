@@ -44,3 +44,9 @@ overflow_mul-result c = let r = read-row (u_row c.args.axes c.args.key.now c.arg
 
 pub returns : goal.returns
 returns c = let r = read-row (u_row c.args.axes c.args.key.now c.args.own.now) c.args.key.now c.args.starts.now c.args.flat.now c.requires.1 c.args.node c.requires.2 in work-some c.args.axes c.args.key.now c.args.own.now c.args.counts.now _ _ _ (sym c.is_leaf.ensures ∙ c.if-not-is_leaf.false) (weight-of c.args.axes c.args.key.now c.args.own.now c.requires.0 c.args.counts.now c.requires.3 c.args.node c.requires.2) (c.row_sources-sources.ensures ∙ ap (row_sources c.args.key.now c.args.own.now) r.part)
+
+pub slice_bounds-row_sources-start : goal.slice_bounds-row_sources-start
+slice_bounds-row_sources-start c = let r = read-row (u_row c.args.axes c.args.key.now c.args.own.now) c.args.key.now c.args.starts.now c.args.flat.now c.requires.1 c.args.node c.requires.2 in r.up
+
+pub slice_bounds-row_sources-end : goal.slice_bounds-row_sources-end
+slice_bounds-row_sources-end c = let r = read-row (u_row c.args.axes c.args.key.now c.args.own.now) c.args.key.now c.args.starts.now c.args.flat.now c.requires.1 c.args.node c.requires.2 in r.within
