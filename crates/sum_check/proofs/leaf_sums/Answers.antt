@@ -44,3 +44,15 @@ overflow_add-result c = omega (arith, adds_fit c.args.axes c.args.key.now c.args
 
 pub returns : goal.returns
 returns c = answered c.args.axes c.args.key.now c.args.own.now c.args.begin.now c.args.total.now c.args.readings.now c.args.indices.now c.args.u_starts.now c.args.u_keys.now c.args.v_starts.now c.args.v_keys.now c.args.node c.requires _ c.row_sum-near.ensures.sum c.row_sum-near.ensures.bounded _ c.row_count-sources.ensures c.far_sum-far.result.sum c.far_sum-far.result.cells c.far_sum-far.ensures.sum c.far_sum-far.ensures.cells c.far_sum-far.ensures.bounded
+
+pub slice_bounds-row_sum-start : goal.slice_bounds-row_sum-start
+slice_bounds-row_sum-start c = part_up c.args.axes c.args.key.now c.args.own.now c.args.begin.now c.args.total.now c.args.readings.now c.args.indices.now c.args.u_starts.now c.args.u_keys.now c.args.v_starts.now c.args.v_keys.now c.args.node c.requires
+
+pub slice_bounds-row_sum-end : goal.slice_bounds-row_sum-end
+slice_bounds-row_sum-end c = part_in c.args.axes c.args.key.now c.args.own.now c.args.begin.now c.args.total.now c.args.readings.now c.args.indices.now c.args.u_starts.now c.args.u_keys.now c.args.v_starts.now c.args.v_keys.now c.args.node c.requires
+
+pub slice_bounds-row_count-start : goal.slice_bounds-row_count-start
+slice_bounds-row_count-start c = part_up c.args.axes c.args.key.now c.args.own.now c.args.begin.now c.args.total.now c.args.readings.now c.args.indices.now c.args.u_starts.now c.args.u_keys.now c.args.v_starts.now c.args.v_keys.now c.args.node c.requires
+
+pub slice_bounds-row_count-end : goal.slice_bounds-row_count-end
+slice_bounds-row_count-end c = part_in c.args.axes c.args.key.now c.args.own.now c.args.begin.now c.args.total.now c.args.readings.now c.args.indices.now c.args.u_starts.now c.args.u_keys.now c.args.v_starts.now c.args.v_keys.now c.args.node c.requires
