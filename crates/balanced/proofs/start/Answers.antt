@@ -26,3 +26,6 @@ returns-then-room-n c = record { outcome_value = c.unstarted-then-room-n.ensures
 
 pub returns : goal.returns
 returns c = record { outcome_value = all-put c.args.b c.args.points.now c.args.key.now c.args.own.now c.args.begin.now c.args.total.now c.args.indices.now (sym c.given_outcome-given.ensures ∙ c.in_default.is) c.args.work c.args.places c.args.room c.if-work-rows.false c.if-places-rows.false _ _ c.put_cells-n.ensures c.if-room-n.false; started_with = λ _. started c.args.b c.args.points.now c.args.key.now c.args.own.now c.args.begin.now c.args.total.now c.args.indices.now (sym c.given_outcome-given.ensures ∙ c.in_default.is) c.args.work c.args.places c.args.room c.if-work-rows.false c.if-places-rows.false _ _ c.put_cells-n.ensures c.if-room-n.false }
+
+pub nonzero_div-rows : goal.nonzero_div-rows
+nonzero_div-rows c = omega (arith, (checked c.args.b c.args.points.now c.args.key.now c.args.own.now c.args.begin.now c.args.total.now c.args.indices.now (sym c.given_outcome-given.ensures ∙ c.in_default.is)).0)

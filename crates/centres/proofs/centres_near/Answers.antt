@@ -54,8 +54,7 @@ loop-n-preserved c =
       length =
           reach-is c.args.b c.args.first c.args.second _ _
           (c.side_at-length_a.ensures ∙ ap (side c.args.b.radius) c.level_of.ensures) (c.side_at-length_b.ensures ∙ ap (side c.args.b.radius) c.level_of-2.ensures);
-    } in
-    (
+    } in (
       omega (arith, c.loop-n.invariant.0),
       near_next c.args.b c.args.first c.args.second c.loop-n.n (c.loop-n.n - 1) _ _ _ _ _ refl (omega (arith, c.loop-n-test.true)) axis (c.if-not-magnitude-length.false) ∙ c.loop-n.invariant.1,
     )

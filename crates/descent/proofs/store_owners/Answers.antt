@@ -33,21 +33,21 @@ overflow_add-m c = omega (arith, c.loop-c.invariant.3, c.loop-c-test.true)
 
 pub loop-c-preserved-then-own-c-gt0 : goal.loop-c-preserved-then-own-c-gt0
 loop-c-preserved-then-own-c-gt0 c = let k = get_or c.args.key.now c.loop-c.c 0 in (
-      length-set c.loop-c.out c.loop-c.m k ∙ c.loop-c.invariant.0,
-      omega (arith, c.loop-c.invariant.1),
-      omega (arith, c.loop-c-test.true),
-      omega (arith, c.loop-c.invariant.3, c.loop-c-test.true),
-      stored-owner _ _ _ _ _ c.requires.0.linked _ _ c.loop-c.invariant.1 (omega (arith, c.requires.2, c.loop-c-test.true)) _ _ _ _ _ c.loop-c.invariant.4 c.if-own-c-gt0.true (put-room _ _ k (omega (arith, c.loop-c.invariant.0, c.loop-c.invariant.3, c.loop-c-test.true))),
-    )
+  length-set c.loop-c.out c.loop-c.m k ∙ c.loop-c.invariant.0,
+  omega (arith, c.loop-c.invariant.1),
+  omega (arith, c.loop-c-test.true),
+  omega (arith, c.loop-c.invariant.3, c.loop-c-test.true),
+  stored-owner _ _ _ _ _ c.requires.0.linked _ _ c.loop-c.invariant.1 (omega (arith, c.requires.2, c.loop-c-test.true)) _ _ _ _ _ c.loop-c.invariant.4 c.if-own-c-gt0.true (put-room _ _ k (omega (arith, c.loop-c.invariant.0, c.loop-c.invariant.3, c.loop-c-test.true))),
+)
 
 pub loop-c-preserved : goal.loop-c-preserved
 loop-c-preserved c = let k = get_or c.args.key.now c.loop-c.c 0 in (
-      length-set c.loop-c.out c.loop-c.m k ∙ c.loop-c.invariant.0,
-      omega (arith, c.loop-c.invariant.1),
-      omega (arith, c.loop-c-test.true),
-      omega (arith, c.loop-c.invariant.3, c.loop-c-test.true),
-      stored_past _ _ _ _ _ c.requires.0.linked _ _ c.loop-c.invariant.1 (omega (arith, c.requires.2, c.loop-c-test.true)) _ _ _ _ _ c.loop-c.invariant.4 c.if-own-c-gt0.false (store-past _ _ k (omega (arith, c.loop-c.invariant.0, c.loop-c.invariant.3, c.loop-c-test.true))),
-    )
+  length-set c.loop-c.out c.loop-c.m k ∙ c.loop-c.invariant.0,
+  omega (arith, c.loop-c.invariant.1),
+  omega (arith, c.loop-c-test.true),
+  omega (arith, c.loop-c.invariant.3, c.loop-c-test.true),
+  stored_past _ _ _ _ _ c.requires.0.linked _ _ c.loop-c.invariant.1 (omega (arith, c.requires.2, c.loop-c-test.true)) _ _ _ _ _ c.loop-c.invariant.4 c.if-own-c-gt0.false (store-past _ _ k (omega (arith, c.loop-c.invariant.0, c.loop-c.invariant.3, c.loop-c-test.true))),
+)
 
 pub returns : goal.returns
 returns c = run-put _ _ _ _ _ c.requires.0.linked _ _ _ c.loop-c.invariant.2 c.loop-c-test.false _ _ _ _ c.loop-c.invariant.4

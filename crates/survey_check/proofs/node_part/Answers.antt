@@ -34,3 +34,6 @@ row_part-requires c = record { summed = (c.requires.row_asked.summed, subst (λ 
 
 pub returns : goal.returns
 returns c = record { sum = c.row_part.ensures.sum ∙ ap (row_lifted c.args.key.now c.args.total.now c.args.begin.now c.args.indices.now c.args.readings.now) (part-is c.args.key.now c.args.starts.now c.args.flat.now c.requires.row_asked.starts_right c.args.node c.requires.row_asked.within); count = c.row_part.ensures.count ∙ ap (sources_in c.args.key.now c.args.total.now) (part-is c.args.key.now c.args.starts.now c.args.flat.now c.requires.row_asked.starts_right c.args.node c.requires.row_asked.within); kept = c.row_part.ensures.kept }
+
+pub slice_bounds-row_part-end : goal.slice_bounds-row_part-end
+slice_bounds-row_part-end c = part_in c.args.key.now c.args.starts.now c.args.flat.now c.requires.row_asked.starts_right c.args.node c.requires.row_asked.within
