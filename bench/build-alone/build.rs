@@ -2,7 +2,7 @@
 use std::{env, fs, path::PathBuf};
 
 mod whole {
-    include!("../../target/oracle/ferreus_bbfmm/build.rs");
+    include!("../../target/customer/oracle/ferreus_bbfmm/build.rs");
 
     pub fn copy() {
         main()
@@ -25,7 +25,7 @@ fn no_lists(
 
 fn main() {
     if env::var_os("ORACLE_SRC").is_none() {
-        let oracle = fs::canonicalize("../../target/oracle").expect("the customer's Rust");
+        let oracle = fs::canonicalize("../../target/customer/oracle").expect("the customer's Rust");
         // SAFETY: this program has one thread.
         unsafe { env::set_var("ORACLE_SRC", oracle.join("../docs/src/ferreus_bbfmm/src")) };
     }
