@@ -1,7 +1,6 @@
 """./listing: the ways to name a file, the first run, and what is said of a refusal."""
 
 import os
-import platform
 import shutil
 import subprocess
 
@@ -9,32 +8,32 @@ from common import ROOT, TOOLS, ToolTest
 
 
 class Listing(ToolTest):
-    """./listing in a small repository of its own, with a kit whose rt proves nothing and whose program prints a text."""
+    """./listing in a small repository of its own, with an rt that proves nothing and whose program prints a text."""
 
+    # rt's own lines come on standard error, what the program prints on standard output
     RT = """#!/bin/sh
-if [ "$1" = doc ]; then echo "%s/kit/docs/START.md"; exit; fi
-[ "$*" = "check listing" ] || exit 2
-[ ! -e broken ] || { echo "rt: below NOT PROVED"; exit 1; }
-printf 'library below: modules\\nrt: below proved (1 s)\\nrt: listing proved (unchanged since it was last proved)\\n'
-mkdir -p target/bin
-cp ../program target/bin/listing
+[ "$*" = "run" ] && [ "$(pwd -P)" = "$(cd ../../crates/listing && pwd -P)" ] || exit 2
+[ ! -e ../../broken ] || { echo "fn below::f: not proved" >&2; exit 1; }
+printf 'crate below: modules loaded=0 checked=2\nlogic=proved functions=1\n' >&2
+printf 'library below: modules loaded=2\ncrate listing: modules loaded=0 checked=2\nlogic=proved functions=1\n' >&2
+mkdir -p out
+cp ../../../program out/listing
+[ -z "$(cat)" ] || exit 9
+echo refused 15 0
 """
     TEXT = "tree 1 1 1 0 0\n0 0 0 U V\n"
-    CHECKED = "listing: crate 1 of 2: below proved\nlisting: crate 2 of 2: listing proved\n"
+    CHECKED = "listing: below proved (1 of at most 2 crates)\nlisting: listing proved (2 of at most 2 crates)\n"
 
     def setUp(self):
         super().setUp()
-        tools = "kit/on/%s/toolchain/lib" % platform.machine()
-        for name in ("bin", "kit/docs", tools, "house/crates/listing", "house/tools"):
+        for name in ("bin", "house/crates/listing/src", "house/tools"):
             os.makedirs(self.path(name))
-        self.write("bin/rt", self.RT % self.directory.name)
-        self.write(tools + "/ld-linux-x86-64.so.2", '#!/bin/sh\nshift 2\nexec "$@"\n')
-        self.write("house/crates.txt", "# crates\nbelow:\nbeside:\nlisting: below io libc\n")
+        self.write("bin/rt", self.RT)
+        self.write("house/crates.txt", "# crates\nbelow:\nbeside:\nlisting: below check\n")
         shutil.copy(os.path.join(ROOT, "listing"), self.path("house/listing"))
         shutil.copy(os.path.join(ROOT, "VERSION"), self.path("house/VERSION"))
         shutil.copy(os.path.join(TOOLS, "refusals.txt"), self.path("house/tools/refusals.txt"))
-        for name in ("bin/rt", tools + "/ld-linux-x86-64.so.2"):
-            os.chmod(self.path(name), 0o755)
+        os.chmod(self.path("bin/rt"), 0o755)
         self.program(self.TEXT)
         self.write("survey", "any bytes")
 
@@ -46,8 +45,8 @@ cp ../program target/bin/listing
     def run_listing(self, command, built=True):
         """Status, standard output and standard error of a line for the shell."""
         if built:
-            os.makedirs(self.path("house/target/bin"), exist_ok=True)
-            shutil.copy(self.path("program"), self.path("house/target/bin/listing"))
+            os.makedirs(self.path("house/crates/listing/out"), exist_ok=True)
+            shutil.copy(self.path("program"), self.path("house/crates/listing/out/listing"))
         path = self.path("bin") + os.pathsep + os.environ["PATH"]
         result = subprocess.run(["bash", "-c", command], cwd=self.directory.name, env={**os.environ, "PATH": path},
                                 capture_output=True, text=True)
@@ -107,17 +106,24 @@ cp ../program target/bin/listing
         self.assertEqual([int(line.split()[0]) for line in lines if line.split()[1] == "*"], list(range(1, 21)))
 
     def test_first_run(self):
-        """While it proves it tells the crates and the log; then no more, until a crate is changed."""
+        """While it proves it tells the crates and the log; then no more, until a crate is changed. What rt keeps is no change."""
         log = os.path.join(os.path.realpath(self.directory.name), "house/target/listing.log")
         begins = "listing: proving and building the program (once; some minutes); the log is %s\n" % log
         first = (0, self.TEXT, begins + self.CHECKED)
         self.assertEqual(self.run_listing("house/listing survey", built=False), first)
-        self.assertIn("library below: modules\nrt: below proved (1 s)", self.read("house/target/listing.log").decode())
+        self.assertIn("library below: modules loaded=2\ncrate listing:", self.read("house/target/listing.log").decode())
         self.assertEqual(self.run_listing("house/listing survey", built=False), (0, self.TEXT, ""))
-        os.utime(self.path("house/target/bin/listing"), (1, 1))
+        os.utime(self.path("house/crates/listing/out/listing"), (1, 1))
         self.assertEqual(self.run_listing("house/listing survey", built=False), first)
+        self.write("house/crates/listing/out/kept", "")
+        os.utime(self.path("house/crates/listing/out/kept"), (2 ** 32, 2 ** 32))
+        self.assertEqual(self.run_listing("house/listing survey", built=False), (0, self.TEXT, ""))
+        self.write("house/crates/listing/src/main.rt", "")
+        os.utime(self.path("house/crates/listing/src/main.rt"), (2 ** 32, 2 ** 32))
+        self.assertEqual(self.run_listing("house/listing survey", built=False), first)
+        os.remove(self.path("house/crates/listing/src/main.rt"))
         self.write("house/broken", "")
-        os.remove(self.path("house/target/bin/listing"))
+        os.remove(self.path("house/crates/listing/out/listing"))
         status, out, error = self.run_listing("house/listing survey", built=False)
         self.assertEqual((status, out), (1, ""))
         self.assertEqual(error, begins + "listing: the program is not proved or not built: %s says why\n" % log)
