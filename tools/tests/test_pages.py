@@ -22,7 +22,7 @@ class Pages(ToolTest):
         self.assertEqual(drawn, read("docs", "crates.svg"), "run tools/draw-crates > docs/crates.svg")
         for line in read("crates.txt").splitlines():
             if re.match("[a-z]", line):
-                self.assertIn(">%s</text>" % line.split(":")[0], drawn)
+                self.assertIn(">%s</text>" % line.split(":")[0].split()[0], drawn)
 
     def test_flight_lines(self):
         """The sample that is made up is what its script prints."""
