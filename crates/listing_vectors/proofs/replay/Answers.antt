@@ -7,4 +7,4 @@ pub loop-at-smaller : goal.loop-at-smaller
 loop-at-smaller g c = omega (arith, c.part_at-part.ensures.further c.loop-at-test.true, c.loop-at-test.true, c.part_at-part.ensures.inside.1)
 
 pub loop-at-preserved : goal.loop-at-preserved
-loop-at-preserved g c = (omega (arith, c.part_at-part.ensures.further c.loop-at-test.true, c.loop-at.invariant.0), c.part_at-part.ensures.inside.1, c.write_listing.auto.file ∙ c.loop-at.invariant.2)
+loop-at-preserved g c = (omega (arith, c.part_at-part.ensures.further c.loop-at-test.true, c.loop-at.invariant.0), c.part_at-part.ensures.inside.1, c.write_listing.auto.out ∙ c.loop-at.invariant.2)

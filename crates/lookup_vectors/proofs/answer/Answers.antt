@@ -5,13 +5,13 @@ use Rattle.lookup_vectors.proofs.Rooms.{sources-room, targets-room}
 use Rattle.lookup_vectors.proofs.answer.Goals as goal
 
 pub overflow_mul-m : goal.overflow_mul-m
-overflow_mul-m c = omega (arith, (reads c.args.file.now c.read_survey-survey.result c.read_survey-survey.ensures.survey).room)
+overflow_mul-m g c = omega (arith, (reads c.args.file.now c.read_survey-survey.result c.read_survey-survey.ensures.survey).room)
 
 pub overflow_mul-n : goal.overflow_mul-n
-overflow_mul-n c = omega (arith, (reads c.args.file.now c.read_survey-survey.result c.read_survey-survey.ensures.survey).room_2)
+overflow_mul-n g c = omega (arith, (reads c.args.file.now c.read_survey-survey.result c.read_survey-survey.ensures.survey).room_2)
 
 pub slice_bounds-build_rows-end : goal.slice_bounds-build_rows-end
-slice_bounds-build_rows-end c = sources-room c.args.file.now _ c.read_survey-survey.ensures.survey _ c.read_survey-survey.ensures.sources
+slice_bounds-build_rows-end g c = sources-room c.args.file.now _ c.read_survey-survey.ensures.survey _ c.read_survey-survey.ensures.sources
 
 pub slice_bounds-build_rows-end-in-Done : goal.slice_bounds-build_rows-end-in-Done
-slice_bounds-build_rows-end-in-Done c = targets-room c.args.file.now _ c.read_survey-survey.ensures.survey _ c.read_survey-survey.ensures.targets
+slice_bounds-build_rows-end-in-Done g c = targets-room c.args.file.now _ c.read_survey-survey.ensures.survey _ c.read_survey-survey.ensures.targets

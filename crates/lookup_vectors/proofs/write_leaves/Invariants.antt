@@ -4,7 +4,7 @@ use lib.ListN.{length}
 use Rattle.lookup_vectors.proofs.write_leaves.Given as goal
 
 abbrev pub invariant-loop-i : goal.invariant-loop-i
-invariant-loop-i l = l.i ≤ length l.t-3
+invariant-loop-i g l = l.i ≤ length l.leaves
 
 abbrev pub decreases-loop-i : goal.decreases-loop-i
-decreases-loop-i l = length l.t-3 - l.i
+decreases-loop-i g l = length l.leaves - l.i
