@@ -4,7 +4,7 @@
 ghost use Rattle.std.specs.Prelude.{◌≡◌};
 ghost use Rattle.axes.specs.Axes.{axes_known, children_room, neighbours_room, far_room};
 
-#[derive(Drop)]
+#[derive(Clone, Copy)]
 pub struct One;
 
 impl One {
@@ -15,7 +15,7 @@ impl One {
     pub const V_ROOM: usize = 3;
 }
 
-#[derive(Drop)]
+#[derive(Clone, Copy)]
 pub struct Two;
 
 impl Two {
@@ -26,7 +26,7 @@ impl Two {
     pub const V_ROOM: usize = 27;
 }
 
-#[derive(Drop)]
+#[derive(Clone, Copy)]
 pub struct Three;
 
 impl Three {

@@ -49,7 +49,7 @@ pub record Spreading (n : ℕ) (marks own₀ begin₀ own begin total : List ℕ
   pub rest : drop i total ≡ drop i marks
   pub reached : at ≡ sum (map own_marked (take i marks))
 
-module _ (n : ℕ) (marks own₀ begin₀ : List ℕ) (Own-room : n ≤ length own₀) (begin-room : n ≤ length begin₀) (mark-room : n ≤ length marks) (few : sum (map own_marked (take n marks)) ≤ 1048576) where
+module _ (n : ℕ) (marks own₀ begin₀ : List ℕ) (own-room : n ≤ length own₀) (begin-room : n ≤ length begin₀) (mark-room : n ≤ length marks) (few : sum (map own_marked (take n marks)) ≤ 1048576) where
   pub spreading-start : Spreading n marks own₀ begin₀ own₀ begin₀ marks 0 0
   unfolding begin_column range sum
   spreading-start = record { upto = omega arith; own_kept = refl; begin_kept = refl; total_kept = refl; owns = refl; begins = refl; totals = refl; rest = refl; reached = refl }
@@ -88,7 +88,7 @@ module _ (n : ℕ) (marks own₀ begin₀ : List ℕ) (Own-room : n ≤ length o
       own_kept = length-set own i owned ∙ s.own_kept;
       begin_kept = length-set begin i at ∙ s.begin_kept;
       total_kept = length-set total i (get_or total i 0 / 2) ∙ s.total_kept;
-      owns = put (map own_marked (take i marks)) own owned s.owns (omega (arith, s.own_kept, Own-room)) ∙ ap (λ (x : ℕ). map own_marked (take i marks) ++ x ∷ []) owned-is ∙ sym (one_more own_marked);
+      owns = put (map own_marked (take i marks)) own owned s.owns (omega (arith, s.own_kept, own-room)) ∙ ap (λ (x : ℕ). map own_marked (take i marks) ++ x ∷ []) owned-is ∙ sym (one_more own_marked);
       begins =
           put (begin_column (map own_marked (take i marks))) begin at s.begins (omega (arith, s.begin_kept, begin-room))
           ∙ ap (λ (x : ℕ). begin_column (map own_marked (take i marks)) ++ x ∷ []) s.reached

@@ -100,13 +100,13 @@ module _ (d : ℕ) (keys own begin total : List ℕ) (readings : List ℤ) (orde
       pub cells_in : level_of k < length cellss
       cells_in = ride-in d keys cells own begin w i g.some l cellss g.cells-rides
 
-      module _ (x n : ℕ) (sum_is_lem : x ≡ row_lifted keys total begin order readings (row_at vs vk i)) (length_is : n ≡ length (row_at vs vk i)) where
+      module _ (x n : ℕ) (sum-is : x ≡ row_lifted keys total begin order readings (row_at vs vk i)) (length_is : n ≡ length (row_at vs vk i)) where
         met_is : get_or fars (level_of k - 1) 0 + x ≡ far k
         met_is = omega (
           arith,
           ride-above d keys far own begin w i g.some l fars g.far-rides,
           up_more d (λ a. row_lifted keys total begin order readings (row_of keys vs vk a)) k tour-deep,
-          sum_is_lem,
+          sum-is,
           ap (row_lifted keys total begin order readings) (of.row-at d keys own begin total readings order us uk vs vk p vs vk i l),
         )
 

@@ -1,8 +1,6 @@
 -- `row_sums::far_sum` meets its contract.
 use Rattle.row_sums.proofs.Climbing.{Climbing}
 use Rattle.morton.specs.Keys.{level_of}
-use mir.Val.{to_z}
-use mir.Syntax.{w64}
 use lib.ListN.{get_or}
 use Rattle.row_sums.proofs.far_sum.Given as goal
 

@@ -1,7 +1,5 @@
 -- `row_sums::row_sum` meets its contract.
 use Rattle.row_sums.proofs.Walk.{Walking}
-use mir.Val.{to_z}
-use mir.Syntax.{w64}
 use lib.ListN.{length}
 use Prim.Native.Nat.{◌-◌}
 use Rattle.row_sums.proofs.row_sum.Given as goal

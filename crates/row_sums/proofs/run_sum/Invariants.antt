@@ -1,7 +1,5 @@
 -- `row_sums::run_sum` meets its contract.
 use Prim.Native.Nat.{◌-◌}
-use mir.Syntax.{w64}
-use mir.Val.{to_z}
 use Rattle.row_sums.proofs.Runs.{Running}
 use Rattle.row_sums.proofs.run_sum.Given as goal
 
