@@ -1,4 +1,3 @@
 pub mod Checked
-pub mod Answers
 pub mod Placing
 pub mod Laws

@@ -1,25 +1,23 @@
 -- Anchors of valid keys, and keys of anchors that are on their level.
-use mathlib.Core.Path.{◌≡◌, refl, sym, ap, ap₂, ◌∙◌, subst}
-use mathlib.Core.Bool.{Bool, true, false, ◌&&◌}
-use mathlib.Core.List.{List, [], ◌∷◌, map}
-use Prim.Native.Nat.{ℕ, zero, suc, ◌+◌, ◌*◌, ◌-◌, ◌/◌, ◌%◌, ◌^◌, ◌≤◌, ◌<◌}
+use mathlib.Core.Path.{◌≡◌, refl, ap, ap₂, ◌∙◌}
+use mathlib.Core.Bool.{Bool, true, false}
+use mathlib.Core.List.{List, ◌∷◌, map}
+use Prim.Native.Nat.{ℕ, zero, suc, ◌+◌, ◌*◌, ◌-◌, ◌^◌, ◌≤◌, ◌<◌}
 use native.Mathlib.Omega.{arith}
-use native.Mathlib.Nat.{not-suc-le-zero}
 use native.Mathlib.Decide.{dec_lt}
-use lib.Dec.{leb, ltb}
+use lib.Dec.{ltb}
 use lib.ListN.{length, get_or, replicate}
 use lib.Seq.{get_or-append-add}
 use lib.Pow.{pow_mono}
 use borrow.Author.Tests.{ltb-true, le-leb, lt-leb}
 use Rattle.slices.specs.Lists.{range, filled}
-use Rattle.slices.specs.Every.{every}
-use Rattle.slices.proofs.Lists.{get_or-filled, length-filled}
+use Rattle.slices.proofs.Lists.{get_or-filled}
 use Rattle.slices.proofs.Every.{every-at, every-fails, every-next, every-none}
 use Rattle.codes.specs.Anchors.{Bytes2}
 use Rattle.codes.proofs.Codes.{encode_same, encode-ends, encode-lt, anchor-ends, anchor-lt}
 use Rattle.codes.proofs.Entries.{tabled, length-tabled}
-use Rattle.morton.specs.Keys.{level_of, code_of, key, ValidKey}
-use Rattle.morton.specs.Anchors.{anchor, encode, anchors, anchors_of, key_at, on_level, within1, near, on_axes}
+use Rattle.morton.specs.Keys.{level_of, code_of, ValidKey}
+use Rattle.morton.specs.Anchors.{anchor, encode, anchors, anchors_of, on_level, within1, near, on_axes}
 use Rattle.morton.proofs.Checks.{width-le}
 
 -- past its list a filled array has 0

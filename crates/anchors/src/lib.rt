@@ -7,20 +7,12 @@ ghost use Rattle.morton.specs.Keys.{level_of, code_of, ValidKey};
 ghost use Rattle.morton.specs.Anchors.{anchors, key_at, near, on_level, on_axes};
 ghost use Rattle.anchors.specs.Answers.{anchor_check, pair_check, decode_answer, encode_answer, touching_answer};
 
-use morton::{NumberAnswer, keys};
-use refusal::{Outcome, Refusal};
-
-// Whether two cells touch.
-#[derive(Clone, Copy)]
-pub enum TouchAnswer {
-    Touching(bool),
-    Refused(Refusal),
-}
+use morton::keys;
+use refusal::Refusal;
 
 // A cell's anchors by value, those past the axes 0, and its level.
 #[derive(Clone, Copy)]
-pub struct AnchorAnswer {
-    pub outcome: Outcome,
+pub struct Decoded {
     pub anchor: [u64; 3],
     pub level: u64,
 }
@@ -31,9 +23,7 @@ fn on_level(axes: usize, anchor: [u64; 3], level: u64) -> bool
     ensures { result ≡ on_level axes level anchor }
 {
     let end: u64 = 1 << level;
-    let mut n = axes;
-    while 0 < n {
-        n -= 1;
+    for n in (0..axes).rev() {
         if end <= anchor[n] {
             return false;
         }
@@ -42,22 +32,22 @@ fn on_level(axes: usize, anchor: [u64; 3], level: u64) -> bool
 }
 
 // The refusals of an anchor and its level.
-fn check_anchor(axes: usize, anchor: [u64; 3], level: u64) -> Outcome
+fn check_anchor(axes: usize, anchor: [u64; 3], level: u64) -> Result<(), Refusal>
     ensures { result ≡ anchor_check axes level anchor }
 {
     if axes < 1 {
-        return Outcome::Refused(Refusal::Dims);
+        return Err(Refusal::Dims);
     }
     if 3 < axes {
-        return Outcome::Refused(Refusal::Dims);
+        return Err(Refusal::Dims);
     }
     if 16 < level {
-        return Outcome::Refused(Refusal::Key);
+        return Err(Refusal::Key);
     }
     if on_level(axes, anchor, level) {
-        return Outcome::Done;
+        return Ok(());
     }
-    Outcome::Refused(Refusal::Key)
+    Err(Refusal::Key)
 }
 
 // The anchors on the axes, and 0 past them.
@@ -66,10 +56,8 @@ fn on_axes(axes: usize, anchor: [u64; 3]) -> [u64; 3]
     ensures { result ≡ filled 3 (on_axes axes anchor) }
 {
     let mut used = [0u64; 3];
-    let mut a: usize = 0;
-    while a < axes {
+    for a in 0..axes {
         used[a] = anchor[a];
-        a += 1;
     }
     used
 }
@@ -84,14 +72,11 @@ pub fn key_at(axes: usize, anchor: [u64; 3], level: u64) -> u64
 }
 
 // The key of a cell, by its anchors and its level; anchors past the axes are not read.
-pub fn encode_morton_point(axes: usize, anchor: [u64; 3], level: u64) -> NumberAnswer
+pub fn encode_morton_point(axes: usize, anchor: [u64; 3], level: u64) -> Result<u64, Refusal>
     ensures { result ≡ encode_answer axes level anchor }
 {
-    let checked = check_anchor(axes, anchor, level);
-    match checked {
-        Outcome::Refused(refusal) => NumberAnswer::Refused(refusal),
-        Outcome::Done => NumberAnswer::Number(key_at(axes, anchor, level)),
-    }
+    check_anchor(axes, anchor, level)?;
+    Ok(key_at(axes, anchor, level))
 }
 
 // The anchors of a valid key.
@@ -103,25 +88,14 @@ pub fn anchors_of(axes: usize, key: u64) -> [u64; 3]
 }
 
 // The anchors and the level of a cell.
-pub fn decode_key(axes: usize, key: u64) -> AnchorAnswer
+pub fn decode_key(axes: usize, key: u64) -> Result<Decoded, Refusal>
     ensures { result ≡ decode_answer axes key }
 {
-    let checked = keys::check_key(axes, key);
-    match checked {
-        Outcome::Refused(refusal) => AnchorAnswer {
-            outcome: Outcome::Refused(refusal),
-            anchor: [0u64; 3],
-            level: 0,
-        },
-        Outcome::Done => {
-            let anchor = anchors_of(axes, key);
-            AnchorAnswer {
-                outcome: Outcome::Done,
-                anchor,
-                level: keys::level_of(key),
-            }
-        }
-    }
+    keys::check_key(axes, key)?;
+    Ok(Decoded {
+        anchor: anchors_of(axes, key),
+        level: keys::level_of(key),
+    })
 }
 
 // Whether two cells of one level touch: no anchors more than 1 apart.
@@ -131,9 +105,7 @@ pub fn touch_at_level(axes: usize, a: u64, b: u64) -> bool
 {
     let p = anchors_of(axes, a);
     let q = anchors_of(axes, b);
-    let mut n = axes;
-    while 0 < n {
-        n -= 1;
+    for n in (0..axes).rev() {
         if q[n] + 1 < p[n] {
             return false;
         }
@@ -145,28 +117,20 @@ pub fn touch_at_level(axes: usize, a: u64, b: u64) -> bool
 }
 
 // The refusals of two keys.
-fn check_pair(axes: usize, a: u64, b: u64) -> Outcome
+fn check_pair(axes: usize, a: u64, b: u64) -> Result<(), Refusal>
     ensures { result ≡ pair_check axes a b }
 {
-    let first = keys::check_key(axes, a);
-    match first {
-        Outcome::Refused(refusal) => Outcome::Refused(refusal),
-        Outcome::Done => keys::check_key(axes, b),
-    }
+    keys::check_key(axes, a)?;
+    keys::check_key(axes, b)
 }
 
 // Whether two cells touch; cells of different levels do not.
-pub fn touching(axes: usize, a: u64, b: u64) -> TouchAnswer
+pub fn touching(axes: usize, a: u64, b: u64) -> Result<bool, Refusal>
     ensures { result ≡ touching_answer axes a b }
 {
-    let checked = check_pair(axes, a, b);
-    match checked {
-        Outcome::Refused(refusal) => TouchAnswer::Refused(refusal),
-        Outcome::Done => {
-            if keys::level_of(a) == keys::level_of(b) {
-                return TouchAnswer::Touching(touch_at_level(axes, a, b));
-            }
-            TouchAnswer::Touching(false)
-        }
+    check_pair(axes, a, b)?;
+    if keys::level_of(a) == keys::level_of(b) {
+        return Ok(touch_at_level(axes, a, b));
     }
+    Ok(false)
 }

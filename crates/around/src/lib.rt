@@ -101,12 +101,10 @@ pub fn around_of(
     ensures { FrameIn axes key.now own.now p frame.new result }
 {
     let mut m: usize = 0;
-    let mut i: usize = 0;
-    while i < c {
+    for i in 0..c {
         m = put_children(
             axes, key, own, total, links, listed[i], spots[i], spot, frame, m,
         );
-        i += 1;
     }
     m
 }
@@ -159,6 +157,7 @@ fn store_parts(
     let mut m = f;
     let mut t: usize = 0;
     let mut j: usize = 0;
+    // Kept as a while: a turn takes four entries or one, so a for would need a second loop.
     while j < c {
         let one = store_part(key, nodes, masks, j, s, far, m, near, t);
         j += 1;
@@ -195,15 +194,12 @@ fn try_parts(
 {
     let mut m = f;
     let mut t: usize = 0;
-    let mut j: usize = 0;
-    while j < c {
+    for j in 0..c {
         if (masks[j] >> s) % 2 == 1 {
             near[t] = j;
             t += 1;
-            j += 1;
         } else {
             m = sourced::put(far, m, key[nodes[j]]);
-            j += 1;
         }
     }
     Parted { far: m, near: t }
@@ -257,18 +253,15 @@ pub fn split_near(
 {
     let mut m = o;
     let mut k: usize = 0;
-    let mut i: usize = 0;
-    while i < t {
+    for i in 0..t {
         let at = near[i];
         let node = nodes[at];
         if links::has_children(key, node) {
             inner[k] = node;
             spots[k] = places[at] as u64;
             k += 1;
-            i += 1;
         } else {
             m = sourced::put(owners, m, key[node]);
-            i += 1;
         }
     }
     Split {

@@ -21,14 +21,7 @@ pub fn bit_at(b: usize) -> u64
 fn all_below(order: &[usize], n: usize) -> bool
     ensures { Tells (AllBelow order.now n) result }
 {
-    let mut i: usize = 0;
-    while i < order.len() {
-        if n <= order[i] {
-            return false;
-        }
-        i += 1;
-    }
-    true
+    order.iter().all(|index| *index < n)
 }
 
 // Whether no index of the window that starts at `from` stands twice.
@@ -36,23 +29,17 @@ fn once_from(order: &[usize], from: usize) -> bool
     ensures { Tells (OnceFrom order.now from) result }
 {
     let mut seen = [0u64; 2048];
-    let mut i: usize = 0;
-    while i < order.len() {
-        let index = order[i];
-        if index < from {
-            i += 1;
-        } else if WINDOW <= index - from {
-            i += 1;
-        } else {
-            let at = index - from;
-            let word = at / 64;
-            let old = seen[word];
-            if (old >> (at % 64)) % 2 != 0 {
-                return false;
-            }
-            seen[word] = old + bit_at(at % 64);
-            i += 1;
+    for &index in order {
+        if index < from || WINDOW <= index - from {
+            continue;
         }
+        let at = index - from;
+        let word = at / 64;
+        let old = seen[word];
+        if (old >> (at % 64)) % 2 != 0 {
+            return false;
+        }
+        seen[word] = old + bit_at(at % 64);
     }
     true
 }
@@ -67,15 +54,10 @@ pub fn is_arrangement(order: &[usize], n: usize) -> bool
     if !all_below(order, n) {
         return false;
     }
-    let mut from: usize = 0;
-    while from < n {
-        if !once_from(order, from) {
+    for window in 0..n.div_ceil(WINDOW) {
+        if !once_from(order, window * WINDOW) {
             return false;
         }
-        if n - from <= WINDOW {
-            return true;
-        }
-        from += WINDOW;
     }
     true
 }

@@ -44,38 +44,35 @@ pub fn axes_known(axes: usize) -> bool
     1 <= axes && axes <= 3
 }
 
-// How many children a cell has; 0 where the number of axes is not 1 to 3, as in the two below.
+// Children, neighbours and V room of so many axes; 0 where their number is not 1 to 3.
+fn figures(axes: usize) -> (usize, usize, usize)
+    ensures { result ≡ (children_room axes, neighbours_room axes, far_room axes) }
+{
+    match axes {
+        1 => (One::CHILDREN, One::NEIGHBOURS, One::V_ROOM),
+        2 => (Two::CHILDREN, Two::NEIGHBOURS, Two::V_ROOM),
+        3 => (Three::CHILDREN, Three::NEIGHBOURS, Three::V_ROOM),
+        _ => (0, 0, 0),
+    }
+}
+
+// How many children a cell has.
 pub fn children_of(axes: usize) -> usize
     ensures { result ≡ children_room axes }
 {
-    match axes {
-        1 => One::CHILDREN,
-        2 => Two::CHILDREN,
-        3 => Three::CHILDREN,
-        _ => 0,
-    }
+    figures(axes).0
 }
 
 // How many neighbours a cell has, those off the box counted.
 pub fn neighbours_of(axes: usize) -> usize
     ensures { result ≡ neighbours_room axes }
 {
-    match axes {
-        1 => One::NEIGHBOURS,
-        2 => Two::NEIGHBOURS,
-        3 => Three::NEIGHBOURS,
-        _ => 0,
-    }
+    figures(axes).1
 }
 
 // How many cells a V row has at most.
 pub fn v_room(axes: usize) -> usize
     ensures { result ≡ far_room axes }
 {
-    match axes {
-        1 => One::V_ROOM,
-        2 => Two::V_ROOM,
-        3 => Three::V_ROOM,
-        _ => 0,
-    }
+    figures(axes).2
 }

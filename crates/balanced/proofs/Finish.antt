@@ -11,8 +11,6 @@ use lib.ListN.{length, get_or, take, replicate}
 use borrow.Author.Tests.{le-leb, lt-leb}
 use Rattle.refusal.specs.declared.Refusal.{Refusal}
 use Rattle.refusal.specs.declared.Refusal.TheVariants.{Room}
-use Rattle.refusal.specs.declared.Outcome.{Outcome}
-use Rattle.refusal.specs.declared.Outcome.TheVariants.{Done, Refused}
 use Rattle.refusal.specs.Left.{left}
 use Rattle.slices.specs.Lists.{any, Mem, filled}
 use Rattle.slices.specs.Every.{every}
@@ -41,11 +39,16 @@ use Rattle.balance.proofs.Stored as S
 use Rattle.balancing.specs.Walk.{Put}
 use Rattle.settling.specs.Settled.{Settles}
 use Rattle.balanced.specs.Given.{is_given}
-use Rattle.balanced.specs.Outcomes.{given_check, new_keys, balance_outcome, Started, tree_or}
-use Rattle.balanced.specs.declared.Balanced.TheVariants.{Tree as NewTree, Refused as NotBalanced}
+use Rattle.balanced.specs.Outcomes.{given_check, new_keys, balance_outcome, Started}
+use Rattle.growth.specs.declared.Grown.{Grown}
+use Rattle.growth.specs.Grown.{grown}
+use Rattle.refusal.specs.Chain.{◌then◌}
+use Rattle.refusal.proofs.Chain.{after-done}
 use Rattle.tree.specs.Order.{depth_of}
 use Rattle.balanced.proofs.Tests.{codes-lt}
 use Rattle.balanced.proofs.Verdict.{Passed, passed}
+use Rattle.refusal.specs.Outcome.{Answer, Outcome, accepted}
+use Rattle.std.specs.Prelude.{Err, Ok}
 
 -- the root is split if a leaf is stored
 root-cell : (d k : ℕ) → ValidKey d k → cell_at d 0 k ≡ 0
@@ -59,7 +62,7 @@ root-above d keys t k lf =
     let f = leaf-facts d keys k lf in
     S.split-over d keys t 0 k (root-cell d k (t.sound k f.mem)) f.mem (deep d keys t k f.mem f.below)
 
-module _ (b : Box) (points : List Float) (keys own begin total order : List ℕ) (ok : given_check b points (columns keys own begin total) order ≡ Done) where
+module _ (b : Box) (points : List Float) (keys own begin total order : List ℕ) (ok : given_check b points (columns keys own begin total) order ≡ accepted) where
   p : Passed b points keys own begin total order
   p = passed b points keys own begin total order ok
 
@@ -87,21 +90,21 @@ module _ (b : Box) (points : List Float) (keys own begin total order : List ℕ)
   }
 
   module _ (work places room : ℕ) where
-    pub short-work : work < rows_of b points + rows_of b points → Refused (Room 1) ≡ balance_outcome b points (columns keys own begin total) order work places room
+    pub short-work : work < rows_of b points + rows_of b points → Err (Room 1) ≡ balance_outcome b points (columns keys own begin total) order work places room
     unfolding balance_outcome
     short-work h = rw (ok, lt-leb (rows_of b points + rows_of b points) work h)
 
     module _ (w : rows_of b points + rows_of b points ≤ work) where
-      pub short-order : places < rows_of b points → Refused (Room 2) ≡ balance_outcome b points (columns keys own begin total) order work places room
+      pub short-order : places < rows_of b points → Err (Room 2) ≡ balance_outcome b points (columns keys own begin total) order work places room
       unfolding balance_outcome
       short-order h = rw (ok, le-leb (rows_of b points + rows_of b points) work w, lt-leb (rows_of b points) places h)
 
       module _ (o : rows_of b points ≤ places) (n : ℕ) (key : List ℕ) (c : Put b.axes keys room n key) where
-        pub short-nodes : room < n → Refused (Room 3) ≡ balance_outcome b points (columns keys own begin total) order work places room
+        pub short-nodes : room < n → Err (Room 3) ≡ balance_outcome b points (columns keys own begin total) order work places room
         unfolding balance_outcome
         short-nodes h = rw (ok, le-leb (rows_of b points + rows_of b points) work w, le-leb (rows_of b points) places o, lt-leb (length (balanced_cells b.axes keys)) room (omega (arith, c.counted)))
 
-        pub all-put : n ≤ room → Done ≡ balance_outcome b points (columns keys own begin total) order work places room
+        pub all-put : n ≤ room → accepted ≡ balance_outcome b points (columns keys own begin total) order work places room
         unfolding balance_outcome
         all-put h = rw (ok, le-leb (rows_of b points + rows_of b points) work w, le-leb (rows_of b points) places o, le-leb (length (balanced_cells b.axes keys)) room (omega (arith, c.counted)))
 
@@ -115,25 +118,25 @@ module _ (b : Box) (points : List Float) (keys own begin total order : List ℕ)
           settles = settles;
         }
 
-pub given-refused : (b : Box) (points : List Float) (t : Columns) (order : List ℕ) (work places room : ℕ) (r : Refusal) → given_check b points t order ≡ Refused r → Refused r ≡ balance_outcome b points t order work places room
+pub given-refused : (b : Box) (points : List Float) (t : Columns) (order : List ℕ) (work places room : ℕ) (r : Refusal) → given_check b points t order ≡ Err r → Err r ≡ balance_outcome b points t order work places room
 unfolding balance_outcome
 given-refused b points t order work places room r e = rw e
 
 -- ---- the slices at the end
 
-pub left-refused : (o : Outcome) (x : Refusal) → o ≡ Refused x → (n : ℕ) (xs ys : List ℕ) → ys ≡ replicate n 0 → ys ≡ left o n xs
+pub left-refused : (o : Outcome) (x : Refusal) → o ≡ Err x → (n : ℕ) (xs ys : List ℕ) → ys ≡ replicate n 0 → ys ≡ left o n xs
 left-refused o x z n xs ys e = e ∙ sym (ap (λ (p : Outcome). left p n xs) z)
 
-pub left-done : (o : Outcome) → o ≡ Done → (n : ℕ) (xs zs ys : List ℕ) → zs ≡ xs → ys ≡ filled n zs → ys ≡ left o n xs
+pub left-done : (o : Outcome) → o ≡ accepted → (n : ℕ) (xs zs ys : List ℕ) → zs ≡ xs → ys ≡ filled n zs → ys ≡ left o n xs
 left-done o z n xs zs ys q e = e ∙ ap (filled n) q ∙ sym (ap (λ (p : Outcome). left p n xs) z)
 
-pub left-keys : (o : Outcome) → o ≡ Done → (m n : ℕ) (xs key ys : List ℕ) → n ≡ length xs → take n key ≡ xs → length key ≡ m → ys ≡ take n key ++ replicate (length key - n) 0 → ys ≡ left o m xs
+pub left-keys : (o : Outcome) → o ≡ accepted → (m n : ℕ) (xs key ys : List ℕ) → n ≡ length xs → take n key ≡ xs → length key ≡ m → ys ≡ take n key ++ replicate (length key - n) 0 → ys ≡ left o m xs
 left-keys o z m n xs key ys e q k h =
     h ∙ ap (λ (zs : List ℕ). zs ++ replicate (length key - n) 0) q ∙ ap (λ (i : ℕ). xs ++ replicate (i - n) 0) k ∙ ap (λ (i : ℕ). xs ++ replicate (m - i) 0) e
     ∙ sym (ap (λ (p : Outcome). left p m xs) z)
 
-pub answer-refused : (o : Outcome) (x : Refusal) (xs : List ℕ) → o ≡ Refused x → NotBalanced x ≡ tree_or o xs
-answer-refused o x xs z = sym (ap (λ (p : Outcome). tree_or p xs) z)
-
-pub answer-done : (o : Outcome) → o ≡ Done → (n depth : ℕ) (xs zs : List ℕ) → n ≡ length xs → zs ≡ xs → depth ≡ depth_of zs → NewTree n depth ≡ tree_or o xs
-answer-done o z n depth xs zs e q h = ap₂ NewTree e (h ∙ ap depth_of q) ∙ sym (ap (λ (p : Outcome). tree_or p xs) z)
+pub answer-done : (o : Outcome) → o ≡ accepted → (n depth : ℕ) (xs zs : List ℕ) → n ≡ length xs → zs ≡ xs → depth ≡ depth_of zs → Ok (record { nodes = n; depth = depth }) ≡ o then Ok (grown xs)
+answer-done o z n depth xs zs e q h = ap₂ tree e (h ∙ ap depth_of q) ∙ sym (after-done o (Ok (grown xs)) z)
+  where
+    tree : ℕ → ℕ → Answer Grown
+    tree n depth = Ok (record { nodes = n; depth = depth })

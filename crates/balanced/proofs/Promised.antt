@@ -8,7 +8,6 @@ use lib.Dec.{eqb}
 use lib.Ieee.{Float}
 use lib.ListN.{length, get_or}
 use borrow.Author.Tests.{eqb-true}
-use Rattle.refusal.specs.declared.Outcome.TheVariants.{Done}
 use Rattle.slices.specs.Lists.{range}
 use Rattle.slices.specs.Order.{ascending}
 use Rattle.slices.proofs.Counts.{pos-count}
@@ -35,6 +34,7 @@ use Rattle.balanced.specs.Outcomes.{given_check, new_keys, new_own, new_begins, 
 use Rattle.balanced.proofs.Tests.{beside, own-given, order-given, begin-given, total-given}
 use Rattle.balanced.proofs.Verdict.{passed}
 use Rattle.balanced.proofs.Finish.{keys-known, settles}
+use Rattle.refusal.specs.Outcome.{accepted}
 
 -- the tree that the call writes
 module _ (b : Box) (points : List Float) (t : Columns) (order : List ℕ) where
@@ -65,7 +65,7 @@ module _ (b : Box) (points : List Float) (t : Columns) (order : List ℕ) where
     pub totals : new_totals b points t order ≡ t.total
     pub places : new_order_of b points t order ≡ order
 
-module _ (b : Box) (points : List Float) (keys own begin total order : List ℕ) (ok : given_check b points (columns keys own begin total) order ≡ Done) where
+module _ (b : Box) (points : List Float) (keys own begin total order : List ℕ) (ok : given_check b points (columns keys own begin total) order ≡ accepted) where
   -- it contains all cells of the given tree, is balanced, and every tree with these properties contains it
   pub is-least : Balances b.axes keys (new_keys b points (columns keys own begin total) order)
   is-least = B.balances-depth-first b.axes keys (B.tree_of b.axes keys (keys-known b points keys own begin total order ok))

@@ -49,9 +49,9 @@ use Rattle.leaf_search.proofs.Leaves.{leaf-told}
 use Rattle.lookup.proofs.Leaves.{climb-le, found-leaf, held-leaf}
 use Rattle.tree.specs.Order.{depth_of}
 use Rattle.growth.proofs.Held.{leaf-mem}
-use Rattle.tree.specs.declared.Found.TheVariants.{At}
 use Rattle.balance.proofs.Balance.{tree_of}
 use Rattle.balanced.specs.Given.{all_or_none, is_full, same, is_given}
+use Rattle.std.specs.Prelude.{Some}
 
 -- an answer that tells P is the test that says P
 pub tells-test : {P : Type 0} (r test : Bool) → Tells P r → (P → test ≡ true) → (test ≡ true → P) → r ≡ test
@@ -129,7 +129,7 @@ module _ (d : ℕ) (s keys own begin order : List ℕ) (tk : TreeKeys d keys) (b
       let (j, lj, e) = leaf-mem d keys k lf in
       let hj : holds d (get_or keys j 0) (get_or s i 0) ≡ true = rw e h in
       let lj2 : leaf d keys (get_or keys j 0) ≡ true = rw e lf in
-      (found-leaf d keys tk (get_or s i 0) (At j) (leaf-told d keys tk (get_or s i 0) j lj (both hj lj2)) j refl).0
+      (found-leaf d keys tk (get_or s i 0) (Some j) (leaf-told d keys tk (get_or s i 0) j lj (both hj lj2)) j refl).0
 
   leaf-in : (held' : (i : ℕ) → i < length s → held d keys (get_or s i 0) ≡ true) → B.InLeaves d s keys
   leaf-in f c (i, l, e) =

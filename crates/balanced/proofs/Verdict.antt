@@ -10,15 +10,12 @@ use lib.ListN.{length, take}
 use borrow.Author.Tests.{leb-true, le-leb, lt-leb, eqb-true, eq-eqb, ne_eqb}
 use Rattle.refusal.specs.declared.Refusal.{Refusal}
 use Rattle.refusal.specs.declared.Refusal.TheVariants.{Shape, Count, Tree, Partial, Source, NotBuilt, Room}
-use Rattle.refusal.specs.declared.Outcome.{Outcome}
-use Rattle.refusal.specs.declared.Outcome.TheVariants.{Done, Refused}
 use Rattle.refusal.specs.Chain.{ask, ◌then◌}
-use Rattle.refusal.proofs.Chain.{asked, both-done, after-done, after-refused}
+use Rattle.refusal.proofs.Chain.{asked, both-done, after-done, after-refused, never}
 use Rattle.refusal.specs.declared.Wall.{Wall}
 use Rattle.slices.proofs.Tests.{and_r, clash}
 use Rattle.morton.specs.Keys.{axes_known}
 use Rattle.space.specs.declared.Box.{Box}
-use Rattle.space.specs.declared.Rows.TheVariants.{Inside, Outside}
 use Rattle.space.specs.Domain.{box_outcome}
 use Rattle.space.specs.Cells.{frame_of}
 use Rattle.space.specs.Rows.{rows_of, rows_inside, wall_of, first_outside, most_points}
@@ -35,22 +32,26 @@ use Rattle.sums.specs.Tells.{Tells}
 use Rattle.full.specs.Full.{Full}
 use Rattle.points_right.specs.Points.{point_in, PointsRight}
 use Rattle.balanced.specs.Given.{is_full, is_given}
+use Rattle.laying.proofs.Inside.{walled}
 use Rattle.balanced.specs.Outcomes.{given_check}
 use Rattle.balanced.proofs.Tests.{tells-test, full-test, test-full, points-given}
+use Rattle.refusal.specs.Outcome.{Outcome, accepted}
+use Rattle.std.specs.Prelude.{Err, Ok}
+use Rattle.space.specs.Inside.{Inside, all_inside}
 
-pub shape-fine : (b : Box) (n : ℕ) → shape_outcome b n ≡ Done → Fine b × (n / b.axes ≤ most_points)
+pub shape-fine : (b : Box) (n : ℕ) → shape_outcome b n ≡ accepted → Fine b × (n / b.axes ≤ most_points)
 unfolding shape_outcome
 shape-fine b n e =
     let third = both-done _ (ask (leb (n / b.axes) most_points) Count) e in
     (fine b (both-done (box_outcome b) (ask (eqb (n % b.axes) 0) Shape) third.0).0, leb-true (n / b.axes) most_points (asked (leb (n / b.axes) most_points) Count third.1))
 
 module _ (b : Box) (points : List Float) (keys own begin total order : List ℕ) (o : Outcome) (q : o ≡ shape_outcome b (length points)) where
-  pub shape-refused : (r : Refusal) → o ≡ Refused r → Refused r ≡ given_check b points (columns keys own begin total) order
+  pub shape-refused : (r : Refusal) → o ≡ Err r → Err r ≡ given_check b points (columns keys own begin total) order
   unfolding given_check
-  shape-refused r e = let f : shape_outcome b (length points) ≡ Refused r = sym q ∙ e in rw f
+  shape-refused r e = let f : shape_outcome b (length points) ≡ Err r = sym q ∙ e in rw f
 
-  module _ (dn : o ≡ Done) where
-    shaped : shape_outcome b (length points) ≡ Done
+  module _ (dn : o ≡ accepted) where
+    shaped : shape_outcome b (length points) ≡ accepted
     shaped = sym q ∙ dn
 
     pub box-fine : Fine b
@@ -63,7 +64,7 @@ module _ (b : Box) (points : List Float) (keys own begin total order : List ℕ)
       rule : well_formed b.axes keys own begin total ≡ w
       rule = R.by-rule b.axes keys own begin total known _ refl ∙ sym e
 
-      pub not-tree : w ≡ false → Refused Tree ≡ given_check b points (columns keys own begin total) order
+      pub not-tree : w ≡ false → Err Tree ≡ given_check b points (columns keys own begin total) order
       unfolding given_check
       not-tree f = let t : well_formed b.axes keys own begin total ≡ false = rule ∙ f in rw (shaped, t)
 
@@ -78,19 +79,26 @@ module _ (b : Box) (points : List Float) (keys own begin total order : List ℕ)
           full : u ≡ is_full b.axes keys
           full = tells-test u (is_full b.axes keys) h (full-test b.axes keys) (test-full b.axes keys)
 
-          pub partial : u ≡ false → Refused Partial ≡ given_check b points (columns keys own begin total) order
+          pub partial : u ≡ false → Err Partial ≡ given_check b points (columns keys own begin total) order
           unfolding given_check
           partial g = let t : is_full b.axes keys ≡ false = sym full ∙ g in rw (shaped, formed, t)
 
           module _ (g : u ≡ true) where
-            pub outside : (wall : Wall) → first_outside (rows_of b points) (frame_of b) points ≡ Outside wall → Refused (Source wall) ≡ given_check b points (columns keys own begin total) order
+            outside-wall : (wall : Wall) → first_outside (rows_of b points) (frame_of b) points ≡ Err wall → Err (Source wall) ≡ given_check b points (columns keys own begin total) order
             unfolding given_check
-            outside wall i =
+            outside-wall wall i =
                 let t : is_full b.axes keys ≡ true = sym full ∙ g in
                 let p = one_outside (rows_of b points) wall (frame_of b) points i in
                 rw (shaped, formed, t, ne_eqb (rows_inside b points) (rows_of b points) (λ z. omega (arith, p.1, z)), p.0)
 
-            module _ (i : first_outside (rows_of b points) (frame_of b) points ≡ Inside) (v : Bool) (p : Tells (PointsRight (rows_of b points) (point_in (frame_of b) points) keys own begin order) v) where
+            pub outside : (r : Refusal) → walled Source (first_outside (rows_of b points) (frame_of b) points) ≡ Err r → Err r ≡ given_check b points (columns keys own begin total) order
+            outside r e = go (first_outside (rows_of b points) (frame_of b) points) refl e
+              where
+                go : (i : Inside) → first_outside (rows_of b points) (frame_of b) points ≡ i → walled Source i ≡ Err r → Err r ≡ given_check b points (columns keys own begin total) order
+                go (Err w) i e = sym e ∙ outside-wall w i
+                go (Ok x) i e = absurd (never r (sym e))
+
+            module _ (i : first_outside (rows_of b points) (frame_of b) points ≡ all_inside) (v : Bool) (p : Tells (PointsRight (rows_of b points) (point_in (frame_of b) points) keys own begin order) v) where
               all : rows_inside b points ≡ rows_of b points
               all = all-inside (rows_of b points) (frame_of b) points i
 
@@ -103,10 +111,10 @@ module _ (b : Box) (points : List Float) (keys own begin total order : List ℕ)
                   let t : is_full b.axes keys ≡ true = sym full ∙ g in
                   rw (shaped, formed, t, eq-eqb (rows_inside b points) (rows_of b points) all, e)
 
-              pub not-given : v ≡ false → Refused NotBuilt ≡ given_check b points (columns keys own begin total) order
+              pub not-given : v ≡ false → Err NotBuilt ≡ given_check b points (columns keys own begin total) order
               not-given z = verdict false (sym given ∙ z)
 
-              pub all-given : v ≡ true → Done ≡ given_check b points (columns keys own begin total) order
+              pub all-given : v ≡ true → accepted ≡ given_check b points (columns keys own begin total) order
               all-given z = verdict true (sym given ∙ z)
 
 -- what is known where nothing is refused
@@ -119,7 +127,7 @@ pub record Passed (b : Box) (points : List Float) (keys own begin total order : 
   pub inside : rows_inside b points ≡ rows_of b points
   pub given : is_given b.axes keys own order (codes_of b points) ≡ true
 
-pub passed : (b : Box) (points : List Float) (keys own begin total order : List ℕ) → given_check b points (columns keys own begin total) order ≡ Done → Passed b points keys own begin total order
+pub passed : (b : Box) (points : List Float) (keys own begin total order : List ℕ) → given_check b points (columns keys own begin total) order ≡ accepted → Passed b points keys own begin total order
 unfolding given_check
 passed b points keys own begin total order e =
     let p4 = both-done _ (ask (is_given b.axes keys own order (codes_of b points)) NotBuilt) e in

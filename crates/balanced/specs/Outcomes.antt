@@ -1,28 +1,22 @@
 -- Document 02, order 9: the refusals of the call in the order 1, 2, 3, 4, 13, 19, 6, 18, 8, its answer, and what it leaves in the lent slices.
-use Rattle.std.specs.Prelude.{◌≡◌, List, ℕ, ◌+◌, ◌≤◌, min, leb, eqb, Float, length, take}
+use Rattle.std.specs.Prelude.{◌≡◌, List, ℕ, ◌+◌, ◌≤◌, leb, eqb, Float, length, take, Ok}
 use Rattle.refusal.specs.declared.Refusal.TheVariants.{Tree, Partial, Source, NotBuilt, Room}
-use Rattle.refusal.specs.declared.Outcome.{Outcome}
-use Rattle.refusal.specs.declared.Outcome.TheVariants.{Done, Refused}
 use Rattle.refusal.specs.Chain.{ask, ◌then◌}
 use Rattle.refusal.specs.Left.{left}
 use Rattle.space.specs.declared.Box.{Box}
 use Rattle.space.specs.Rows.{rows_of, rows_inside, wall_of}
 use Rattle.laying.specs.Points.{codes_of}
 use Rattle.lookup.specs.Work.{shape_outcome}
-use Rattle.tree.specs.Columns.{Columns}
-use Rattle.tree.specs.Order.{depth_of}
+use Rattle.tree.specs.Columns.{Columns, node_room}
 use Rattle.tree.specs.Totals.{total_column}
 use Rattle.tree.specs.WellFormed.{well_formed}
+use Rattle.growth.specs.declared.Grown.{Grown}
+use Rattle.growth.specs.Grown.{grown}
 use Rattle.growth.specs.Columns.{own_column, begin_column, order_column}
 use Rattle.balance.specs.Splitting.{balanced_cells}
 use Rattle.settling.specs.Settled.{Settles}
-use Rattle.balanced.specs.declared.Balanced.{Balanced}
-use Rattle.balanced.specs.declared.Balanced.TheVariants.{Tree as NewTree, Refused as NotBalanced}
 use Rattle.balanced.specs.Given.{is_full, is_given}
-
--- the shortest of the four node columns, of which at most 1,048,576 entries count
-abbrev pub node_room : ℕ → ℕ → ℕ → ℕ → ℕ
-node_room key own begin total = min 1048576 (min key (min own (min begin total)))
+use Rattle.refusal.specs.Outcome.{Answer, Outcome}
 
 -- how many entries the lent slices have
 pub record Rooms : Type 0 where
@@ -36,10 +30,6 @@ pub record Rooms : Type 0 where
 abbrev pub rooms : (work order keys own begins totals : List ℕ) → Rooms
 rooms work order keys own begins totals =
     record { work = length work; order = length order; keys = length keys; own = length own; begins = length begins; totals = length totals }
-
-abbrev pub tree_or : Outcome → List ℕ → Balanced
-tree_or Done keys = NewTree (length keys) (depth_of keys)
-tree_or (Refused r) keys = NotBalanced r
 
 module _ (b : Box) (points : List Float) (t : Columns) (order : List ℕ) where
   -- 1, 2, 3, 4, 13, 19 PARTIAL, 6, 18 NOTBUILT
@@ -89,8 +79,8 @@ module _ (b : Box) (points : List Float) (t : Columns) (order : List ℕ) where
     balance_check = balance_outcome r.work r.order (node_room r.keys r.own r.begins r.totals)
 
     -- the number of nodes and the depth, or the refusal
-    abbrev pub balance_answer : Balanced
-    balance_answer = tree_or balance_check new_keys
+    abbrev pub balance_answer : Answer Grown
+    balance_answer = balance_check then Ok (grown new_keys)
 
     abbrev pub order_left : List ℕ
     order_left = left balance_check r.order new_order_of

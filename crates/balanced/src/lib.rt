@@ -1,39 +1,14 @@
 #![tactic(auto)]
 
 // The balanced tree: document 02, order 9.
-ghost use Rattle.std.specs.Prelude.{◌≡◌, ◌≤◌, ◌<◌, min, length, replicate};
-ghost use Rattle.refusal.specs.declared.Outcome.TheVariants.{Done, Refused};
+ghost use Rattle.std.specs.Prelude.{◌≡◌, ◌≤◌, ◌<◌, length, replicate, IfOk};
+ghost use Rattle.refusal.specs.Outcome.{ending};
 ghost use Rattle.tree.specs.Columns.{columns};
-ghost use Rattle.balanced.specs.Outcomes.{node_room, rooms, given_check, balance_outcome, Started as StartedWith, balance_answer, order_left, keys_left, own_left, begins_left, totals_left};
+ghost use Rattle.balanced.specs.Outcomes.{rooms, given_check, balance_outcome, Started as StartedWith, balance_answer, order_left, keys_left, own_left, begins_left, totals_left};
 
-use refusal::{Outcome, Refusal};
-use space::{Box, Rows};
-
-pub const MOST_NODES: usize = 1048576;
-
-// The number of nodes and the depth, or why there is no tree.
-#[derive(Clone, Copy)]
-pub enum Balanced {
-    Tree(usize, u64),
-    Refused(Refusal),
-}
-
-// The smaller of two numbers.
-fn smaller(a: usize, b: usize) -> usize
-    ensures { result ≡ min a b }
-{
-    if a < b { a } else { b }
-}
-
-// How many entries of the node columns count.
-fn node_room(key: usize, own: usize, begin: usize, total: usize) -> usize
-    ensures { result ≡ node_room key own begin total }
-{
-    smaller(
-        MOST_NODES,
-        smaller(key, smaller(own, smaller(begin, total))),
-    )
-}
+use growth::Grown;
+use refusal::Refusal;
+use space::Box;
 
 // Why the tree and its points are refused, if they are: with no room lent.
 fn given_outcome(
@@ -44,48 +19,25 @@ fn given_outcome(
     begin: &[usize],
     total: &[usize],
     indices: &[usize],
-) -> Outcome
+) -> Result<(), Refusal>
     ensures { result ≡ given_check b points.now (columns key.now own.now begin.now total.now) indices.now }
 {
-    let shaped = lookup::shape_outcome(b, points.len());
-    if let Outcome::Refused(refusal) = shaped {
-        return Outcome::Refused(refusal);
-    }
+    lookup::shape_outcome(b, points.len())?;
     let axes = b.axes;
     if !tree::is_well_formed(axes, key, own, begin, total) {
-        return Outcome::Refused(Refusal::Tree);
+        return Err(Refusal::Tree);
     }
     if !full::is_full(axes, key) {
-        return Outcome::Refused(Refusal::Partial);
+        return Err(Refusal::Partial);
     }
-    let tested = laying::first_outside(b, points);
-    if let Rows::Outside(wall) = tested {
-        return Outcome::Refused(Refusal::Source(wall));
-    }
+    laying::first_outside(b, points).map_err(Refusal::Source)?;
     if !points_right::points_right(b, points, key, own, begin, total, indices) {
-        return Outcome::Refused(Refusal::NotBuilt);
+        return Err(Refusal::NotBuilt);
     }
-    Outcome::Done
+    Ok(())
 }
 
-// Whether all cells are put, and how many.
-#[derive(Clone, Copy)]
-struct Started {
-    outcome: Outcome,
-    nodes: usize,
-}
-
-// A refusal: nothing is counted.
-fn unstarted(refusal: Refusal) -> Started
-    ensures { result.outcome ≡ Refused refusal }
-{
-    Started {
-        outcome: Outcome::Refused(refusal),
-        nodes: 0,
-    }
-}
-
-// Checks the call with so much room, and puts the cells of the balanced tree. After a refusal the slice holds anything.
+// Checks the call with so much room, and puts the cells of the balanced tree. Answers how many. After a refusal the slice holds anything.
 fn start(
     b: Box,
     points: &[f64],
@@ -98,32 +50,25 @@ fn start(
     places: usize,
     room: usize,
     new_key: &mut [u64],
-) -> Started
+) -> Result<usize, Refusal>
     requires { (room ≤ length new_key.old) × (room ≤ 1048576) }
-    ensures outcome_value { result.outcome ≡ balance_outcome b points.now (columns key.now own.now begin.now total.now) indices.now work places room }
-    ensures started_with { result.outcome ≡ Done
-        → StartedWith b points.now (columns key.now own.now begin.now total.now) indices.now work places room result.nodes new_key.new }
+    ensures outcome_value { ending result ≡ balance_outcome b points.now (columns key.now own.now begin.now total.now) indices.now work places room }
+    ensures started_with { IfOk result (λ n. StartedWith b points.now (columns key.now own.now begin.now total.now) indices.now work places room n new_key.new) }
 {
-    let given = given_outcome(b, points, key, own, begin, total, indices);
-    if let Outcome::Refused(refusal) = given {
-        return unstarted(refusal);
-    }
+    given_outcome(b, points, key, own, begin, total, indices)?;
     let axes = b.axes;
     let rows = points.len() / axes;
     if work < rows + rows {
-        return unstarted(Refusal::Room(1));
+        return Err(Refusal::Room(1));
     }
     if places < rows {
-        return unstarted(Refusal::Room(2));
+        return Err(Refusal::Room(2));
     }
     let n = balancing::put_cells(axes, key, room, new_key);
     if room < n {
-        return unstarted(Refusal::Room(3));
+        return Err(Refusal::Room(3));
     }
-    Started {
-        outcome: Outcome::Done,
-        nodes: n,
-    }
+    Ok(n)
 }
 
 // Clears the work, the order column and the keys.
@@ -137,18 +82,7 @@ fn clear_keys(work: &mut [u64], indices: &mut [usize], key: &mut [u64])
     slices::clear(key);
 }
 
-// Clears the columns beside the keys.
-fn clear_columns(own: &mut [usize], begin: &mut [usize], total: &mut [usize])
-    ensures own_after { own.new ≡ replicate (length own.old) 0 }
-    ensures begin_after { begin.new ≡ replicate (length begin.old) 0 }
-    ensures total_after { total.new ≡ replicate (length total.old) 0 }
-{
-    slices::clear_usize(own);
-    slices::clear_usize(begin);
-    slices::clear_usize(total);
-}
-
-// The tree with the fewest cells that contains all cells of the given one, has all children or none of each cell, and no two touching leaves more than one level apart; with the points in its leaves.
+// The tree with the fewest cells that contains all cells of the given one, has all children or none of each cell, and no two touching leaves more than one level apart; with the points in its leaves. Answers its number of nodes and its depth.
 pub fn balance_tree(
     b: Box,
     points: &[f64],
@@ -163,7 +97,7 @@ pub fn balance_tree(
     new_own: &mut [usize],
     new_begin: &mut [usize],
     new_total: &mut [usize],
-) -> Balanced
+) -> Result<Grown, Refusal>
     ensures value { result ≡ balance_answer b points.now (columns key.now own.now begin.now total.now) indices.now
         (rooms work.old new_indices.old new_key.old new_own.old new_begin.old new_total.old) }
     ensures work_after { work.new ≡ replicate (length work.old) 0 }
@@ -178,7 +112,7 @@ pub fn balance_tree(
     ensures new_total_after { new_total.new ≡ totals_left b points.now (columns key.now own.now begin.now total.now) indices.now
         (rooms work.old new_indices.old new_key.old new_own.old new_begin.old new_total.old) }
 {
-    let room = node_room(
+    let room = tree::node_room(
         new_key.len(),
         new_own.len(),
         new_begin.len(),
@@ -197,13 +131,14 @@ pub fn balance_tree(
         room,
         new_key,
     );
-    let outcome = started.outcome;
-    if let Outcome::Refused(refusal) = outcome {
-        clear_keys(work, new_indices, new_key);
-        clear_columns(new_own, new_begin, new_total);
-        return Balanced::Refused(refusal);
-    }
-    let n = started.nodes;
+    let n = match started {
+        Ok(n) => n,
+        Err(refusal) => {
+            clear_keys(work, new_indices, new_key);
+            tree::clear_columns(new_own, new_begin, new_total);
+            return Err(refusal);
+        }
+    };
     let depth = tree::depth_of(&new_key[..n]);
     settling::settle(
         b,
@@ -217,5 +152,5 @@ pub fn balance_tree(
     );
     slices::clear(work);
     slices::clear_from(new_key, n);
-    Balanced::Tree(n, depth)
+    Ok(Grown { nodes: n, depth })
 }

@@ -15,17 +15,14 @@ use Rattle.slices.proofs.Counts.{any-intro, any-elim}
 use Rattle.slices.proofs.Lists.{length-range, get_or-range, get_or-filled}
 use Rattle.morton.specs.Keys.{ValidKey, under}
 use Rattle.morton.specs.declared.KeyList.{KeyList}
-use Rattle.morton.specs.Answers.{listed, key_check}
+use Rattle.morton.specs.Answers.{key_list}
 use Rattle.morton.proofs.Checks.{facts-valid}
-use Rattle.refusal.specs.declared.Outcome.TheVariants.{Done}
 use Rattle.neighbours.specs.Directions.{neighbours}
 use Rattle.neighbours.specs.Answer.{neighbours_answer}
 use Rattle.refine.proofs.Peers.{neighbours-few}
 use Rattle.tree.specs.Nodes.{stored}
 use Rattle.tree.specs.Order.{end_of}
 use Rattle.tree.specs.Finding.{TreeKeys, FoundNode}
-use Rattle.tree.specs.declared.Found.{Found}
-use Rattle.tree.specs.declared.Found.TheVariants.{At, Nothing}
 use Rattle.leaf_points.proofs.OneKey.{found_at}
 use Rattle.tree.proofs.Laws.{under-range}
 use Rattle.tree.proofs.Ends.{ends}
@@ -35,6 +32,8 @@ use Rattle.balance.proofs.Around as A
 use Rattle.balance.proofs.Balance.{tree_of}
 use Rattle.balancing.specs.Walk.{split_among}
 use Rattle.balancing.proofs.Splits.{split-none, split-found, not-stored}
+use Rattle.std.specs.Prelude.{None, Option, Some}
+use Rattle.refusal.specs.Outcome.{accepted}
 
 any-yes : (p : ℕ → Bool) (x : ℕ) (xs : List ℕ) → p x ≡ true → any p (x ∷ xs) ≡ true
 unfolding any
@@ -117,30 +116,23 @@ module _ (d : ℕ) (keys : List ℕ) (k : TreeKeys d keys) (r : ℕ) where
   pub forced-not : (c : ℕ) → stored keys c ≡ false → false ≡ forced_by d keys r c
   forced-not c n = sym (A.forced-none d keys (tree_of d keys k) r c (split-none d keys k c n))
 
-  module _ (c : ℕ) (f : Found) (g : FoundNode d keys c f) where
-    pub run-found : (node : ℕ) → f ≡ At node → (e : ℕ) → e ≡ end_of keys node → (node ≤ e) × (e ≤ length keys)
+  module _ (c : ℕ) (f : Option ℕ) (g : FoundNode d keys c f) where
+    pub run-found : (node : ℕ) → f ≡ Some node → (e : ℕ) → e ≡ end_of keys node → (node ≤ e) × (e ≤ length keys)
     run-found node q e h = let l = (found_at d keys c f g node q).0 in (omega (arith, (ends keys node l).after), omega (arith, (ends keys node l).within))
 
-    pub forced-found : (node : ℕ) → f ≡ At node → (e : ℕ) → e ≡ end_of keys node → (b : Bool) → b ≡ split_among d keys r node (e - node) → b ≡ forced_by d keys r c
+    pub forced-found : (node : ℕ) → f ≡ Some node → (e : ℕ) → e ≡ end_of keys node → (b : Bool) → b ≡ split_among d keys r node (e - node) → b ≡ forced_by d keys r c
     forced-found node q e h b s =
         let (l, w) = found_at d keys c f g node q in
         s ∙ ap (λ (x : ℕ). split_among d keys r node (x - node)) h ∙ forced-run node l ∙ ap (forced_by d keys r) w
 
     -- nothing is split under a cell that is not
-    pub forced-leaf : (node : ℕ) → f ≡ At node → (b : Bool) → b ≡ split d keys (get_or keys node 0) → b ≡ false → false ≡ forced_by d keys r c
+    pub forced-leaf : (node : ℕ) → f ≡ Some node → (b : Bool) → b ≡ split d keys (get_or keys node 0) → b ≡ false → false ≡ forced_by d keys r c
     forced-leaf node q b s h = sym (A.forced-none d keys (tree_of d keys k) r c (sym (split-found d keys k c f g node q b s) ∙ h))
 
-    pub forced-nowhere : f ≡ Nothing → false ≡ forced_by d keys r c
+    pub forced-nowhere : f ≡ None → false ≡ forced_by d keys r c
     forced-nowhere q = forced-not c (not-stored d keys k c f g q)
 
 -- ---- all neighbours
-
-pub listed-keys : (d k : ℕ) (list : KeyList) → ValidKey d k → list ≡ neighbours_answer d k → (list.keys ≡ filled 26 (neighbours d k)) × (list.len ≡ length (neighbours d k))
-listed-keys d k list v e =
-    let f = facts-valid d k v in
-    let done : key_check d k ≡ Done = rw (f.0, f.1) in
-    let g : list ≡ listed Done (neighbours d k) = e ∙ ap (λ o. listed o (neighbours d k)) done in
-    (ap (λ (x : KeyList). x.keys) g, ap (λ (x : KeyList). x.len) g)
 
 -- the first i neighbours do not force r
 pub record Looked (d : ℕ) (keys : List ℕ) (r : ℕ) (others : List ℕ) (len i : ℕ) : Type 0 where
@@ -153,11 +145,11 @@ module _ (d : ℕ) (keys : List ℕ) (k : TreeKeys d keys) (r : ℕ) (v : ValidK
   pub must-split : (b : Bool) → b ≡ split d keys r → b ≡ true → true ≡ must_split d keys r
   must-split b e h = sym (A.must-around d keys (tree_of d keys k) r v ∙ rw (sym e ∙ h))
 
-  pub looked-none : (list : KeyList) → list ≡ neighbours_answer d r → (b : Bool) → b ≡ split d keys r → b ≡ false → Looked d keys r list.keys list.len 0
-  looked-none list e b s h = let l = listed-keys d r list v e in record {
-    keys_are = l.0;
-    len_is = l.1;
-    most = omega (arith, neighbours-few d r);
+  pub looked-none : (list : KeyList) → list ≡ key_list (neighbours d r) → (b : Bool) → b ≡ split d keys r → b ≡ false → Looked d keys r list.keys list.len 0
+  looked-none list e b s h = record {
+    keys_are = ap (λ (x : KeyList). x.keys) e;
+    len_is = ap (λ (x : KeyList). x.len) e;
+    most = omega (arith, ap (λ (x : KeyList). x.len) e, neighbours-few d r);
     rest = sym (A.must-around d keys (tree_of d keys k) r v ∙ rw (sym s ∙ h));
   }
 

@@ -12,8 +12,6 @@ use Rattle.slices.proofs.Counts.{any-intro, any-elim}
 use Rattle.morton.specs.Keys.{level_of, parent, ValidKey}
 use Rattle.tree.specs.Nodes.{stored, child_of}
 use Rattle.tree.specs.Finding.{TreeKeys, FoundNode}
-use Rattle.tree.specs.declared.Found.{Found}
-use Rattle.tree.specs.declared.Found.TheVariants.{At, Nothing}
 use Rattle.leaf_points.proofs.OneKey.{found_at}
 use Rattle.tree.proofs.Stored.{mem-stored}
 use Rattle.tree.proofs.Laws.{child-next, first-child}
@@ -21,6 +19,7 @@ use Rattle.tree.proofs.Leaves as T
 use Rattle.balance.specs.Splitting.{split}
 use Rattle.balance.proofs.Stored.{split-mem}
 use Rattle.balance.proofs.Balance.{tree_of}
+use Rattle.std.specs.Prelude.{None, Option, Some}
 
 module _ (d : ℕ) (keys : List ℕ) (k : TreeKeys d keys) where
   -- a node is split if the next row is deeper
@@ -49,14 +48,14 @@ module _ (d : ℕ) (keys : List ℕ) (k : TreeKeys d keys) where
   pub split-none : (c : ℕ) → stored keys c ≡ false → split d keys c ≡ false
   split-none c n = refute (λ s. clash (mem-stored keys c (split-mem d keys (tree_of d keys k) c s).0) n)
 
-  module _ (c : ℕ) (r : Found) (f : FoundNode d keys c r) where
-    pub split-found : (node : ℕ) → r ≡ At node → (b : Bool) → b ≡ split d keys (get_or keys node 0) → b ≡ split d keys c
+  module _ (c : ℕ) (r : Option ℕ) (f : FoundNode d keys c r) where
+    pub split-found : (node : ℕ) → r ≡ Some node → (b : Bool) → b ≡ split d keys (get_or keys node 0) → b ≡ split d keys c
     split-found node e b h = h ∙ ap (split d keys) (found_at d keys c r f node e).1
 
-    pub not-stored : r ≡ Nothing → stored keys c ≡ false
+    pub not-stored : r ≡ None → stored keys c ≡ false
     not-stored e = subst (FoundNode d keys c) e f k.ascend
 
-    pub split-nowhere : r ≡ Nothing → false ≡ split d keys c
+    pub split-nowhere : r ≡ None → false ≡ split d keys c
     split-nowhere e = sym (split-none c (not-stored e))
 
   pub node-valid : (i : ℕ) → i < length keys → ValidKey d (get_or keys i 0)

@@ -5,7 +5,6 @@ use mathlib.Core.List.{List, [], ◌∷◌, ◌++◌, map, append_assoc, append-
 use mathlib.Core.Logic.{◌⊎◌, inl, inr}
 use Prim.Native.Nat.{ℕ, zero, suc, ◌+◌, ◌*◌, ◌-◌, ◌/◌, ◌%◌, ◌^◌, ◌≤◌, ◌<◌, min}
 use native.Mathlib.Omega.{arith}
-use native.Mathlib.Nat.{mod-lt}
 use lib.Dec.{ltb, eqb}
 use lib.Pow.{pow-add, pow_pos, pow_mono, low, high, shr_le}
 use lib.ListN.{length, get_or, take, set, length-append, length-set}
@@ -112,9 +111,6 @@ many_is d h = one_shifted d (omega arith)
 
 pub many-some : (d : ℕ) → d ≤ 3 → (0 < 2 ^ d) × (2 ^ d ≤ 8)
 many-some d h = (pow_pos d, pow_mono {i = d} {j = 3} h)
-
-pub part-fits : (d : ℕ) → d ≤ 3 → (c m : ℕ) → m ≡ 2 ^ d → c % m < 8
-part-fits d h c m e = let z : 0 < m = omega (arith, pow_pos d) in omega (arith, mod-lt c z, (many-some d h).1)
 
 pub climb-start : (d k : ℕ) → ValidKey d k → Climbing d k (level_of k) (code_of k)
 climb-start d k v = record { step = step_of d k v; small = code-48 d k v; same = refl }

@@ -11,7 +11,6 @@ ghost use Rattle.balance.specs.Splitting.{off, inside, split, forced_by, must_sp
 ghost use Rattle.balancing.specs.Walk.{split_among, next_after, next_cell, Put};
 
 use morton::keys;
-use tree::Found;
 
 // On one axis: whether an anchor of cells 2^n times as small lies in the block round anchor r, off its ends.
 fn is_off(n: u64, r: u64, p: u64) -> bool
@@ -36,9 +35,7 @@ fn lies_inside(axes: usize, r: u64, from: [u64; 3], p: u64) -> bool
         return false;
     }
     let at = anchors::anchors_of(axes, p);
-    let mut n = axes;
-    while 0 < n {
-        n -= 1;
+    for n in (0..axes).rev() {
         if !is_off(deeper - level, from[n], at[n]) {
             return false;
         }
@@ -63,15 +60,9 @@ fn split_among(axes: usize, key: &[u64], r: u64, from: [u64; 3], first: usize, e
     requires { TreeKeys axes key.now × ValidKey axes r × (from ≡ filled 3 (anchors_of axes r)) × (first ≤ end) × (end ≤ length key.now) }
     ensures { result ≡ split_among axes key.now r first (end - first) }
 {
-    let mut i = first;
-    while i < end {
-        if is_split(axes, key, i) {
-            if lies_inside(axes, r, from, key[i]) {
-                return true;
-            }
-            i += 1;
-        } else {
-            i += 1;
+    for i in first..end {
+        if is_split(axes, key, i) && lies_inside(axes, r, from, key[i]) {
+            return true;
         }
     }
     false
@@ -84,14 +75,14 @@ fn is_forced_by(axes: usize, key: &[u64], r: u64, from: [u64; 3], c: u64) -> boo
 {
     let found = tree::find_node(axes, key, c);
     match found {
-        Found::At(node) => {
+        Some(node) => {
             if !is_split(axes, key, node) {
                 return false;
             }
             let end = tree::end_of(axes, key, node);
             split_among(axes, key, r, from, node, end)
         }
-        Found::Nothing => false,
+        None => false,
     }
 }
 
@@ -102,8 +93,8 @@ fn is_split_cell(axes: usize, key: &[u64], r: u64) -> bool
 {
     let found = tree::find_node(axes, key, r);
     match found {
-        Found::At(node) => is_split(axes, key, node),
-        Found::Nothing => false,
+        Some(node) => is_split(axes, key, node),
+        None => false,
     }
 }
 
@@ -116,15 +107,13 @@ fn must_split(axes: usize, key: &[u64], r: u64) -> bool
         return true;
     }
     let from = anchors::anchors_of(axes, r);
-    let list = neighbours::get_neighbours(axes, r);
+    let list = neighbours::list_neighbours(axes, r);
     let others = list.keys;
     let len = list.len;
-    let mut i: usize = 0;
-    while i < len {
+    for i in 0..len {
         if is_forced_by(axes, key, r, from, others[i]) {
             return true;
         }
-        i += 1;
     }
     false
 }
@@ -146,14 +135,12 @@ fn next_after(axes: usize, k: u64) -> u64
     ensures { result ≡ next_after axes (level_of k) (code_of k) }
 {
     let many: u64 = 1 << axes;
-    let mut level = k % 32768;
     let mut code = k / 32768;
-    while 0 < level {
+    for level in (1..=k % 32768).rev() {
         if code % many + 1 < many {
             return (code + 1) * 32768 + level;
         }
         code = code >> axes;
-        level -= 1;
     }
     0
 }

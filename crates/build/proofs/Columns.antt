@@ -1,19 +1,19 @@
 -- All rows are put: the columns are those of the tree that was asked for; and what is then left in the lent slices, with 0 in the unused places.
 use mathlib.Core.Path.{◌≡◌, refl, sym, ap, ap₂, subst, ◌∙◌}
-use mathlib.Core.Bool.{Bool, true, false, true≢false}
 use mathlib.Core.List.{List, ◌++◌, map}
 use Prim.Native.Nat.{ℕ, ◌*◌, ◌+◌, ◌-◌, ◌%◌, ◌≤◌, ◌<◌}
 use native.Mathlib.Omega.{arith}
 use lib.ListN.{length, take, replicate, length-map}
 use lib.Seq.{length-take-le, length-slice, take_all}
 use Rattle.refusal.specs.declared.Refusal.{Refusal}
-use Rattle.refusal.specs.declared.Outcome.{Outcome}
-use Rattle.refusal.specs.declared.Outcome.TheVariants.{Done, Refused}
+use Rattle.refusal.proofs.Chain.{after-done, after-refused}
 use Rattle.refusal.proofs.Left.{left-done, left-refused}
 use Rattle.slices.specs.Lists.{filled}
 use Rattle.growth.specs.Columns.{own_column, begin_column, order_column}
 use Rattle.growth.proofs.Runs.{length-own, length-begin}
 use Rattle.tree.specs.Order.{depth_of}
+use Rattle.growth.specs.declared.Grown.{Grown}
+use Rattle.growth.specs.Grown.{grown}
 use Rattle.tree.specs.Totals.{total_column}
 use Rattle.growth.specs.Nodes.{nodes}
 use Rattle.laying.specs.Points.{codes_of}
@@ -22,13 +22,13 @@ use Rattle.parting.specs.Parts.{source_codes, target_codes, Coded}
 use Rattle.grow.specs.Rows.{sum_marked, own_marked, Marked}
 use Rattle.grow.specs.Steps.{Grows}
 use Rattle.grow.proofs.Ending.{order-taken}
-use Rattle.filling.specs.Slices.{indices, Slices, RowsPut, Filled, Cleared}
+use Rattle.filling.specs.Slices.{indices, Slices, RowsPut, Filled, Cleared, grown_of, Ended}
+use Rattle.filling.specs.declared.Started.{Started}
 use Rattle.build.specs.Asked.{Asked, rule_of, built_keys, built_own, built_begins, built_totals, built_order}
-use Rattle.build.specs.declared.Built.{Built}
-use Rattle.build.specs.declared.Built.TheVariants.{Tree, Refused as NotBuilt}
 use Rattle.build.specs.Outcomes.{Rooms, room_of, build_outcome, build_check, build_answer, order_left, keys_left, own_left, begins_left, totals_left}
-use Rattle.build.specs.Steps.{TreeStarted, BuiltSlices, is_done, built_or}
-use Rattle.build.proofs.Answers.{refusal-so, tree-so}
+use Rattle.build.specs.Steps.{TreeStarted, BuiltSlices}
+use Rattle.refusal.specs.Outcome.{Answer, Outcome, accepted, ending}
+use Rattle.std.specs.Prelude.{Err, Ok, IfOk}
 
 module _ (a : Asked) (z : Setting) (work work' : List ℕ) (s : Marked) (coded : Coded (rule_of a) z work) (q : Grows (rule_of a) z work work' s)
     (sources_are : source_codes z work ≡ codes_of a.box a.sources) (nodes_are : nodes (rule_of a) (codes_of a.box a.sources) (target_codes z work) ≡ built_keys a) where
@@ -123,8 +123,8 @@ module _ (a : Asked) (room rows n : ℕ) (r : Rooms) (s : Slices) (long : Long r
     few = q.few;
   }
 
-  slices-built : (depth : ℕ) (t : Slices) → Filled rows n depth s t → BuiltSlices a r t.work t.order t.key t.own t.begin t.total
-  slices-built depth t f = record {
+  slices-built : (t : Slices) → Filled rows n s t → BuiltSlices a r t.work t.order t.key t.own t.begin t.total
+  slices-built t f = record {
     worked = f.worked ∙ ap (λ (x : ℕ). replicate x 0) long.work;
     ordered = cut-filled rows r.order (indices (take rows s.work)) t.order (built_order a) q.ordered (length-map (take rows s.work) (λ w. w % 1048576) ∙ length-take-le rows s.work q.in_work) (f.ordered ∙ ap (λ (x : ℕ). indices (take rows s.work) ++ replicate (x - rows) 0) long.order);
     keyed = cut-filled n r.keys (take n s.key) t.key (built_keys a) q.keys (length-take-le n s.key rows-put.in_key) (f.keyed ∙ ap (λ (x : ℕ). take n s.key ++ replicate (x - n) 0) long.keys);
@@ -139,9 +139,21 @@ module _ (a : Asked) (room rows n : ℕ) (r : Rooms) (s : Slices) (long : Long r
       marks : length (take n s.total) ≡ n
       marks = length-take-le n s.total rows-put.in_total
 
+-- the same of a start that was not refused
+pub rows-started : (a : Asked) (room : ℕ) (r : Rooms) (s : Slices) → Long r s → room ≡ room_of r → (p : Answer Started) → IfOk p (λ q. TreeStarted a room q.rows q.nodes s.work s.order s.key s.total)
+    → IfOk p (λ q. RowsPut q.rows q.nodes s)
+rows-started a room r s long e (Ok q) h = rows-put a room q.rows q.nodes r s long e h
+rows-started a room r s long e (Err x) h = tt
+
+-- a start whose key and mark columns have the room
+pub with-room : (a : Asked) (room : ℕ) (s : Slices) (m n : ℕ) (p : Answer Started) → IfOk p (λ q. room ≤ m → room ≤ n → TreeStarted a room q.rows q.nodes s.work s.order s.key s.total)
+    → room ≤ m → room ≤ n → IfOk p (λ q. TreeStarted a room q.rows q.nodes s.work s.order s.key s.total)
+with-room a room s m n (Ok q) h k l = h k l
+with-room a room s m n (Err x) h k l = tt
+
 -- ---- the answer and the slices of a build
-abbrev pub Ended : Asked → Rooms → Built → Slices → Type 0
-Ended a r answer t =
+abbrev pub Built : Asked → Rooms → Answer Grown → Slices → Type 0
+Built a r answer t =
     (answer ≡ build_answer a r)
     × ((t.work ≡ replicate r.work 0) × ((t.order ≡ order_left a r) × ((t.key ≡ keys_left a r) × ((t.own ≡ own_left a r) × ((t.begin ≡ begins_left a r) × (t.total ≡ totals_left a r))))))
 
@@ -149,9 +161,9 @@ module _ (a : Asked) (r : Rooms) (s t : Slices) (long : Long r s) where
   abbrev checked : Outcome
   checked = build_check a r
 
-  refused_all : (q : Refusal) → build_check a r ≡ Refused q → Cleared s t → Ended a r (NotBuilt q) t
-  refused_all q d z = (
-    refusal-so checked (built_keys a) q d,
+  refused_all : (q : Refusal) → build_check a r ≡ Err q → Cleared s t → (answer : Answer Grown) → answer ≡ Err q → Built a r answer t
+  refused_all q d z answer e = (
+    e ∙ sym (after-refused checked (Ok (grown (built_keys a))) q d),
     (
       z.worked ∙ ap (λ (x : ℕ). replicate x 0) long.work,
       (
@@ -170,10 +182,10 @@ module _ (a : Asked) (r : Rooms) (s t : Slices) (long : Long r s) where
     ),
   )
 
-  built-all : build_check a r ≡ Done → (n depth : ℕ) (first : List ℕ) → n ≡ length (built_keys a) → first ≡ built_keys a → depth ≡ depth_of first → BuiltSlices a r t.work t.order t.key t.own t.begin t.total
-      → Ended a r (Tree n depth) t
-  built-all d n depth first e f g z = (
-    tree-so a checked n depth first d e f g,
+  built-all : build_check a r ≡ accepted → (n : ℕ) (first : List ℕ) → n ≡ length (built_keys a) → first ≡ built_keys a → BuiltSlices a r t.work t.order t.key t.own t.begin t.total
+      → (answer : Answer Grown) → answer ≡ Ok (record { nodes = n; depth = depth_of first }) → Built a r answer t
+  built-all d n first e f z answer g = (
+    g ∙ ap₂ (λ (x : ℕ) (keys : List ℕ). grown_at x keys) e f ∙ sym (after-done checked (Ok (grown (built_keys a))) d),
     (
       z.worked,
       (
@@ -191,18 +203,14 @@ module _ (a : Asked) (r : Rooms) (s t : Slices) (long : Long r s) where
       ),
     ),
   )
+    where
+      grown_at : ℕ → List ℕ → Answer Grown
+      grown_at n keys = Ok (record { nodes = n; depth = depth_of keys })
 
   -- where all rows are put the slices are filled, and else cleared
-  pub ended : (o : Outcome) (put : Bool) (room rows n depth : ℕ) → room ≡ room_of r → o ≡ build_outcome a r.work r.order room → put ≡ is_done o
-      → (o ≡ Done → TreeStarted a room rows n s.work s.order s.key s.total)
-      → (put ≡ true → Filled rows n depth s t) → (put ≡ false → Cleared s t)
-      → Ended a r (built_or o n depth) t
-  ended Done put room rows n depth m e p st f z =
-      let q = st refl in
-      let fill = f p in
-      built-all (sym (e ∙ ap (build_outcome a r.work r.order) m)) n depth (take n s.key) q.number q.keys fill.deep (slices-built a room rows n r s long m q depth t fill)
-  ended (Refused q) put room rows n depth m e p st f z = refused_all q (sym (e ∙ ap (build_outcome a r.work r.order) m)) (z p)
-
-pub done-is : (o : Outcome) → is_done o ≡ true → o ≡ Done
-done-is Done e = refl
-done-is (Refused r) e = absurd (true≢false (sym e))
+  pub ended : (p : Answer Started) (room : ℕ) → room ≡ room_of r → ending p ≡ build_outcome a r.work r.order room
+      → IfOk p (λ q. TreeStarted a room q.rows q.nodes s.work s.order s.key s.total)
+      → (answer : Answer Grown) → answer ≡ grown_of p s.key → Ended p s t → Built a r answer t
+  ended (Ok q) room m e h answer g f =
+      built-all (sym (e ∙ ap (build_outcome a r.work r.order) m)) q.nodes (take q.nodes s.key) h.number h.keys (slices-built a room q.rows q.nodes r s long m h t f) answer g
+  ended (Err x) room m e h answer g z = refused_all x (sym (e ∙ ap (build_outcome a r.work r.order) m)) z answer g

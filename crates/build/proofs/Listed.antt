@@ -8,8 +8,6 @@ use lib.Ieee.{Float}
 use borrow.Author.Tests.{le-leb}
 use Rattle.refusal.specs.declared.Refusal.{Refusal}
 use Rattle.refusal.specs.declared.Refusal.TheVariants.{Room, Grid as GridRefused}
-use Rattle.refusal.specs.declared.Outcome.{Outcome}
-use Rattle.refusal.specs.declared.Outcome.TheVariants.{Done, Refused}
 use Rattle.refusal.specs.Chain.{ask, ◌then◌}
 use Rattle.refusal.specs.Left.{left}
 use Rattle.space.specs.declared.Box.{Box}
@@ -20,30 +18,33 @@ use Rattle.tree.specs.Columns.{Columns}
 use Rattle.laying.specs.Outcomes.{asked_outcome, inside_outcome, work_need, work_outcome}
 use Rattle.grid_laying.specs.Outcomes.{grid_outcome, grid_checks}
 use Rattle.build.specs.Asked.{Asked, used, asks, asks_at, asks_for, asks_on_grid, built_keys, built_own, built_begins, built_totals, built_columns, built_order}
-use Rattle.build.specs.Outcomes.{Rooms, column_outcome, build_outcome, build_check, room_of, tree_or}
+use Rattle.build.specs.Outcomes.{Rooms, column_outcome, build_outcome, build_check, room_of}
 use Rattle.build.specs.Listed.{SameBuild, with_work, Undecided}
+use Rattle.refusal.specs.Outcome.{Outcome, accepted}
+use Rattle.std.specs.Prelude.{Err, Ok}
+use Rattle.growth.specs.Grown.{grown}
 
 -- ---- the checks
-passes : (o a₁ a₂ a₃ a₄ a₅ : Outcome) (k : Bool) → (o ≡ Done → k ≡ true)
+passes : (o a₁ a₂ a₃ a₄ a₅ : Outcome) (k : Bool) → (o ≡ accepted → k ≡ true)
     → (o then ask k GridRefused) then (o then a₁ then a₂ then a₃ then a₄ then a₅) ≡ o then a₁ then a₂ then a₃ then a₄ then a₅
-passes Done a₁ a₂ a₃ a₄ a₅ k h = ap (λ (q : Bool). ask q GridRefused then (a₁ then a₂ then a₃ then a₄ then a₅)) (h refl)
-passes (Refused r) a₁ a₂ a₃ a₄ a₅ k h = refl
+passes (Ok tt) a₁ a₂ a₃ a₄ a₅ k h = ap (λ (q : Bool). ask q GridRefused then (a₁ then a₂ then a₃ then a₄ then a₅)) (h refl)
+passes (Err r) a₁ a₂ a₃ a₄ a₅ k h = refl
 
 -- where the grid is known, 16 changes no outcome
-grid-passes : (b : Box) (s t : List Float) (g : Grid) (order : ℕ) → (box_outcome b ≡ Done → grid_known b.axes g ≡ true) → grid_outcome b g then asked_outcome b s t order ≡ asked_outcome b s t order
+grid-passes : (b : Box) (s t : List Float) (g : Grid) (order : ℕ) → (box_outcome b ≡ accepted → grid_known b.axes g ≡ true) → grid_outcome b g then asked_outcome b s t order ≡ asked_outcome b s t order
 unfolding asked_outcome
 grid-passes b s t g order k = passes (box_outcome b) _ _ _ _ _ (grid_known b.axes g) k
 
-early-passes : (b : Box) (s t : List Float) (g : Grid) (order : ℕ) (u : Bool) → (u ≡ true → box_outcome b ≡ Done → grid_known b.axes g ≡ true)
-    → cond u (grid_outcome b g) Done then asked_outcome b s t order ≡ asked_outcome b s t order
+early-passes : (b : Box) (s t : List Float) (g : Grid) (order : ℕ) (u : Bool) → (u ≡ true → box_outcome b ≡ accepted → grid_known b.axes g ≡ true)
+    → cond u (grid_outcome b g) accepted then asked_outcome b s t order ≡ asked_outcome b s t order
 early-passes b s t g order true k = grid-passes b s t g order (k refl)
 early-passes b s t g order false k = refl
 
-work-passes : (b : Box) (s t : List Float) (work : ℕ) → work_need b s t ≤ work → work_outcome b s t work ≡ Done
+work-passes : (b : Box) (s t : List Float) (work : ℕ) → work_need b s t ≤ work → work_outcome b s t work ≡ accepted
 unfolding work_outcome
 work-passes b s t work h = ap (λ (q : Bool). ask q (Room 1)) (le-leb (work_need b s t) work h)
 
-none-held : (b : Box) (s : List Float) (u : Bool) (t : List Float) (work : ℕ) → work_need b s [] ≤ work → work_outcome b s (cond u [] []) work ≡ Done
+none-held : (b : Box) (s : List Float) (u : Bool) (t : List Float) (work : ℕ) → work_need b s [] ≤ work → work_outcome b s (cond u [] []) work ≡ accepted
 none-held b s true t work h = work-passes b s [] work h
 none-held b s false t work h = work-passes b s [] work h
 
@@ -71,7 +72,7 @@ module _ (b : Box) (sources : List Float) (g : Grid) (limit order : ℕ) (keep r
   -- so is the outcome with both flags, with 16 put in after 1 and 2, and the targets out of the work's need
   pub same-checks : (work orders nodes : ℕ) → (keep && refine) ≡ true → build_outcome on_grid work orders nodes ≡ grid_checks b sources g order work then column_outcome on_list orders nodes
   same-checks work orders nodes e =
-      ap (λ (u : Bool). cond u (grid_outcome b g) Done then asked_outcome b sources (t u) order then inside_outcome b sources (t u) then work_outcome b sources (cond u [] []) work then column_outcome on_grid orders nodes) e
+      ap (λ (u : Bool). cond u (grid_outcome b g) accepted then asked_outcome b sources (t u) order then inside_outcome b sources (t u) then work_outcome b sources (cond u [] []) work then column_outcome on_grid orders nodes) e
       ∙ ap (λ (o : Outcome). grid_outcome b g then asked_outcome b sources (t true) order then inside_outcome b sources (t true) then work_outcome b sources [] work then o) (same-room orders nodes)
     where
       t : Bool → List Float
@@ -88,7 +89,7 @@ module _ (b : Box) (sources : List Float) (g : Grid) (limit order : ℕ) (keep r
   -- the customer's sentence
   pub grid-as-listed : (r : Rooms) (long : ℕ) → Undecided b sources g keep refine r.work long → SameBuild on_grid r on_list (with_work long r)
   grid-as-listed r long h = record {
-    answer = ap₂ tree_or checks keys-same;
+    answer = ap₂ (λ (o : Outcome) (xs : List ℕ). o then Ok (grown xs)) checks keys-same;
     order = ap₂ (λ (o : Outcome) (xs : List ℕ). left o r.order xs) checks same-order;
     keys = ap₂ (λ (o : Outcome) (xs : List ℕ). left o r.keys xs) checks keys-same;
     own = ap₂ (λ (o : Outcome) (c : Columns). left o r.own c.own) checks same-columns;

@@ -9,7 +9,6 @@ use lib.Dec.{eqb}
 use lib.ListN.{length, get_or, drop, replicate, length-append}
 use borrow.Author.Tests.{eqb-true}
 use Rattle.refusal.specs.declared.Refusal.TheVariants.{Source}
-use Rattle.refusal.specs.declared.Outcome.TheVariants.{Done}
 use Rattle.refusal.specs.Chain.{ask, ◌then◌}
 use Rattle.refusal.proofs.Chain.{asked, both-done}
 use Rattle.slices.specs.Lists.{filter, sum, range, bit, filled}
@@ -45,6 +44,7 @@ use Rattle.laying.proofs.Calls.{Called, checked}
 use Rattle.build.specs.Asked.{Asked, rule_of, built_keys, built_own, built_begins, built_totals, built_order}
 use Rattle.build.specs.Outcomes.{column_outcome, build_outcome}
 use Rattle.build.proofs.Growing.{codes-lt}
+use Rattle.refusal.specs.Outcome.{accepted}
 
 module _ (a : Asked) where
   -- the number of axes, how many sources are handed in, and the level-16 code of each
@@ -84,11 +84,11 @@ module _ (a : Asked) where
     pub few : Few axes (built_keys a) v
 
 -- a build that is not refused, with so much work, room in the order column and room in the node columns
-module _ (a : Asked) (work order nodes : ℕ) (done : build_outcome a work order nodes ≡ Done) where
-  points-done : a.early then asked_outcome a.box a.sources a.targets a.order then inside_outcome a.box a.sources a.targets ≡ Done
+module _ (a : Asked) (work order nodes : ℕ) (done : build_outcome a work order nodes ≡ accepted) where
+  points-done : a.early then asked_outcome a.box a.sources a.targets a.order then inside_outcome a.box a.sources a.targets ≡ accepted
   points-done = (both-done _ (work_outcome a.box a.sources a.held work) (both-done _ (column_outcome a order nodes) done).0).0
 
-  asked-done : asked_outcome a.box a.sources a.targets a.order ≡ Done
+  asked-done : asked_outcome a.box a.sources a.targets a.order ≡ accepted
   asked-done = (both-done a.early (asked_outcome a.box a.sources a.targets a.order) (both-done _ (inside_outcome a.box a.sources a.targets) points-done).0).1
 
   checks : Called a.box a.sources a.targets a.order

@@ -1,7 +1,5 @@
 -- Document 01, "How the tree grows": what a build is asked, and the tree that answers it.
 use Rattle.std.specs.Prelude.{Bool, ◌&&◌, cond, List, [], ℕ, Float}
-use Rattle.refusal.specs.declared.Outcome.{Outcome}
-use Rattle.refusal.specs.declared.Outcome.TheVariants.{Done}
 use Rattle.grids.specs.declared.Grid.{Grid}
 use Rattle.grids.specs.Grids.{listed}
 use Rattle.grid_laying.specs.Outcomes.{grid_outcome}
@@ -12,6 +10,7 @@ use Rattle.growth.specs.declared.Rule.{Rule}
 use Rattle.growth.specs.Columns.{own_column, begin_column, order_column}
 use Rattle.growth.specs.Nodes.{nodes}
 use Rattle.laying.specs.Points.{codes_of}
+use Rattle.refusal.specs.Outcome.{Outcome, accepted}
 
 -- refinement acts only with both flags: without them the targets are not looked at, as if there were none
 abbrev pub used : Bool → Bool → List Float → List Float
@@ -31,7 +30,7 @@ pub record Asked : Type 0 where
 
 abbrev pub asks : Box → ℕ → ℕ → Bool → List Float → List Float → Asked
 asks b limit order keep sources targets =
-    record { box = b; limit = limit; order = order; keep = keep; sources = sources; targets = targets; early = Done; held = targets }
+    record { box = b; limit = limit; order = order; keep = keep; sources = sources; targets = targets; early = accepted; held = targets }
 
 -- a build whose targets are the listed points of a grid, where it is `sited`, and else these
 abbrev pub asks_at : Box → ℕ → ℕ → Bool → List Float → List Float → Bool → Grid → Asked
@@ -43,7 +42,7 @@ asks_at b limit order keep sources targets sited g =
       keep = keep;
       sources = sources;
       targets = cond sited (listed b.axes g) targets;
-      early = cond sited (grid_outcome b g) Done;
+      early = cond sited (grid_outcome b g) accepted;
       held = cond sited [] targets;
     }
 

@@ -1,6 +1,5 @@
 -- Document 02, order 1: the build on a grid beside the build on its listed points.
 use Rattle.std.specs.Prelude.{◌≡◌, Bool, true, ◌&&◌, List, [], ℕ, ◌≤◌, Float}
-use Rattle.refusal.specs.declared.Outcome.TheVariants.{Done}
 use Rattle.space.specs.declared.Box.{Box}
 use Rattle.space.specs.Domain.{box_outcome}
 use Rattle.grids.specs.declared.Grid.{Grid}
@@ -8,6 +7,7 @@ use Rattle.grids.specs.Grids.{listed, grid_known}
 use Rattle.laying.specs.Outcomes.{work_need}
 use Rattle.build.specs.Asked.{Asked, used}
 use Rattle.build.specs.Outcomes.{Rooms, build_answer, order_left, keys_left, own_left, begins_left, totals_left}
+use Rattle.refusal.specs.Outcome.{accepted}
 
 -- two builds answer the same and leave the same in the order column and in the four node columns, each with its own room
 pub record SameBuild (a : Asked) (r : Rooms) (x : Asked) (q : Rooms) : Type 0 where
@@ -24,6 +24,6 @@ with_work work r = record { work = work; order = r.order; keys = r.keys; own = r
 
 -- neither 16 nor the work decides: where the grid is looked at it is known, and the work is as long as each of the two builds needs it
 pub record Undecided (b : Box) (sources : List Float) (g : Grid) (keep refine : Bool) (work long : ℕ) : Type 0 where
-  pub known : (keep && refine) ≡ true → box_outcome b ≡ Done → grid_known b.axes g ≡ true
+  pub known : (keep && refine) ≡ true → box_outcome b ≡ accepted → grid_known b.axes g ≡ true
   pub enough : work_need b sources [] ≤ work
   pub as_listed : work_need b sources (used keep refine (listed b.axes g)) ≤ long

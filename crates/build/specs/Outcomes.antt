@@ -1,20 +1,15 @@
 -- Document 01: the refusals of a build, in the order 1, 2, 3, 4, 5, 6, 7, 8, and what it leaves in the lent slices.
-use Rattle.std.specs.Prelude.{List, ℕ, min, leb, length}
+use Rattle.std.specs.Prelude.{List, ℕ, leb, length, Ok}
 use Rattle.refusal.specs.declared.Refusal.TheVariants.{Room}
-use Rattle.refusal.specs.declared.Outcome.{Outcome}
-use Rattle.refusal.specs.declared.Outcome.TheVariants.{Done, Refused}
 use Rattle.refusal.specs.Chain.{ask, ◌then◌}
 use Rattle.refusal.specs.Left.{left}
-use Rattle.tree.specs.Order.{depth_of}
+use Rattle.growth.specs.declared.Grown.{Grown}
+use Rattle.growth.specs.Grown.{grown}
 use Rattle.space.specs.Rows.{rows_of}
+use Rattle.tree.specs.Columns.{node_room}
 use Rattle.laying.specs.Outcomes.{asked_outcome, inside_outcome, work_outcome}
-use Rattle.build.specs.declared.Built.{Built}
-use Rattle.build.specs.declared.Built.TheVariants.{Tree, Refused as NotBuilt}
 use Rattle.build.specs.Asked.{Asked, built_keys, built_own, built_begins, built_totals, built_order}
-
--- the shortest of the four node columns, of which at most 1,048,576 entries count
-abbrev pub node_room : ℕ → ℕ → ℕ → ℕ → ℕ
-node_room key own begin total = min 1048576 (min key (min own (min begin total)))
+use Rattle.refusal.specs.Outcome.{Answer, Outcome}
 
 -- 8 ROOM: 2 the order, 3 the node columns, of which `nodes` entries count
 unfoldable pub column_outcome : Asked → ℕ → ℕ → Outcome
@@ -27,11 +22,6 @@ build_outcome a work order nodes =
     then inside_outcome a.box a.sources a.targets
     then work_outcome a.box a.sources a.held work
     then column_outcome a order nodes
-
--- the number of nodes and the depth, or the refusal
-abbrev pub tree_or : Outcome → List ℕ → Built
-tree_or Done key = Tree (length key) (depth_of key)
-tree_or (Refused r) key = NotBuilt r
 
 -- how many entries the lent slices have: the work, the order column, and the four node columns
 pub record Rooms : Type 0 where
@@ -54,8 +44,9 @@ module _ (a : Asked) (r : Rooms) where
   abbrev pub build_check : Outcome
   build_check = build_outcome a r.work r.order (room_of r)
 
-  abbrev pub build_answer : Built
-  build_answer = tree_or build_check (built_keys a)
+  -- the number of nodes and the depth, or the refusal
+  abbrev pub build_answer : Answer Grown
+  build_answer = build_check then Ok (grown (built_keys a))
 
   -- what is left in each of the slices; all of the work is 0
   abbrev pub order_left : List ℕ

@@ -1,8 +1,6 @@
 -- The steps of a build: the points laid out, all rows put, and the lent slices at the end.
-use Rattle.std.specs.Prelude.{◌≡◌, Bool, true, false, List, map, ℕ, ◌≤◌, leb, length, take, replicate}
+use Rattle.std.specs.Prelude.{◌≡◌, Bool, false, List, map, ℕ, ◌≤◌, leb, length, take, replicate}
 use Rattle.refusal.specs.declared.Refusal.TheVariants.{Room}
-use Rattle.refusal.specs.declared.Outcome.{Outcome}
-use Rattle.refusal.specs.declared.Outcome.TheVariants.{Done, Refused}
 use Rattle.refusal.specs.Chain.{ask, ◌then◌}
 use Rattle.slices.specs.Lists.{sum, filled}
 use Rattle.space.specs.Rows.{rows_of}
@@ -15,10 +13,9 @@ use Rattle.parting.specs.Spans.{SpanAt}
 use Rattle.parting.specs.Parts.{source_codes, target_codes, Coded}
 use Rattle.grow.specs.Rows.{sum_marked, own_marked}
 use Rattle.filling.specs.Slices.{indices}
-use Rattle.build.specs.declared.Built.{Built}
-use Rattle.build.specs.declared.Built.TheVariants.{Tree, Refused as NotBuilt}
 use Rattle.build.specs.Asked.{Asked, rule_of, built_keys, built_own, built_begins, built_totals, built_order}
 use Rattle.build.specs.Outcomes.{Rooms}
+use Rattle.refusal.specs.Outcome.{Outcome}
 
 -- sizes without a grid
 pub record Plain (sources targets room depth : ℕ) (z : Sizes) : Type 0 where
@@ -57,16 +54,6 @@ pub record TreeStarted (a : Asked) (room rows n : ℕ) (work order key mark : Li
   pub totals : map sum_marked (take n mark) ≡ built_totals a
   pub few : sum (map own_marked (take n mark)) ≤ 1048576
   pub ordered : indices (take rows work) ≡ built_order a
-
--- whether an outcome refuses nothing
-abbrev pub is_done : Outcome → Bool
-is_done Done = true
-is_done (Refused r) = false
-
--- so many nodes and their depth, or the refusal
-abbrev pub built_or : Outcome → ℕ → ℕ → Built
-built_or Done n depth = Tree n depth
-built_or (Refused r) n depth = NotBuilt r
 
 -- the slices after a build that is not refused
 pub record BuiltSlices (a : Asked) (r : Rooms) (works orders keys owns begins totals : List ℕ) : Type 0 where

@@ -3,29 +3,21 @@
 // The tree grown from points: `build_tree` of `linear_tree.rs`, without its lists.
 mod on_grid; // on_grid.rt: the sources of a build on a grid laid out, and the span of the root
 
-ghost use Rattle.std.specs.Prelude.{◌≡◌, Bool, true, false, cond, ◌&&◌, [], ◌∷◌, ℕ, ◌≤◌, min, leb, length, replicate};
+ghost use Rattle.std.specs.Prelude.{◌≡◌, Bool, true, cond, ◌&&◌, [], ◌∷◌, ℕ, ◌≤◌, leb, length, replicate, Ok, IfOk};
+ghost use Rattle.refusal.specs.Outcome.{ending};
 ghost use Rattle.refusal.specs.declared.Refusal.TheVariants.{Room};
-ghost use Rattle.refusal.specs.declared.Outcome.TheVariants.{Done, Refused};
-ghost use Rattle.refusal.specs.Chain.{ask};
+ghost use Rattle.refusal.specs.Chain.{ask, ◌then◌};
 ghost use Rattle.build.specs.Asked.{asks, asks_at, asks_for, asks_on_grid, built_keys};
-ghost use Rattle.build.specs.Outcomes.{node_room, rooms, build_outcome, build_answer, order_left, keys_left, own_left, begins_left, totals_left};
+ghost use Rattle.build.specs.Outcomes.{rooms, build_outcome, build_answer, order_left, keys_left, own_left, begins_left, totals_left};
 ghost use Rattle.build.specs.Summing.{Sourced, SumsMade};
-ghost use Rattle.build.specs.Steps.{Plain, lay_outcome, LaidOut, is_done, built_or, TreeStarted};
+ghost use Rattle.build.specs.Steps.{Plain, lay_outcome, LaidOut, TreeStarted};
 
+use filling::Started;
 use grids::{Grid, spans};
-use growth::Rule;
+use growth::{Grown, Rule};
 use parting::Sizes;
-use refusal::{Outcome, Refusal};
+use refusal::Refusal;
 use space::Box;
-
-pub const MOST_NODES: usize = 1048576;
-
-// The number of nodes and the depth, or why there is no tree.
-#[derive(Clone, Copy)]
-pub enum Built {
-    Tree(usize, u64),
-    Refused(Refusal),
-}
 
 // Whether both flags are set: only then are targets used.
 pub fn both(keep: bool, refine: bool) -> bool
@@ -47,23 +39,6 @@ pub fn used_entries(targets: usize, keep: bool, refine: bool) -> usize
     0
 }
 
-// The smaller of two numbers.
-fn smaller(a: usize, b: usize) -> usize
-    ensures { result ≡ min a b }
-{
-    if a < b { a } else { b }
-}
-
-// How many entries of the node columns count.
-pub fn node_room(key: usize, own: usize, begin: usize, total: usize) -> usize
-    ensures { result ≡ node_room key own begin total }
-{
-    smaller(
-        MOST_NODES,
-        smaller(key, smaller(own, smaller(begin, total))),
-    )
-}
-
 // Where targets are used: puts the sums of the sources, which tell when targets split a cell, into the order column. Answers the reference depth, or 0.
 fn sum_sources(axes: usize, rows: usize, marks: usize, work: &[u64], indices: &mut [usize]) -> u64
     requires { Sourced axes rows work.now (length indices.old) }
@@ -76,13 +51,6 @@ fn sum_sources(axes: usize, rows: usize, marks: usize, work: &[u64], indices: &m
     let twice = rows + rows;
     refine::add_sums(axes, depth, &work[rows..twice], indices);
     depth
-}
-
-// Whether the points are laid out, and the sizes of the growth.
-#[derive(Clone, Copy)]
-struct Laid {
-    outcome: Outcome,
-    sizes: Sizes,
 }
 
 // A grid of no points, for a build that is on none.
@@ -115,18 +83,7 @@ pub fn sizes_of(b: Box, sources: usize, targets: usize, room: usize, depth: u64)
     }
 }
 
-// A refusal before any size is known.
-fn unlaid(b: Box, refusal: Refusal) -> Laid
-    ensures { result.outcome ≡ Refused refusal }
-{
-    let sizes = sizes_of(b, 0, 0, 0, 0);
-    Laid {
-        outcome: Outcome::Refused(refusal),
-        sizes,
-    }
-}
-
-// Checks the points and lays their codes out in the work, and the sums of the sources in the order column. `room` is that for rows.
+// Checks the points and lays their codes out in the work, and the sums of the sources in the order column. `room` is that for rows. Answers the sizes of the growth.
 fn lay_out(
     b: Box,
     sources: &[f64],
@@ -135,64 +92,30 @@ fn lay_out(
     room: usize,
     work: &mut [u64],
     indices: &mut [usize],
-) -> Laid
-    ensures outcome_value { result.outcome ≡ lay_outcome (asks b 0 order true sources.now targets.now) (length work.old) (length indices.old) }
-    ensures laid_out { result.outcome ≡ Done → (limit : ℕ) (keep : Bool)
-        → LaidOut (asks b limit order keep sources.now targets.now) room result.sizes work.new indices.new }
+) -> Result<Sizes, Refusal>
+    ensures outcome_value { ending result ≡ lay_outcome (asks b 0 order true sources.now targets.now) (length work.old) (length indices.old) }
+    ensures laid_out { IfOk result (λ z. (limit : ℕ) (keep : Bool)
+        → LaidOut (asks b limit order keep sources.now targets.now) room z work.new indices.new) }
 {
-    let prepared = laying::prepare(b, sources, targets, order, work);
-    if let Outcome::Refused(refusal) = prepared {
-        return unlaid(b, refusal);
-    }
+    laying::prepare(b, sources, targets, order, work)?;
     let axes = b.axes;
     let rows = sources.len() / axes;
     let marks = targets.len() / axes;
     if indices.len() < rows {
-        return unlaid(b, Refusal::Room(2));
+        return Err(Refusal::Room(2));
     }
     let depth = sum_sources(axes, rows, marks, work, indices);
-    let sizes = sizes_of(b, rows, marks, room, depth);
-    Laid {
-        outcome: Outcome::Done,
-        sizes,
-    }
+    Ok(sizes_of(b, rows, marks, room, depth))
 }
 
-// Whether all rows are put, and if not, why; then how many sources and nodes there are.
-#[derive(Clone, Copy)]
-pub struct Started {
-    pub outcome: Outcome,
-    pub put: bool,
-    pub rows: usize,
-    pub nodes: usize,
-}
-
-// A refusal: nothing is counted.
-pub fn unstarted(refusal: Refusal) -> Started
-    ensures { (result.outcome ≡ Refused refusal) × (result.put ≡ false) }
-{
-    Started {
-        outcome: Outcome::Refused(refusal),
-        put: false,
-        rows: 0,
-        nodes: 0,
-    }
-}
-
-// Whether n nodes have room.
-pub fn settle(room: usize, rows: usize, n: usize) -> Started
-    ensures outcome_value { (result.outcome ≡ ask (leb n room) (Room 3)) × (result.put ≡ is_done result.outcome) }
-    ensures rows_value { result.outcome ≡ Done → (result.rows ≡ rows) × (result.nodes ≡ n) }
+// What is put, where n nodes have room.
+pub fn settle(room: usize, rows: usize, n: usize) -> Result<Started, Refusal>
+    ensures { result ≡ ask (leb n room) (Room 3) then Ok (record { rows = rows; nodes = n }) }
 {
     if room < n {
-        return unstarted(Refusal::Room(3));
+        return Err(Refusal::Room(3));
     }
-    Started {
-        outcome: Outcome::Done,
-        put: true,
-        rows,
-        nodes: n,
-    }
+    Ok(Started { rows, nodes: n })
 }
 
 // Lays the points out: of the targets those of the grid, where the build is `sited`, and else these.
@@ -206,10 +129,10 @@ fn lay(
     room: usize,
     work: &mut [u64],
     indices: &mut [usize],
-) -> Laid
-    ensures outcome_value { result.outcome ≡ lay_outcome (asks_at b 0 order true sources.now targets.now sited grid) (length work.old) (length indices.old) }
-    ensures laid_out { result.outcome ≡ Done → (limit : ℕ) (keep : Bool)
-        → LaidOut (asks_at b limit order keep sources.now targets.now sited grid) room result.sizes work.new indices.new }
+) -> Result<Sizes, Refusal>
+    ensures outcome_value { ending result ≡ lay_outcome (asks_at b 0 order true sources.now targets.now sited grid) (length work.old) (length indices.old) }
+    ensures laid_out { IfOk result (λ z. (limit : ℕ) (keep : Bool)
+        → LaidOut (asks_at b limit order keep sources.now targets.now sited grid) room z work.new indices.new) }
 {
     if sited {
         return on_grid::lay_on_grid(b, sources, grid, order, room, work, indices);
@@ -232,41 +155,24 @@ pub fn start(
     indices: &mut [usize],
     key: &mut [u64],
     mark: &mut [usize],
-) -> Started
+) -> Result<Started, Refusal>
     requires { room ≤ 1048576 }
-    ensures outcome_value { result.outcome ≡ build_outcome (asks_at b limit order keep sources.now targets.now sited grid)
+    ensures outcome_value { ending result ≡ build_outcome (asks_at b limit order keep sources.now targets.now sited grid)
         (length work.old) (length indices.old) room }
-    ensures put_value { result.put ≡ is_done result.outcome }
-    ensures nodes_value { result.outcome ≡ Done → result.nodes ≡ length (built_keys (asks_at b limit order keep sources.now targets.now sited grid)) }
-    ensures tree_started { result.outcome ≡ Done → room ≤ length key.old → room ≤ length mark.old
+    ensures nodes_value { IfOk result (λ s. s.nodes ≡ length (built_keys (asks_at b limit order keep sources.now targets.now sited grid))) }
+    ensures tree_started { IfOk result (λ s. room ≤ length key.old → room ≤ length mark.old
         → TreeStarted (asks_at b limit order keep sources.now targets.now sited grid)
-        room result.rows result.nodes work.new indices.new key.new mark.new }
+        room s.rows s.nodes work.new indices.new key.new mark.new) }
 {
-    let laid = lay(b, sources, targets, sited, grid, order, room, work, indices);
-    let outcome = laid.outcome;
-    if let Outcome::Refused(refusal) = outcome {
-        return unstarted(refusal);
-    }
+    let z = lay(b, sources, targets, sited, grid, order, room, work, indices)?;
     let g = Rule {
         axes: b.axes,
         limit,
         order,
         keep,
     };
-    let z = laid.sizes;
     let n = grow::grow(g, z, indices, work, key, mark);
     settle(z.room, z.sources, n)
-}
-
-// The number of nodes and the depth, or the refusal.
-pub fn answer_of(started: Started, depth: u64) -> Built
-    ensures { result ≡ built_or started.outcome started.nodes depth }
-{
-    let outcome = started.outcome;
-    if let Outcome::Refused(refusal) = outcome {
-        return Built::Refused(refusal);
-    }
-    Built::Tree(started.nodes, depth)
 }
 
 // Builds the tree with these targets, or, where it is `sited`, with those of the grid.
@@ -285,7 +191,7 @@ fn raise(
     own: &mut [usize],
     begin: &mut [usize],
     total: &mut [usize],
-) -> Built
+) -> Result<Grown, Refusal>
     ensures value { result ≡ build_answer (asks_at b limit order keep sources.now targets.now sited grid)
         (rooms work.old indices.old key.old own.old begin.old total.old) }
     ensures work_after { work.new ≡ replicate (length work.old) 0 }
@@ -300,25 +206,14 @@ fn raise(
     ensures total_after { total.new ≡ totals_left (asks_at b limit order keep sources.now targets.now sited grid)
         (rooms work.old indices.old key.old own.old begin.old total.old) }
 {
-    let room = node_room(key.len(), own.len(), begin.len(), total.len());
+    let room = tree::node_room(key.len(), own.len(), begin.len(), total.len());
     let started = start(
         b, sources, targets, sited, grid, limit, order, keep, room, work, indices, key, total,
     );
-    let depth = filling::fill_or_clear(
-        started.put,
-        started.rows,
-        started.nodes,
-        work,
-        indices,
-        key,
-        own,
-        begin,
-        total,
-    );
-    answer_of(started, depth)
+    filling::fill_or_clear(started, work, indices, key, own, begin, total)
 }
 
-// The tree of the sources: its keys, own sources, begins and totals, and the order column in `indices`.
+// The tree of the sources, of which the number of nodes and the depth are answered: its keys, own sources, begins and totals, and the order column in `indices`.
 // `order` is that of the expansions, and `keep` and `refine` are the two flags.
 pub fn build_tree(
     b: Box,
@@ -334,7 +229,7 @@ pub fn build_tree(
     own: &mut [usize],
     begin: &mut [usize],
     total: &mut [usize],
-) -> Built
+) -> Result<Grown, Refusal>
     ensures value { result ≡ build_answer (asks_for b sources.now targets.now limit order keep refine)
         (rooms work.old indices.old key.old own.old begin.old total.old) }
     ensures work_after { work.new ≡ replicate (length work.old) 0 }
@@ -384,7 +279,7 @@ pub fn build_tree_on_grid(
     own: &mut [usize],
     begin: &mut [usize],
     total: &mut [usize],
-) -> Built
+) -> Result<Grown, Refusal>
     ensures value { result ≡ build_answer (asks_on_grid b sources.now grid limit order keep refine)
         (rooms work.old indices.old key.old own.old begin.old total.old) }
     ensures work_after { work.new ≡ replicate (length work.old) 0 }

@@ -9,20 +9,19 @@ use native.Mathlib.Numerals.{add-one}
 use lib.IntN.{ℤ}
 use lib.ListN.{length, get_or, set, drop, replicate, length-replicate, get_or-replicate, length-set}
 use lib.Seq.{get_or-set_same, get_or-set_other}
-use Rattle.slices.specs.Lists.{sum, Mem}
+use Rattle.slices.specs.Lists.{sum}
 use Rattle.slices.proofs.Tests.{same_or_not}
-use Rattle.slices.proofs.Sums.{sum_less, sum-next, sum-late, sum_to}
+use Rattle.slices.proofs.Sums.{sum-next, sum_to}
 use Rattle.tree.specs.Nodes.{own_of, stored}
 use Rattle.tree.specs.Finding.{FoundNode}
 use Rattle.tree.specs.WellFormed.{most_sources}
-use Rattle.tree.specs.declared.Found as F
-use Rattle.tree.specs.declared.Found.TheVariants.{At, Nothing}
 use Rattle.tree.proofs.Stored.{own_at, stored-mem}
-use Rattle.row_sums.specs.Readings.{Read, Columns, sources_in}
+use Rattle.row_sums.specs.Readings.{sources_in}
 use Rattle.row_sums.proofs.Found.{own-none}
-use Rattle.cell_sums.specs.Lifted.{run_lifted, cell_lifted, row_lifted, Before}
+use Rattle.cell_sums.specs.Lifted.{run_lifted, cell_lifted, row_lifted}
 use Rattle.cell_sums.specs.Kept.{Kept, Summed}
 use Rattle.cell_sums.proofs.Runs.{run_none, run-size}
+use Rattle.std.specs.Prelude.{None, Some, Option}
 
 module _ (keys total begin order : List ℕ) (readings : List ℤ) where
   abbrev cell : ℕ → ℕ
@@ -71,13 +70,13 @@ module _ (keys total begin order : List ℕ) (readings : List ℤ) where
 
 module _ (d : ℕ) (keys total begin order : List ℕ) (readings : List ℤ) (sums : List ℕ) (m : Summed d keys total begin order readings sums) where
   -- ---- a node found by its key
-  module _ (k : ℕ) (a : F.Found) (f : FoundNode d keys k a) where
-    pub cell-none : a ≡ Nothing → (0 ≡ cell keys total begin order readings k) × (0 ≡ own_of keys total k)
+  module _ (k : ℕ) (a : Option ℕ) (f : FoundNode d keys k a) where
+    pub cell-none : a ≡ None → (0 ≡ cell keys total begin order readings k) × (0 ≡ own_of keys total k)
     cell-none e =
         let none : stored keys k ≡ false = subst (FoundNode d keys k) e f m.columns.ordered in
         (none-lifted keys total begin order readings k none, sym (own-none keys total k none))
 
-    module _ (i : ℕ) (e : a ≡ At i) where
+    module _ (i : ℕ) (e : a ≡ Some i) where
       at : (i < length keys) × (get_or keys i 0 ≡ k)
       at = subst (FoundNode d keys k) e f
 

@@ -1,13 +1,12 @@
 -- Lifted sums are the sums of the readings, and 2 ^ 40 more for each source.
 use mathlib.Core.Path.{◌≡◌, refl, sym, ap, ap₂, ◌∙◌}
 use mathlib.Core.List.{List, [], ◌∷◌, map}
-use Prim.Native.Nat.{ℕ, zero, suc, ◌+◌, ◌*◌, ◌≤◌, ◌<◌}
+use Prim.Native.Nat.{ℕ, zero, suc, ◌+◌, ◌*◌, ◌≤◌}
 use native.Mathlib.Omega.{arith}
 use native.Mathlib.Numerals.{add-one}
-use lib.IntN.{ℤ, pos, nat_abs, ◌+ℤ◌}
+use lib.IntN.{ℤ, pos, ◌+ℤ◌}
 use lib.ListN.{length}
-use Rattle.slices.specs.Lists.{sum, range, Mem}
-use Rattle.slices.proofs.Counts.{here, there}
+use Rattle.slices.specs.Lists.{sum, range}
 use Rattle.tree.specs.Nodes.{own_of}
 use Rattle.sums.specs.Adding.{added, addedℤ}
 use Rattle.sums.specs.Sums.{reading_at, node_readings}

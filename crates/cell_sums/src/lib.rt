@@ -9,7 +9,10 @@ ghost use Rattle.row_sums.specs.Readings.{largest, Read, sources_in};
 ghost use Rattle.cell_sums.specs.Lifted.{lift, run_lifted, cell_lifted, row_lifted, Before};
 ghost use Rattle.cell_sums.specs.Kept.{Kept, Summed};
 
-use tree::Found;
+use morton::keys;
+
+// How many cells the tables of what was found have slots for.
+const SLOTS: usize = 1536;
 
 // The lifted readings of a cell or a row, and how many sources it has.
 #[derive(Clone, Copy)]
@@ -32,12 +35,10 @@ pub fn fill_sums(indices: &[usize], readings: &[i64], sums: &mut [u64])
     ensures { Before indices.now readings.now sums.new }
 {
     let mut sum: u64 = 0;
-    let mut i: usize = 0;
     sums[0] = 0;
-    while i < indices.len() {
-        sum += lifted(readings[indices[i]]);
-        i += 1;
-        sums[i] = sum;
+    for (i, &index) in indices.iter().enumerate() {
+        sum += lifted(readings[index]);
+        sums[i + 1] = sum;
     }
 }
 
@@ -47,13 +48,6 @@ fn run_sum(indices: &[usize], readings: &[i64], sums: &[u64], from: usize, count
     ensures { result ≡ run_lifted indices.now readings.now from count }
 {
     sums[from + count] - sums[from]
-}
-
-// Where the table has what was found of a cell.
-fn slot_of(k: u64) -> usize
-    ensures { result < 1536 }
-{
-    (k / 32768 % 1536) as usize
 }
 
 // What the cell with key k has; nothing if no node has it. What was found last for its slot is tried first.
@@ -77,7 +71,7 @@ fn cell_part(
     ensures kept { Kept key.now total.now begin.now indices.now readings.now names.new
         held.new counts.new }
 {
-    let slot = slot_of(k);
+    let slot = keys::slot_of::<SLOTS>(k);
     if names[slot] == k {
         return Part {
             sum: held[slot],
@@ -85,7 +79,7 @@ fn cell_part(
         };
     }
     let found = tree::find_node(axes, key, k);
-    let Found::At(node) = found else {
+    let Some(node) = found else {
         return Part { sum: 0, count: 0 };
     };
     let count = total[node];
@@ -120,14 +114,12 @@ pub fn row_part(
 {
     let mut sum: u64 = 0;
     let mut count: usize = 0;
-    let mut i: usize = 0;
-    while i < row.len() {
+    for &k in row {
         let cell = cell_part(
-            axes, key, total, begin, indices, readings, sums, names, held, counts, row[i],
+            axes, key, total, begin, indices, readings, sums, names, held, counts, k,
         );
         sum += cell.sum;
         count += cell.count;
-        i += 1;
     }
     Part { sum, count }
 }

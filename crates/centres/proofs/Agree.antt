@@ -9,26 +9,27 @@ use lib.ListN.{get_or}
 use lib.Pow.{pow_mono}
 use lib.Ieee.{Float, nan, binary64, of_int, add, sub, mul, le}
 use borrow.Author.Tests.{lt-ltb, eq-eqb, leb-true}
-use Rattle.refusal.specs.declared.Outcome.TheVariants.{Done}
 use Rattle.slices.proofs.Tests.{and_l}
 use Rattle.slices.proofs.Every.{every-same, every-at}
 use Rattle.codes.proofs.Codes.{anchor-lt}
 use Rattle.morton.specs.Keys.{level_of, code_of}
 use Rattle.morton.specs.Anchors.{anchor, within1, near, touching}
 use Rattle.morton.proofs.Checks.{axes-known}
-use Rattle.anchors.specs.Answers.{pair_check, truth}
+use Rattle.std.specs.Prelude.{Ok}
+use Rattle.refusal.specs.Chain.{◌then◌}
+use Rattle.anchors.specs.Answers.{pair_check}
 use Rattle.space.specs.declared.Box.{Box}
 use Rattle.space.specs.Floats.{size_of}
 use Rattle.space.specs.Domain.{centre_known, centres_known}
 use Rattle.space.specs.Cells.{side}
 use Rattle.space.proofs.Refusals.{Fine, fine}
 use Rattle.points.proofs.Sides.{Radius, radius}
-use Rattle.centres.specs.Centres.{keys_outcome, half, tolerance, centre_on, near_at, near_on, is_or, are_adjacent}
-use Rattle.centres.specs.declared.Adjacent.{Adjacent}
+use Rattle.centres.specs.Centres.{keys_outcome, half, tolerance, centre_on, near_at, near_on, are_adjacent}
 use Rattle.centres.specs.Agreement.{OneLevel, Agree}
 use Rattle.centres.proofs.Held.{Held}
 use Rattle.centres.proofs.OneAxis.{Scale, axis-agrees}
 use Rattle.centres.proofs.Values.{sided, tolerant, half-value, and-half, difference, radius-units, centre-units}
+use Rattle.refusal.specs.Outcome.{Answer, accepted}
 
 -- ---- what the test of one axis computes
 abbrev centre_at : Float → ℕ → Float → Float
@@ -102,10 +103,10 @@ module _ (b : Box) (H : Held b) (F : Fine b) (j k : ℕ) (l : level_of j ≤ 16)
 
 -- ---- the calls
 module _ (b : Box) (j k : ℕ) (o : OneLevel b j k) where
-  float-done : keys_outcome b j k ≡ Done
+  float-done : keys_outcome b j k ≡ accepted
   float-done = rw (o.box, o.first, o.second)
 
-  anchor-done : pair_check b.axes j k ≡ Done
+  anchor-done : pair_check b.axes j k ≡ accepted
   anchor-done = let F = fine b o.box in rw (axes-known b.axes F.least F.most, o.first, o.second)
 
 -- the float test and the anchor test give the same yes or no
@@ -114,10 +115,10 @@ agree b j k H o =
     let l : level_of j ≤ 16 = leb-true (level_of j) 16 (and_l _ _ o.first) in
     record {
       answer = touching b.axes j k;
-      float = ap (λ x. is_or x (near_on b.axes b j k)) (float-done b j k o) ∙ ap (is_or Done) (tests_agree b H (fine b o.box) j k l o.level);
-      anchor = ap (λ x. truth x (touching b.axes j k)) (anchor-done b j k o);
+      float = ap (λ x. x then Ok (near_on b.axes b j k)) (float-done b j k o) ∙ ap Ok (tests_agree b H (fine b o.box) j k l o.level);
+      anchor = ap (λ x. x then Ok (touching b.axes j k)) (anchor-done b j k o);
     }
 
 -- both promises of the call, from the first
-pub promised : (b : Box) (j k : ℕ) (r : Adjacent) → Held b → r ≡ are_adjacent b j k → (r ≡ are_adjacent b j k) × Agree b j k r
-promised b j k r H e = (e, subst (λ (r : Adjacent). Agree b j k r) (sym e) (agree b j k H))
+pub promised : (b : Box) (j k : ℕ) (r : Answer Bool) → Held b → r ≡ are_adjacent b j k → (r ≡ are_adjacent b j k) × Agree b j k r
+promised b j k r H e = (e, subst (λ (r : Answer Bool). Agree b j k r) (sym e) (agree b j k H))

@@ -6,18 +6,17 @@ use Prim.Native.Nat.{ℕ, zero, suc}
 use lib.IntN.{pos, negsuc}
 use lib.Ieee.{nan, fin, binary64, fits, le}
 use lib.ListN.{get_or}
-use Rattle.refusal.specs.declared.Outcome.TheVariants.{Done}
 use Rattle.slices.specs.Every.{every}
 use Rattle.morton.specs.Anchors.{anchor, near}
-use Rattle.anchors.specs.declared.TouchAnswer.TheVariants.{Touching}
 use Rattle.anchors.specs.Answers.{touching_answer}
 use Rattle.space.specs.declared.Box.{Box}
 use Rattle.space.specs.Floats.{size_of}
 use Rattle.space.specs.Domain.{box_outcome, centres_known}
-use Rattle.centres.specs.declared.Adjacent.TheVariants.{Is}
 use Rattle.centres.specs.Centres.{are_adjacent}
 use Rattle.centres.proofs.Held.{Held}
 use Rattle.centres.proofs.Agree.{agree}
+use Rattle.refusal.specs.Outcome.{accepted}
+use Rattle.std.specs.Prelude.{Ok}
 
 -- three axes, centre (2 ^ 24, -2 ^ 24, 2 ^ 24), radius 0.25
 abbrev corner : Box
@@ -33,16 +32,16 @@ corner-held = record { radius = refl; centre = at }
     at (suc (suc zero)) = refl
     at (suc (suc (suc a))) = refl
 
-corner-known : box_outcome corner ≡ Done
+corner-known : box_outcome corner ≡ accepted
 unfolding centres_known every size_of le
 corner-known = refl
 
 -- anchors (0, 0, 0) with (1, 1, 1), and with (2, 0, 0)
-touches : (touching_answer 3 16 229392 ≡ Touching true) × (touching_answer 3 16 262160 ≡ Touching false)
+touches : (touching_answer 3 16 229392 ≡ Ok true) × (touching_answer 3 16 262160 ≡ Ok false)
 unfolding near every anchor
 touches = (refl, refl)
 
-pub by-floats : (are_adjacent corner 16 229392 ≡ Is true) × (are_adjacent corner 16 262160 ≡ Is false)
+pub by-floats : (are_adjacent corner 16 229392 ≡ Ok true) × (are_adjacent corner 16 262160 ≡ Ok false)
 by-floats =
     let near = agree corner 16 229392 corner-held (record { box = corner-known; first = refl; second = refl; level = refl }) in
     let far = agree corner 16 262160 corner-held (record { box = corner-known; first = refl; second = refl; level = refl }) in

@@ -1,5 +1,5 @@
 -- The centres of cells, and the float test of two cells.
-use mathlib.Core.Path.{◌≡◌, sym, ap, ap₂, ◌∙◌}
+use mathlib.Core.Path.{◌≡◌, refl, sym, ap, ap₂, ◌∙◌}
 use mathlib.Core.Bool.{true, false}
 use mathlib.Core.List.{List}
 use Prim.Native.Nat.{ℕ, ◌+◌, ◌≤◌, ◌<◌}
@@ -10,10 +10,9 @@ use lib.ListN.{get_or}
 use lib.Ieee.{Float, binary64, in_float, of_bits, of_int, add, sub, mul, le}
 use borrow.Author.Tests.{lt-ltb, le-ltb}
 use Rattle.slices.specs.Lists.{filled}
-use Rattle.slices.proofs.Every.{every-next, every-fails, every-none}
+use Rattle.slices.proofs.Every.{every-next, every-none}
 use Rattle.refusal.specs.declared.Refusal.{Refusal}
 use Rattle.refusal.specs.declared.Refusal.TheVariants.{Dims, Key}
-use Rattle.refusal.specs.declared.Outcome.TheVariants.{Done, Refused}
 use Rattle.morton.specs.Keys.{level_of, code_of, axes_known, valid, ValidKey}
 use Rattle.morton.specs.Anchors.{anchors}
 use Rattle.morton.specs.Answers.{key_check}
@@ -27,9 +26,12 @@ use Rattle.space.specs.Domain.{box_outcome}
 use Rattle.space.specs.Cells.{displacement, side}
 use Rattle.centres.specs.Centres.{key_outcome, keys_outcome, half, tolerance, centre_on, reach, near_at, near_on}
 use Rattle.space.proofs.Literals.{zero_is}
+use Rattle.space.proofs.Boxes.{every-false}
 use Rattle.centres.proofs.Literals.{half_is}
 use Rattle.space.proofs.Patterns.{le→leb}
 use Rattle.space.proofs.Refusals.{Fine, fine}
+use Rattle.std.specs.Prelude.{Err}
+use Rattle.refusal.specs.Outcome.{accepted}
 
 -- a centre on axis a, by an array of anchors
 module _ (b : Box) (key a : ℕ) where
@@ -67,14 +69,14 @@ module _ (b : Box) (j k : ℕ) where
       ap₂ (λ p q. le p (add binary64 q l)) (a.apart ∙ ap₂ (λ p q. size_of (sub binary64 p q)) a.second a.first) i
       ∙ ap (λ q. le (size_of (sub binary64 (centre_on b (level_of k) (code_of k) m) (centre_on b (level_of j) (code_of j) m))) (add binary64 tolerance q)) a.length)
 
-  pub near_next : (n m : ℕ) (x y d l q : Float) → q ≡ tolerance → n ≡ m + 1 → Axis m x y d l → le d (add binary64 q l) ≡ true → near_on m b j k ≡ near_on n b j k
-  near_next n m x y d l q i e a h = sym (every-next (near_at b j k) n m e (test-is m x y d l q i a ∙ h))
+  pub near_next : (m : ℕ) (x y d l q : Float) → q ≡ tolerance → near_on m b j k ≡ true → Axis m x y d l → le d (add binary64 q l) ≡ true → near_on (m + 1) b j k ≡ true
+  near_next m x y d l q i before a h = every-next (near_at b j k) (m + 1) m refl (test-is m x y d l q i a ∙ h) ∙ before
 
-  pub near-stop : (n m : ℕ) (x y d l q : Float) → q ≡ tolerance → n ≡ m + 1 → Axis m x y d l → le d (add binary64 q l) ≡ false → false ≡ near_on n b j k
-  near-stop n m x y d l q i e a h = sym (every-fails (near_at b j k) n m e (test-is m x y d l q i a ∙ h))
+  pub near-stop : (n m : ℕ) (x y d l q : Float) → q ≡ tolerance → m < n → Axis m x y d l → le d (add binary64 q l) ≡ false → false ≡ near_on n b j k
+  near-stop n m x y d l q i less a h = sym (every-false (near_at b j k) n m less (test-is m x y d l q i a ∙ h))
 
-  pub near_none : (n : ℕ) → n ≡ 0 → true ≡ near_on n b j k
-  near_none n e = sym (every-none (near_at b j k) n e)
+  pub near_none : near_on 0 b j k ≡ true
+  near_none = every-none (near_at b j k) 0 refl
 
 -- the refusals of a key
 module _ (b : Box) (k : ℕ) where
@@ -82,21 +84,21 @@ module _ (b : Box) (k : ℕ) where
   check-is : Fine b → key_check b.axes k ≡ ask (valid b.axes k) Key
   check-is f = after-done (ask (axes_known b.axes) Dims) (ask (valid b.axes k) Key) (ap (λ t. ask t Dims) (axes-known b.axes f.least f.most))
 
-  pub key-box-refused : (r : Refusal) → box_outcome b ≡ Refused r → Refused r ≡ key_outcome b k
+  pub key-box-refused : (r : Refusal) → box_outcome b ≡ Err r → Err r ≡ key_outcome b k
   key-box-refused r e = sym (after-refused (box_outcome b) (ask (valid b.axes k) Key) r e)
 
-  pub key-checked : box_outcome b ≡ Done → key_check b.axes k ≡ key_outcome b k
+  pub key-checked : box_outcome b ≡ accepted → key_check b.axes k ≡ key_outcome b k
   key-checked e = check-is (fine b e) ∙ sym (after-done (box_outcome b) (ask (valid b.axes k) Key) e)
 
-  pub key-done : key_outcome b k ≡ Done → Fine b × ValidKey b.axes k
+  pub key-done : key_outcome b k ≡ accepted → Fine b × ValidKey b.axes k
   key-done e =
       let p = both-done (box_outcome b) (ask (valid b.axes k) Key) e in
       let f = fine b p.0 in
       (f, checked b.axes k (check-is f ∙ p.1))
 
   -- and those of two keys
-  pub keys-refused : (j : ℕ) (r : Refusal) → key_outcome b j ≡ Refused r → Refused r ≡ keys_outcome b j k
+  pub keys-refused : (j : ℕ) (r : Refusal) → key_outcome b j ≡ Err r → Err r ≡ keys_outcome b j k
   keys-refused j r e = sym (after-refused (key_outcome b j) (ask (valid b.axes k) Key) r e)
 
-  pub keys-checked : (j : ℕ) → Fine b → key_outcome b j ≡ Done → key_check b.axes k ≡ keys_outcome b j k
+  pub keys-checked : (j : ℕ) → Fine b → key_outcome b j ≡ accepted → key_check b.axes k ≡ keys_outcome b j k
   keys-checked j f e = check-is f ∙ sym (after-done (key_outcome b j) (ask (valid b.axes k) Key) e)

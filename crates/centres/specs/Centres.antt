@@ -1,23 +1,18 @@
 -- Document 01, "Keys": the two float calls, operation for operation as in the Rust.
-use Rattle.std.specs.Prelude.{Bool, true, false, List, [], ◌∷◌, ℕ, pos, negsuc, ltb, Float}
+use Rattle.std.specs.Prelude.{Bool, true, false, List, [], ◌∷◌, ℕ, pos, negsuc, ltb, Float, Ok}
 use Rattle.std.specs.Float.{fin, binary64}
 use Rattle.std.specs.Float.Ieee.{round, add, sub, mul, of_int, le}
 use Rattle.refusal.specs.declared.Refusal.TheVariants.{Key}
-use Rattle.refusal.specs.declared.Outcome.{Outcome}
-use Rattle.refusal.specs.declared.Outcome.TheVariants.{Done, Refused}
 use Rattle.slices.specs.Every.{every}
 use Rattle.morton.specs.Keys.{level_of, code_of, valid}
 use Rattle.morton.specs.Anchors.{anchor}
 use Rattle.space.specs.declared.Box.{Box}
-use Rattle.centres.specs.declared.SideLength.{SideLength}
-use Rattle.centres.specs.declared.SideLength.TheVariants.{Side, Refused as NoSide}
 use Rattle.centres.specs.declared.Centred.{Centred}
-use Rattle.centres.specs.declared.Adjacent.{Adjacent}
-use Rattle.centres.specs.declared.Adjacent.TheVariants.{Is, Refused as NoAnswer}
 use Rattle.space.specs.Floats.{nought, size_of}
 use Rattle.refusal.specs.Chain.{ask, ◌then◌}
 use Rattle.space.specs.Domain.{box_outcome, level_outcome}
 use Rattle.space.specs.Cells.{on_axis, displacement, side}
+use Rattle.refusal.specs.Outcome.{Answer, Outcome}
 
 -- 1 DIMS, 2 BOX, then 9 KEY
 abbrev pub key_outcome : Box → ℕ → Outcome
@@ -40,21 +35,18 @@ centre_on b level code a =
     (add binary64 (mul binary64 (add binary64 (of_int binary64 (pos (anchor b.axes a level code))) half) (side b.radius level)) (displacement b a))
 
 -- ---- a level's side
-abbrev pub side_or : Outcome → Float → SideLength
-side_or Done x = Side x
-side_or (Refused r) x = NoSide r
+abbrev pub side_length : Box → ℕ → Answer Float
+side_length b level = level_outcome b level then Ok (side b.radius level)
 
-abbrev pub side_length : Box → ℕ → SideLength
-side_length b level = side_or (level_outcome b level) (side b.radius level)
+-- ---- a cell's centre and side
+abbrev pub centred : Box → ℕ → Centred
+centred b k = record {
+  centre = centre_on b (level_of k) (code_of k) 0 ∷ centre_on b (level_of k) (code_of k) 1 ∷ centre_on b (level_of k) (code_of k) 2 ∷ [];
+  length = side b.radius (level_of k);
+}
 
--- ---- a cell's centre and side; zeros after a refusal
-abbrev pub centre_or : Outcome → List Float → Float → Centred
-centre_or Done c l = record { outcome = Done; centre = c; length = l }
-centre_or (Refused r) c l = record { outcome = Refused r; centre = nought ∷ nought ∷ nought ∷ []; length = nought }
-
-abbrev pub centre_length : Box → ℕ → Centred
-centre_length b k =
-    centre_or (key_outcome b k) (centre_on b (level_of k) (code_of k) 0 ∷ centre_on b (level_of k) (code_of k) 1 ∷ centre_on b (level_of k) (code_of k) 2 ∷ []) (side b.radius (level_of k))
+abbrev pub centre_length : Box → ℕ → Answer Centred
+centre_length b k = key_outcome b k then Ok (centred b k)
 
 -- ---- adjacent cells
 -- 0.5 * (length_a + length_b)
@@ -70,9 +62,5 @@ near_at b j k a =
 abbrev pub near_on : ℕ → Box → ℕ → ℕ → Bool
 near_on n b j k = every n (near_at b j k)
 
-abbrev pub is_or : Outcome → Bool → Adjacent
-is_or Done t = Is t
-is_or (Refused r) t = NoAnswer r
-
-abbrev pub are_adjacent : Box → ℕ → ℕ → Adjacent
-are_adjacent b j k = is_or (keys_outcome b j k) (near_on b.axes b j k)
+abbrev pub are_adjacent : Box → ℕ → ℕ → Answer Bool
+are_adjacent b j k = keys_outcome b j k then Ok (near_on b.axes b j k)

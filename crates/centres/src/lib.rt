@@ -9,35 +9,23 @@ ghost use Rattle.centres.specs.Agreement.{Agree};
 ghost use Rattle.centres.specs.Centres.{key_outcome, centre_on, side_length, centre_length, near_on, are_adjacent};
 
 use morton::keys;
-use refusal::{Outcome, Refusal};
+use refusal::Refusal;
 use space::Box;
 
 // The side of a cell at a level.
-#[derive(Clone, Copy)]
-pub enum SideLength {
-    Side(f64),
-    Refused(Refusal),
-}
-
-pub fn get_side_length(b: Box, level: u64) -> SideLength
+pub fn get_side_length(b: Box, level: u64) -> Result<f64, Refusal>
     ensures { result ≡ side_length b level }
 {
-    let o = space::level_outcome(b, level);
-    match o {
-        Outcome::Refused(refusal) => SideLength::Refused(refusal),
-        Outcome::Done => SideLength::Side(space::side_at(b.radius, level)),
-    }
+    space::level_outcome(b, level)?;
+    Ok(space::side_at(b.radius, level))
 }
 
 // Why a call with a box and a key is refused, if it is.
-fn key_outcome(b: Box, key: u64) -> Outcome
+fn key_outcome(b: Box, key: u64) -> Result<(), Refusal>
     ensures { result ≡ key_outcome b key }
 {
-    let o = space::box_outcome(b);
-    match o {
-        Outcome::Refused(refusal) => Outcome::Refused(refusal),
-        Outcome::Done => keys::check_key(b.axes, key),
-    }
+    space::box_outcome(b)?;
+    keys::check_key(b.axes, key)
 }
 
 // The centre of a cell on axis a, by its anchors.
@@ -52,34 +40,25 @@ fn centre_on(b: Box, key: u64, anchor: [u64; 3], a: usize) -> f64
     (anchor[a] as f64 + 0.5) * side + space::displacement(b, a)
 }
 
-// A cell's centre and the length of its side, 0 past the axes and after a refusal.
+// A cell's centre, 0 past the axes, and the length of its side.
 #[derive(Clone, Copy)]
 pub struct Centred {
-    pub outcome: Outcome,
     pub centre: [f64; 3],
     pub length: f64,
 }
 
-pub fn get_center_length(b: Box, key: u64) -> Centred
+pub fn get_center_length(b: Box, key: u64) -> Result<Centred, Refusal>
     ensures { result ≡ centre_length b key }
 {
-    let o = key_outcome(b, key);
-    if let Outcome::Refused(refusal) = o {
-        return Centred {
-            outcome: Outcome::Refused(refusal),
-            centre: [0.0, 0.0, 0.0],
-            length: 0.0,
-        };
-    }
+    key_outcome(b, key)?;
     let anchor = anchors::anchors_of(b.axes, key);
     let x = centre_on(b, key, anchor, 0);
     let y = centre_on(b, key, anchor, 1);
     let z = centre_on(b, key, anchor, 2);
-    Centred {
-        outcome: Outcome::Done,
+    Ok(Centred {
         centre: [x, y, z],
         length: space::side_at(b.radius, keys::level_of(key)),
-    }
+    })
 }
 
 // Whether on every axis the centres of two cells differ by at most the mean of their sides, and a little more.
@@ -92,11 +71,9 @@ fn centres_near(b: Box, first: u64, second: u64) -> bool
     let length = 0.5 * (length_a + length_b);
     let anchor_a = anchors::anchors_of(b.axes, first);
     let anchor_b = anchors::anchors_of(b.axes, second);
-    let mut n = b.axes;
-    while 0 < n {
-        n -= 1;
-        let value_a = centre_on(b, first, anchor_a, n);
-        let value_b = centre_on(b, second, anchor_b, n);
+    for a in 0..b.axes {
+        let value_a = centre_on(b, first, anchor_a, a);
+        let value_b = centre_on(b, second, anchor_b, a);
         if !(space::magnitude(value_b - value_a) <= 1e-6 + length) {
             return false;
         }
@@ -104,24 +81,13 @@ fn centres_near(b: Box, first: u64, second: u64) -> bool
     true
 }
 
-// The Rust's test of two cells, of any two levels. For a box in the domain and two valid keys of one level it answers what the anchor test answers (agrees).
-#[derive(Clone, Copy)]
-pub enum Adjacent {
-    Is(bool),
-    Refused(Refusal),
-}
-
-pub fn are_adjacent(b: Box, first: u64, second: u64) -> Adjacent
+// The Rust's test of two cells, of any two levels. For a box in the domain and two valid keys of one level it answers what the
+// anchor test answers (agrees).
+pub fn are_adjacent(b: Box, first: u64, second: u64) -> Result<bool, Refusal>
     ensures answer { result ≡ are_adjacent b first second }
     ensures agrees { Agree b first second result }
 {
-    let o = key_outcome(b, first);
-    if let Outcome::Refused(refusal) = o {
-        return Adjacent::Refused(refusal);
-    }
-    let p = keys::check_key(b.axes, second);
-    match p {
-        Outcome::Refused(refusal) => Adjacent::Refused(refusal),
-        Outcome::Done => Adjacent::Is(centres_near(b, first, second)),
-    }
+    key_outcome(b, first)?;
+    keys::check_key(b.axes, second)?;
+    Ok(centres_near(b, first, second))
 }

@@ -1,4 +1,3 @@
-pub mod Ordered
 pub mod Added
 pub mod Coded
 pub mod Listed

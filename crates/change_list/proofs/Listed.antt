@@ -7,10 +7,10 @@ use lib.ListN.{length, take, replicate, length-append, length-map}
 use Rattle.slices.specs.Lists.{range}
 use Rattle.slices.specs.Order.{ascending}
 use Rattle.tree.specs.Nodes.{own_of}
-use Rattle.sourced.specs.Room.{Holds, Puts, PutsRow}
+use Rattle.sourced.specs.Room.{Holds, Puts, PutsRow, SortedPart}
 use Rattle.sourced.proofs.Putting.{holds-none}
 use Rattle.changed_rows.specs.Told.{Beside, told_keys, Comparable}
-use Rattle.change_list.specs.List.{new_nodes, zero_nodes, told_all, codes_all, code_runs, SortedPart, ListedAll}
+use Rattle.change_list.specs.List.{new_nodes, zero_nodes, told_all, codes_all, code_runs, ListedAll}
 use Rattle.change_list.proofs.Added.{zero-new}
 
 abbrev five_runs : ℕ → ℕ → ℕ → ℕ → ℕ → List ℕ

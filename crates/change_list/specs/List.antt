@@ -3,7 +3,7 @@ use Rattle.std.specs.Prelude.{◌≡◌, not, List, ◌++◌, map, ℕ, ◌-◌,
 use Rattle.slices.specs.Lists.{filter, range}
 use Rattle.slices.specs.Order.{ascending}
 use Rattle.tree.specs.Nodes.{stored}
-use Rattle.sourced.specs.Room.{Holds, Puts, PutsRow}
+use Rattle.sourced.specs.Room.{Holds}
 use Rattle.changed_rows.specs.Told.{Beside, told_keys}
 
 module _ (b : Beside) where
@@ -30,10 +30,6 @@ zero_nodes nodes firsts = map (λ q. get_or nodes q 0) (filter (λ q. eqb (get_o
 -- the codes of five parts that end at these places
 unfoldable pub code_runs : ℕ → ℕ → ℕ → ℕ → ℕ → List ℕ
 code_runs a b c d e = replicate a 1 ++ (replicate (b - a) 2 ++ (replicate (c - b) 3 ++ (replicate (d - c) 4 ++ replicate (e - d) 5)))
-
--- what was put from n up to m is in ascending order now
-abbrev pub SortedPart : ℕ → ℕ → List ℕ → List ℕ → Type 0
-SortedPart n m out out' = (row before : List ℕ) → length before ≡ length out → PutsRow row before n out m → Puts before n row out' m
 
 -- the list is in the two columns where both have room for it; else it is counted on up to one more than the room for keys
 pub record ListedAll (b : Beside) (codes changed : List ℕ) (r : ℕ) : Type 0 where

@@ -4,7 +4,7 @@
 ghost use Rattle.std.specs.Prelude.{◌≡◌, ◌++◌, ◌-◌, ◌≤◌, length, take, replicate};
 ghost use Rattle.sourced.specs.Room.{Puts};
 ghost use Rattle.changed_rows.specs.Told.{beside, Comparable};
-ghost use Rattle.change_list.specs.List.{zero_nodes, code_runs, SortedPart, ListedAll};
+ghost use Rattle.change_list.specs.List.{zero_nodes, code_runs, ListedAll};
 
 // Puts the keys of the nodes that no row has, by node.
 fn put_added(nodes: &[u64], firsts: &[usize], changed: &mut [u64], from: usize) -> usize
@@ -12,29 +12,12 @@ fn put_added(nodes: &[u64], firsts: &[usize], changed: &mut [u64], from: usize) 
     ensures { Puts changed.old from (zero_nodes nodes.now firsts.now) changed.new result }
 {
     let mut n = from;
-    let mut q = 0;
-    while q < nodes.len() {
+    for q in 0..nodes.len() {
         if firsts[q] == 0 {
             n = sourced::put(changed, n, nodes[q]);
-            q += 1;
-        } else {
-            q += 1;
         }
     }
     n
-}
-
-// Sorts what stands from n up to m, where it has room.
-fn sort_part(out: &mut [u64], n: usize, m: usize)
-    ensures { SortedPart n m out.old out.new }
-{
-    if out.len() < m {
-        return;
-    }
-    if m < n {
-        return;
-    }
-    sorting::sort(&mut out[n..m]);
 }
 
 // Writes the code in the places from n up to m.
@@ -42,11 +25,7 @@ fn put_code(codes: &mut [u64], code: u64, n: usize, m: usize)
     requires { (n ≤ m) × (m ≤ length codes.old) }
     ensures { take m codes.new ≡ take n codes.old ++ replicate (m - n) code }
 {
-    let mut j = n;
-    while j < m {
-        codes[j] = code;
-        j += 1;
-    }
+    codes[n..m].fill(code);
 }
 
 // Writes the codes of the five parts, which end at these places.
@@ -84,7 +63,7 @@ pub fn list_changes(
         2, axes, key, own, begin, nodes, counts, begins, firsts, changed, a,
     );
     let c = put_added(nodes, firsts, changed, b);
-    sort_part(changed, b, c);
+    sourced::sort_part(changed, b, c);
     let d = changed_rows::put_rows(
         4, axes, key, own, begin, nodes, counts, begins, firsts, changed, c,
     );

@@ -5,8 +5,6 @@ ghost use Rattle.std.specs.Prelude.{◌≡◌, ◌<◌, length};
 ghost use Rattle.sourced.specs.Room.{Puts};
 ghost use Rattle.changed_rows.specs.Told.{beside, told_node, told_row, told_keys, Comparable};
 
-use tree::Found;
-
 // Whether the code, one of 2, 4 and 5, is told of a row with a valid key.
 fn node_told(
     code: u64,
@@ -59,7 +57,7 @@ fn row_told(
     }
     let found = tree::find_node(axes, nodes, k);
     match found {
-        Found::At(node) => {
+        Some(node) => {
             let first = firsts[node] == row + 1;
             node_told(
                 code,
@@ -70,7 +68,7 @@ fn row_told(
                 begins[node],
             )
         }
-        Found::Nothing => false,
+        None => false,
     }
 }
 
@@ -92,15 +90,11 @@ pub fn put_rows(
     ensures { Puts changed.old from (told_keys (beside axes key.now own.now begin.now nodes.now counts.now begins.now) code) changed.new result }
 {
     let mut n = from;
-    let mut row = 0;
-    while row < key.len() {
+    for row in 0..key.len() {
         if row_told(
             code, axes, key, own, begin, nodes, counts, begins, firsts, row,
         ) {
             n = sourced::put(changed, n, key[row]);
-            row += 1;
-        } else {
-            row += 1;
         }
     }
     n

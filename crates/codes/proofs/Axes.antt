@@ -1,18 +1,20 @@
 -- The code of 1, 2 and 3 axes from its parts, and its parts from the code.
 use mathlib.Core.Path.{◌≡◌, refl, sym, ap, ap₂, ◌∙◌}
 use mathlib.Core.List.{List, [], ◌∷◌}
-use Prim.Native.Nat.{ℕ, zero, suc, ◌+◌, ◌*◌, ◌/◌, ◌%◌, ◌^◌, ◌≤◌, ◌<◌}
+use Prim.Native.Nat.{ℕ, zero, suc, ◌+◌, ◌*◌, ◌/◌, ◌%◌, ◌^◌, ◌<◌}
 use native.Mathlib.Omega.{arith}
-use native.Mathlib.Nat.{mod-eq_of_lt, mod-one, div-one, mul-one, lt_of_lt_of_le}
+use native.Mathlib.Nat.{mod-eq_of_lt, mod-one, div-one}
 use native.Mathlib.Numerals.{add-one}
 use lib.Bits.{bit_and, and_mask}
 use lib.ListN.{get_or}
-use lib.Pow.{pow_mono, mod-pow-add}
+use lib.Pow.{mod-pow-add}
 use Rattle.slices.specs.Lists.{range, filled}
 use Rattle.codes.specs.Codes.{spread, anchor, encode, anchors_of}
-use Rattle.codes.specs.Runs.{runs}
+use Rattle.codes.specs.Runs.{runs, mask}
+use Rattle.codes.specs.Masks.{Spread, Gathered}
+use Rattle.codes.specs.declared.TheConstants.{TWO, THREE}
 use Rattle.codes.proofs.Codes.{spread-split, spread_cut}
-use Rattle.codes.proofs.Runs.{singles, moved-lt, axis-down}
+use Rattle.codes.proofs.Runs.{whole, singles, moved-lt, axis-down}
 
 -- ---- one axis: its bits are the code's
 
@@ -33,23 +35,25 @@ anchor-one c h = low_bits (anchor 1 0) (λ y. refl) (λ n y. ap (λ (k : ℕ). k
 
 -- ---- the code of the axes' parts
 
-spread-lt : (d n x : ℕ) → 1 ≤ d → spread d n x < 2 ^ (d * n)
-spread-lt d n x h = omega (arith, singles d n x, mul-one (runs d 1 n x), moved-lt d 1 0 n x (omega arith))
-
 -- below 2 ^ 48, so that no sum of three wraps
-pub part-lt : (d x r : ℕ) → 1 ≤ d → d ≤ 3 → r ≡ spread d 16 x → r < 281474976710656
-part-lt d x r l h e = rw e (lt_of_lt_of_le (spread-lt d 16 x l) (pow_mono {i = d * 16} {j = 48} (omega arith)))
+pub one-of-three : (x r : ℕ) → x < 65536 → Spread THREE x r → (r ≡ spread 3 16 x) × (r < 281474976710656)
+unfolding mask
+one-of-three x r h is =
+    let e : r ≡ spread 3 16 x = is 3 1 x (omega arith) (omega arith) refl (whole 48 16 x h) in
+    (e, omega (arith, singles 3 16 x, moved-lt 3 1 2 16 x (omega arith)))
 
 -- two anchors in one word: one number of 32 bits, in runs 32 apart
-pub pair-whole : (x y : ℕ) → x < 65536 → y < 65536 → x + y * 2 ^ 32 % 2 ^ 64 ≡ runs 32 16 2 (y * 65536 + x)
+pair-whole : (x y : ℕ) → x < 65536 → y < 65536 → x + y * 2 ^ 32 % 2 ^ 64 ≡ runs 32 16 2 (y * 65536 + x)
 unfolding runs
 pair-whole x y hx hy = omega arith
 
-pub pair-spread : (x y : ℕ) → x < 65536 → y < 65536 → spread 2 32 (y * 65536 + x) ≡ spread 2 16 x + 4294967296 * spread 2 16 y
-pair-spread x y hx hy =
+pub pair-spread : (x y r : ℕ) → x < 65536 → y < 65536 → Spread TWO (x + y * 2 ^ 32 % 2 ^ 64) r → r ≡ spread 2 16 x + 4294967296 * spread 2 16 y
+unfolding mask
+pair-spread x y r hx hy is =
     let lo : (y * 65536 + x) % 65536 ≡ x = omega arith in
     let hi : (y * 65536 + x) / 65536 ≡ y = omega arith in
-    spread-split 2 16 16 (y * 65536 + x)
+    is 2 2 (y * 65536 + x) (omega arith) (omega arith) refl (pair-whole x y hx hy)
+    ∙ spread-split 2 16 16 (y * 65536 + x)
     ∙ ap₂ (λ (p q : ℕ). p + 4294967296 * spread 2 16 q) (sym (spread_cut 2 16 (y * 65536 + x)) ∙ ap (spread 2 16) lo) hi
 
 -- half a word holds a spread anchor, and one bit more
@@ -91,10 +95,14 @@ anchors-one axes code e h =
     let lt : code < 65536 = rw e at h in
     rw (e, anchor-one code lt)
 
-pub anchors-two : (axes code x y : ℕ) → axes ≡ 2 → x ≡ anchor 2 0 16 code → y ≡ anchor 2 0 16 (code / 2) → x ∷ y ∷ 0 ∷ [] ≡ filled 3 (anchors_of axes 16 code)
-unfolding range
-anchors-two axes code x y e ex ey = rw (e, ex, ey, axis-down 2 1 16 code)
+pub anchors-two : (axes code x y : ℕ) → axes ≡ 2 → code < 2 ^ (axes * 16) → Gathered TWO code x → Gathered TWO (code / 2) y → x ∷ y ∷ 0 ∷ [] ≡ filled 3 (anchors_of axes 16 code)
+unfolding range mask
+anchors-two axes code x y e h gx gy =
+    let lt : code < 4294967296 = rw e at h in
+    rw (e, gx 2 2 (omega arith) (omega arith) refl lt, gy 2 2 (omega arith) (omega arith) refl (omega arith), axis-down 2 1 16 code)
 
-pub anchors-three : (axes code x y z : ℕ) → axes ≡ 3 → x ≡ anchor 3 0 16 code → y ≡ anchor 3 0 16 (code / 2) → z ≡ anchor 3 0 16 (code / 4) → x ∷ y ∷ z ∷ [] ≡ filled 3 (anchors_of axes 16 code)
-unfolding range
-anchors-three axes code x y z e ex ey ez = rw (e, ex, ey, ez, axis-down 3 1 16 code, axis-down 3 2 16 code)
+pub anchors-three : (axes code x y z : ℕ) → axes ≡ 3 → code < 2 ^ (axes * 16) → Gathered THREE code x → Gathered THREE (code / 2) y → Gathered THREE (code / 4) z → x ∷ y ∷ z ∷ [] ≡ filled 3 (anchors_of axes 16 code)
+unfolding range mask
+anchors-three axes code x y z e h gx gy gz =
+    let lt : code < 281474976710656 = rw e at h in
+    rw (e, gx 3 1 (omega arith) (omega arith) refl lt, gy 3 1 (omega arith) (omega arith) refl (omega arith), gz 3 1 (omega arith) (omega arith) refl (omega arith), axis-down 3 1 16 code, axis-down 3 2 16 code)

@@ -3,3 +3,4 @@ pub mod Places
 pub mod Codes
 pub mod Runs
 pub mod Axes
+pub mod Steps

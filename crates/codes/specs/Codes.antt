@@ -1,5 +1,5 @@
 -- Document 01, "Keys": bit i of axis a's anchor is bit d * i + a of the code. d is the number of axes.
-use Rattle.std.specs.Prelude.{Bool, true, false, List, map, ℕ, zero, suc, ◌+◌, ◌*◌, ◌/◌, ◌%◌, ◌^◌, get_or}
+use Rattle.std.specs.Prelude.{List, map, ℕ, zero, suc, ◌+◌, ◌*◌, ◌/◌, ◌%◌, ◌^◌, get_or}
 use Rattle.slices.specs.Lists.{range}
 
 -- axis a's anchor: bit i of it is bit d * i + a of the code, for each i below the level

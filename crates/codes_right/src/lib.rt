@@ -15,8 +15,7 @@ fn run_right(axes: usize, codes: &[u64], order: &[usize], k: u64, from: usize, t
     let shift = axes as u64 * (16 - k % 32768);
     let cell = k / 32768;
     let mut low = 0;
-    let mut p = from;
-    while p < to {
+    for p in from..to {
         let i = order[p];
         if i < low {
             return false;
@@ -28,7 +27,6 @@ fn run_right(axes: usize, codes: &[u64], order: &[usize], k: u64, from: usize, t
             return false;
         }
         low = i + 1;
-        p += 1;
     }
     true
 }
@@ -53,14 +51,12 @@ pub fn codes_right(
     if total[0] != codes.len() {
         return false;
     }
-    let mut node = 0;
-    while node < key.len() {
+    for node in 0..key.len() {
         let from = begin[node];
         let to = from + own[node];
         if !run_right(axes, codes, order, key[node], from, to) {
             return false;
         }
-        node += 1;
     }
     true
 }

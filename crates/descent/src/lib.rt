@@ -36,14 +36,10 @@ fn store_owners(
     ensures { PutsThose key.now (owns_within key.now own.now from to) out.old n out.new result }
 {
     let mut m = n;
-    let mut c = from;
-    while c < to {
+    for c in from..to {
         out[m] = key[c];
         if 0 < own[c] {
             m += 1;
-            c += 1;
-        } else {
-            c += 1;
         }
     }
     m
@@ -121,10 +117,8 @@ fn put_under(
     ensures { PutsThose key.now (owns_below axes key.now own.now (take c nodes.now)) out.old n out.new result }
 {
     let mut m = n;
-    let mut j: usize = 0;
-    while j < c {
+    for j in 0..c {
         m = cell_step(axes, key, own, total, links, nodes[j], left, out, m);
-        j += 1;
     }
     m
 }

@@ -4,32 +4,27 @@
 ghost use Rattle.std.specs.Prelude.{◌≡◌, length, replicate};
 ghost use Rattle.tree.specs.Columns.{columns};
 ghost use Rattle.balanced.specs.Outcomes.{rooms, balance_answer, order_left, keys_left, own_left, begins_left, totals_left};
+ghost use Rattle.refusal.specs.Outcome.{ending, answer_or};
 ghost use Rattle.exports_keys.specs.Told.{told};
 ghost use Rattle.exports_points.specs.Boxes.{box_at};
-ghost use Rattle.exports_balance.specs.Told.{balanced_end, nodes_in, depth_in};
+ghost use Rattle.exports_balance.specs.Told.{no_tree};
 
-use balanced::Balanced;
 use exports_keys::Ended;
-use refusal::Outcome;
+use growth::Grown;
+use refusal::Refusal;
 
-// Tells the number of nodes and the depth.
-fn tell_balanced(answer: Balanced, nodes: &mut usize, depth: &mut u64) -> Ended
-    ensures ended { result ≡ told (balanced_end answer) }
-    ensures nodes { nodes.new ≡ nodes_in answer }
-    ensures depth { depth.new ≡ depth_in answer }
+// Tells the number of nodes and the depth, or 0 and 0.
+fn tell_balanced(answer: Result<Grown, Refusal>, nodes: &mut usize, depth: &mut u64) -> Ended
+    ensures ended { result ≡ told (ending answer) }
+    ensures nodes { nodes.new ≡ (answer_or no_tree answer).nodes }
+    ensures depth { depth.new ≡ (answer_or no_tree answer).depth }
 {
-    match answer {
-        Balanced::Tree(n, levels) => {
-            *nodes = n;
-            *depth = levels;
-            exports_keys::end_of(Outcome::Done)
-        }
-        Balanced::Refused(refusal) => {
-            *nodes = 0;
-            *depth = 0;
-            exports_keys::end_of(Outcome::Refused(refusal))
-        }
-    }
+    let none = Grown { nodes: 0, depth: 0 };
+    let mut grown = none;
+    let ended = exports_keys::tell(answer, none, &mut grown);
+    *nodes = grown.nodes;
+    *depth = grown.depth;
+    ended
 }
 
 // The old columns and their order column are read; the new ones are lent.
@@ -52,7 +47,7 @@ pub fn lohandema_balance_tree(
     nodes: &mut usize,
     depth: &mut u64,
 ) -> Ended
-    ensures ended { result ≡ told (balanced_end (balance_answer
+    ensures ended { result ≡ told (ending (balance_answer
         (box_at centre.now radius axes) points.now (columns key.now own.now begin.now total.now) indices.now
         (rooms work.old new_indices.old new_key.old new_own.old new_begin.old new_total.old))) }
     ensures work { work.new ≡ replicate (length work.old) 0 }
@@ -71,12 +66,12 @@ pub fn lohandema_balance_tree(
     ensures new_total { new_total.new ≡ totals_left
         (box_at centre.now radius axes) points.now (columns key.now own.now begin.now total.now) indices.now
         (rooms work.old new_indices.old new_key.old new_own.old new_begin.old new_total.old) }
-    ensures nodes { nodes.new ≡ nodes_in (balance_answer
+    ensures nodes { nodes.new ≡ (answer_or no_tree (balance_answer
         (box_at centre.now radius axes) points.now (columns key.now own.now begin.now total.now) indices.now
-        (rooms work.old new_indices.old new_key.old new_own.old new_begin.old new_total.old)) }
-    ensures depth { depth.new ≡ depth_in (balance_answer
+        (rooms work.old new_indices.old new_key.old new_own.old new_begin.old new_total.old))).nodes }
+    ensures depth { depth.new ≡ (answer_or no_tree (balance_answer
         (box_at centre.now radius axes) points.now (columns key.now own.now begin.now total.now) indices.now
-        (rooms work.old new_indices.old new_key.old new_own.old new_begin.old new_total.old)) }
+        (rooms work.old new_indices.old new_key.old new_own.old new_begin.old new_total.old))).depth }
 {
     let b = exports_points::box_at(centre, radius, axes);
     let answer = balanced::balance_tree(

@@ -4,33 +4,28 @@
 ghost use Rattle.std.specs.Prelude.{◌≡◌, length, replicate};
 ghost use Rattle.build.specs.Asked.{asks_for, asks_on_grid};
 ghost use Rattle.build.specs.Outcomes.{rooms, build_answer, order_left, keys_left, own_left, begins_left, totals_left};
+ghost use Rattle.refusal.specs.Outcome.{ending, answer_or};
 ghost use Rattle.exports_keys.specs.Told.{told};
 ghost use Rattle.exports_points.specs.Boxes.{box_at};
-ghost use Rattle.exports_build.specs.Told.{grid_at, built_end, nodes_in, depth_in};
+ghost use Rattle.exports_build.specs.Told.{grid_at, no_tree};
 
-use build::Built;
 use exports_keys::Ended;
 use grids::Grid;
-use refusal::Outcome;
+use growth::Grown;
+use refusal::Refusal;
 
-// Tells the number of nodes and the depth.
-pub fn tell_built(answer: Built, nodes: &mut usize, depth: &mut u64) -> Ended
-    ensures ended { result ≡ told (built_end answer) }
-    ensures nodes { nodes.new ≡ nodes_in answer }
-    ensures depth { depth.new ≡ depth_in answer }
+// Tells the number of nodes and the depth, or 0 and 0.
+pub fn tell_built(answer: Result<Grown, Refusal>, nodes: &mut usize, depth: &mut u64) -> Ended
+    ensures ended { result ≡ told (ending answer) }
+    ensures nodes { nodes.new ≡ (answer_or no_tree answer).nodes }
+    ensures depth { depth.new ≡ (answer_or no_tree answer).depth }
 {
-    match answer {
-        Built::Tree(n, levels) => {
-            *nodes = n;
-            *depth = levels;
-            exports_keys::end_of(Outcome::Done)
-        }
-        Built::Refused(refusal) => {
-            *nodes = 0;
-            *depth = 0;
-            exports_keys::end_of(Outcome::Refused(refusal))
-        }
-    }
+    let none = Grown { nodes: 0, depth: 0 };
+    let mut grown = none;
+    let ended = exports_keys::tell(answer, none, &mut grown);
+    *nodes = grown.nodes;
+    *depth = grown.depth;
+    ended
 }
 
 // `order` is that of the expansions; the order column is `indices`.
@@ -53,7 +48,7 @@ pub fn lohandema_build_tree(
     nodes: &mut usize,
     depth: &mut u64,
 ) -> Ended
-    ensures ended { result ≡ told (built_end (build_answer (asks_for (box_at centre.now radius axes) sources.now targets.now limit order keep refine)
+    ensures ended { result ≡ told (ending (build_answer (asks_for (box_at centre.now radius axes) sources.now targets.now limit order keep refine)
         (rooms work.old indices.old key.old own.old begin.old total.old))) }
     ensures work { work.new ≡ replicate (length work.old) 0 }
     ensures indices { indices.new ≡ order_left (asks_for (box_at centre.now radius axes) sources.now targets.now limit order keep refine)
@@ -66,10 +61,10 @@ pub fn lohandema_build_tree(
         (rooms work.old indices.old key.old own.old begin.old total.old) }
     ensures total { total.new ≡ totals_left (asks_for (box_at centre.now radius axes) sources.now targets.now limit order keep refine)
         (rooms work.old indices.old key.old own.old begin.old total.old) }
-    ensures nodes { nodes.new ≡ nodes_in (build_answer (asks_for (box_at centre.now radius axes) sources.now targets.now limit order keep refine)
-        (rooms work.old indices.old key.old own.old begin.old total.old)) }
-    ensures depth { depth.new ≡ depth_in (build_answer (asks_for (box_at centre.now radius axes) sources.now targets.now limit order keep refine)
-        (rooms work.old indices.old key.old own.old begin.old total.old)) }
+    ensures nodes { nodes.new ≡ (answer_or no_tree (build_answer (asks_for (box_at centre.now radius axes) sources.now targets.now limit order keep refine)
+        (rooms work.old indices.old key.old own.old begin.old total.old))).nodes }
+    ensures depth { depth.new ≡ (answer_or no_tree (build_answer (asks_for (box_at centre.now radius axes) sources.now targets.now limit order keep refine)
+        (rooms work.old indices.old key.old own.old begin.old total.old))).depth }
 {
     let b = exports_points::box_at(centre, radius, axes);
     let answer = build::build_tree(
@@ -114,7 +109,7 @@ pub fn lohandema_build_tree_on_grid(
     nodes: &mut usize,
     depth: &mut u64,
 ) -> Ended
-    ensures ended { result ≡ told (built_end (build_answer
+    ensures ended { result ≡ told (ending (build_answer
         (asks_on_grid (box_at centre.now radius axes) sources.now (grid_at origin.now spacing.now shape.now) limit order keep refine)
         (rooms work.old indices.old key.old own.old begin.old total.old))) }
     ensures work { work.new ≡ replicate (length work.old) 0 }
@@ -133,12 +128,12 @@ pub fn lohandema_build_tree_on_grid(
     ensures total { total.new ≡ totals_left
         (asks_on_grid (box_at centre.now radius axes) sources.now (grid_at origin.now spacing.now shape.now) limit order keep refine)
         (rooms work.old indices.old key.old own.old begin.old total.old) }
-    ensures nodes { nodes.new ≡ nodes_in (build_answer
+    ensures nodes { nodes.new ≡ (answer_or no_tree (build_answer
         (asks_on_grid (box_at centre.now radius axes) sources.now (grid_at origin.now spacing.now shape.now) limit order keep refine)
-        (rooms work.old indices.old key.old own.old begin.old total.old)) }
-    ensures depth { depth.new ≡ depth_in (build_answer
+        (rooms work.old indices.old key.old own.old begin.old total.old))).nodes }
+    ensures depth { depth.new ≡ (answer_or no_tree (build_answer
         (asks_on_grid (box_at centre.now radius axes) sources.now (grid_at origin.now spacing.now shape.now) limit order keep refine)
-        (rooms work.old indices.old key.old own.old begin.old total.old)) }
+        (rooms work.old indices.old key.old own.old begin.old total.old))).depth }
 {
     let b = exports_points::box_at(centre, radius, axes);
     let grid = grid_at(origin, spacing, shape);

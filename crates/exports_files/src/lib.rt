@@ -3,30 +3,11 @@
 // The writer of tree files for C.
 ghost use Rattle.std.specs.Prelude.{◌≡◌, length};
 ghost use Rattle.tree_file.specs.Contents.{contents};
+ghost use Rattle.refusal.specs.Outcome.{ending, answer_or};
 ghost use Rattle.write_file.specs.Answers.{write_answer, write_left};
 ghost use Rattle.exports_keys.specs.Told.{told};
-ghost use Rattle.exports_files.specs.Told.{written_end, length_in};
 
 use exports_keys::Ended;
-use refusal::Outcome;
-use write_file::Written;
-
-// Tells how the writing ended.
-fn tell_written(answer: Written, written: &mut usize) -> Ended
-    ensures ended { result ≡ told (written_end answer) }
-    ensures written { written.new ≡ length_in answer }
-{
-    match answer {
-        Written::Length(bytes) => {
-            *written = bytes;
-            exports_keys::end_of(Outcome::Done)
-        }
-        Written::Refused(refusal) => {
-            *written = 0;
-            exports_keys::end_of(Outcome::Refused(refusal))
-        }
-    }
-}
 
 // The file of a tree, and its length.
 pub fn lohandema_write_tree(
@@ -43,9 +24,9 @@ pub fn lohandema_write_tree(
     file: &mut [u8],
     written: &mut usize,
 ) -> Ended
-    ensures ended { result ≡ told (written_end (write_answer (contents axes key.now own.now begin.now total.now indices.now
+    ensures ended { result ≡ told (ending (write_answer (contents axes key.now own.now begin.now total.now indices.now
         u_starts.now u_keys.now v_starts.now v_keys.now) (length file.old))) }
-    ensures written { written.new ≡ length_in (write_answer (contents axes key.now own.now begin.now total.now indices.now
+    ensures written { written.new ≡ answer_or 0 (write_answer (contents axes key.now own.now begin.now total.now indices.now
         u_starts.now u_keys.now v_starts.now v_keys.now) (length file.old)) }
     ensures file { file.new ≡ write_left (contents axes key.now own.now begin.now total.now indices.now
         u_starts.now u_keys.now v_starts.now v_keys.now) (length file.old) }
@@ -53,5 +34,5 @@ pub fn lohandema_write_tree(
     let answer = write_file::write_tree(
         axes, key, own, begin, total, indices, u_starts, u_keys, v_starts, v_keys, file,
     );
-    tell_written(answer, written)
+    exports_keys::tell(answer, 0, written)
 }

@@ -3,11 +3,11 @@ use mathlib.Core.Path.{◌≡◌, ap}
 use Prim.Native.Nat.{ℕ, ◌≤◌}
 use native.Mathlib.Omega.{arith}
 use Rattle.refusal.specs.declared.Told.{Told}
-use Rattle.refusal.specs.declared.Outcome.{Outcome}
 use Rattle.refusal.specs.Numbers.{outcome_number, outcome_values, tells}
 use Rattle.refusal.proofs.Most.{number-most}
 use Rattle.exports_keys.specs.declared.Ended.{Ended}
 use Rattle.exports_keys.specs.Told.{told}
+use Rattle.refusal.specs.Outcome.{Outcome}
 
 abbrev end_of : Told → Ended
 end_of t = record { number = t.number; axis = t.axis; reason = t.reason; value = t.value }

@@ -1,16 +1,17 @@
 #![tactic(auto)]
 
 // The key calls for C: numbers, and references to numbers and arrays of fixed length.
-ghost use Rattle.std.specs.Prelude.{◌≡◌};
+ghost use Rattle.std.specs.Prelude.{◌≡◌, false};
 ghost use Rattle.morton.specs.Answers.{level_answer, parent_answer, child_index_answer, children_answer, siblings_answer, ancestors_answer};
 ghost use Rattle.anchors.specs.Answers.{decode_answer, encode_answer, touching_answer};
 ghost use Rattle.neighbours.specs.Answer.{neighbours_answer};
-ghost use Rattle.exports_keys.specs.Told.{told, number_end, number_in, touch_end, touch_in};
+ghost use Rattle.refusal.specs.Outcome.{ending, answer_or};
+ghost use Rattle.exports_keys.specs.Told.{told, no_keys, nowhere};
 
-use anchors::TouchAnswer;
+use anchors::Decoded;
 use axes::Three;
-use morton::{KeyList, NumberAnswer};
-use refusal::Outcome;
+use morton::KeyList;
+use refusal::Refusal;
 
 // How a call ended: the number and values of its refusal, 0 throughout where there is none. The axis and the reason are those of
 // 6 and 7, and 0 with every other number.
@@ -23,7 +24,7 @@ pub struct Ended {
     pub value: usize,
 }
 
-pub fn end_of(outcome: Outcome) -> Ended
+pub fn end_of(outcome: Result<(), Refusal>) -> Ended
     ensures { result ≡ told outcome }
 {
     let told = refusal::tell_outcome(outcome);
@@ -35,53 +36,67 @@ pub fn end_of(outcome: Outcome) -> Ended
     }
 }
 
-fn tell_number(answer: NumberAnswer, number: &mut u64) -> Ended
-    ensures ended { result ≡ told (number_end answer) }
-    ensures number { number.new ≡ number_in answer }
+// Tells an answer, or what stands in its place after a refusal.
+pub fn tell<T: Copy>(answer: Result<T, Refusal>, other: T, place: &mut T) -> Ended
+    ensures ended { result ≡ told (ending answer) }
+    ensures place { place.new ≡ answer_or other answer }
 {
     match answer {
-        NumberAnswer::Number(n) => {
-            *number = n;
-            end_of(Outcome::Done)
+        Ok(found) => {
+            *place = found;
+            end_of(Ok(()))
         }
-        NumberAnswer::Refused(refusal) => {
-            *number = 0;
-            end_of(Outcome::Refused(refusal))
+        Err(refusal) => {
+            *place = other;
+            end_of(Err(refusal))
         }
     }
 }
 
-fn tell_keys(list: KeyList, keys: &mut [u64; Three::NEIGHBOURS], len: &mut usize) -> Ended
-    ensures ended { result ≡ told list.outcome }
-    ensures keys { keys.new ≡ list.keys }
-    ensures len { len.new ≡ list.len }
+fn tell_keys(
+    answer: Result<KeyList, Refusal>,
+    keys: &mut [u64; Three::NEIGHBOURS],
+    len: &mut usize,
+) -> Ended
+    ensures ended { result ≡ told (ending answer) }
+    ensures keys { keys.new ≡ (answer_or no_keys answer).keys }
+    ensures len { len.new ≡ (answer_or no_keys answer).len }
 {
-    let found = list.keys;
-    let outcome = list.outcome;
-    *keys = found;
-    *len = list.len;
-    end_of(outcome)
+    match answer {
+        Ok(list) => {
+            let found = list.keys;
+            *keys = found;
+            *len = list.len;
+            end_of(Ok(()))
+        }
+        Err(refusal) => {
+            let none = [0u64; Three::NEIGHBOURS];
+            *keys = none;
+            *len = 0;
+            end_of(Err(refusal))
+        }
+    }
 }
 
 pub fn lohandema_get_level(axes: usize, key: u64, level: &mut u64) -> Ended
-    ensures ended { result ≡ told (number_end (level_answer axes key)) }
-    ensures level { level.new ≡ number_in (level_answer axes key) }
+    ensures ended { result ≡ told (ending (level_answer axes key)) }
+    ensures level { level.new ≡ answer_or 0 (level_answer axes key) }
 {
-    tell_number(morton::get_level(axes, key), level)
+    tell(morton::get_level(axes, key), 0, level)
 }
 
 pub fn lohandema_get_parent(axes: usize, key: u64, parent: &mut u64) -> Ended
-    ensures ended { result ≡ told (number_end (parent_answer axes key)) }
-    ensures parent { parent.new ≡ number_in (parent_answer axes key) }
+    ensures ended { result ≡ told (ending (parent_answer axes key)) }
+    ensures parent { parent.new ≡ answer_or 0 (parent_answer axes key) }
 {
-    tell_number(morton::get_parent(axes, key), parent)
+    tell(morton::get_parent(axes, key), 0, parent)
 }
 
 pub fn lohandema_get_child_index(axes: usize, key: u64, index: &mut u64) -> Ended
-    ensures ended { result ≡ told (number_end (child_index_answer axes key)) }
-    ensures index { index.new ≡ number_in (child_index_answer axes key) }
+    ensures ended { result ≡ told (ending (child_index_answer axes key)) }
+    ensures index { index.new ≡ answer_or 0 (child_index_answer axes key) }
 {
-    tell_number(morton::get_child_index(axes, key), index)
+    tell(morton::get_child_index(axes, key), 0, index)
 }
 
 pub fn lohandema_encode_morton_point(
@@ -90,11 +105,11 @@ pub fn lohandema_encode_morton_point(
     level: u64,
     key: &mut u64,
 ) -> Ended
-    ensures ended { result ≡ told (number_end (encode_answer axes level anchor.now)) }
-    ensures key { key.new ≡ number_in (encode_answer axes level anchor.now) }
+    ensures ended { result ≡ told (ending (encode_answer axes level anchor.now)) }
+    ensures key { key.new ≡ answer_or 0 (encode_answer axes level anchor.now) }
 {
     let place = *anchor;
-    tell_number(anchors::encode_morton_point(axes, place, level), key)
+    tell(anchors::encode_morton_point(axes, place, level), 0, key)
 }
 
 pub fn lohandema_get_children(
@@ -103,9 +118,9 @@ pub fn lohandema_get_children(
     keys: &mut [u64; Three::NEIGHBOURS],
     len: &mut usize,
 ) -> Ended
-    ensures ended { result ≡ told (children_answer axes key).outcome }
-    ensures keys { keys.new ≡ (children_answer axes key).keys }
-    ensures len { len.new ≡ (children_answer axes key).len }
+    ensures ended { result ≡ told (ending (children_answer axes key)) }
+    ensures keys { keys.new ≡ (answer_or no_keys (children_answer axes key)).keys }
+    ensures len { len.new ≡ (answer_or no_keys (children_answer axes key)).len }
 {
     tell_keys(morton::get_children(axes, key), keys, len)
 }
@@ -116,9 +131,9 @@ pub fn lohandema_get_siblings(
     keys: &mut [u64; Three::NEIGHBOURS],
     len: &mut usize,
 ) -> Ended
-    ensures ended { result ≡ told (siblings_answer axes key).outcome }
-    ensures keys { keys.new ≡ (siblings_answer axes key).keys }
-    ensures len { len.new ≡ (siblings_answer axes key).len }
+    ensures ended { result ≡ told (ending (siblings_answer axes key)) }
+    ensures keys { keys.new ≡ (answer_or no_keys (siblings_answer axes key)).keys }
+    ensures len { len.new ≡ (answer_or no_keys (siblings_answer axes key)).len }
 {
     tell_keys(morton::get_siblings(axes, key), keys, len)
 }
@@ -129,9 +144,9 @@ pub fn lohandema_get_ancestors(
     keys: &mut [u64; Three::NEIGHBOURS],
     len: &mut usize,
 ) -> Ended
-    ensures ended { result ≡ told (ancestors_answer axes key).outcome }
-    ensures keys { keys.new ≡ (ancestors_answer axes key).keys }
-    ensures len { len.new ≡ (ancestors_answer axes key).len }
+    ensures ended { result ≡ told (ending (ancestors_answer axes key)) }
+    ensures keys { keys.new ≡ (answer_or no_keys (ancestors_answer axes key)).keys }
+    ensures len { len.new ≡ (answer_or no_keys (ancestors_answer axes key)).len }
 {
     tell_keys(morton::get_ancestors(axes, key), keys, len)
 }
@@ -142,39 +157,32 @@ pub fn lohandema_get_neighbours(
     keys: &mut [u64; Three::NEIGHBOURS],
     len: &mut usize,
 ) -> Ended
-    ensures ended { result ≡ told (neighbours_answer axes key).outcome }
-    ensures keys { keys.new ≡ (neighbours_answer axes key).keys }
-    ensures len { len.new ≡ (neighbours_answer axes key).len }
+    ensures ended { result ≡ told (ending (neighbours_answer axes key)) }
+    ensures keys { keys.new ≡ (answer_or no_keys (neighbours_answer axes key)).keys }
+    ensures len { len.new ≡ (answer_or no_keys (neighbours_answer axes key)).len }
 {
     tell_keys(neighbours::get_neighbours(axes, key), keys, len)
 }
 
 pub fn lohandema_decode_key(axes: usize, key: u64, anchor: &mut [u64; 3], level: &mut u64) -> Ended
-    ensures ended { result ≡ told (decode_answer axes key).outcome }
-    ensures anchor { anchor.new ≡ (decode_answer axes key).anchor }
-    ensures level { level.new ≡ (decode_answer axes key).level }
+    ensures ended { result ≡ told (ending (decode_answer axes key)) }
+    ensures anchor { anchor.new ≡ (answer_or nowhere (decode_answer axes key)).anchor }
+    ensures level { level.new ≡ (answer_or nowhere (decode_answer axes key)).level }
 {
-    let answer = anchors::decode_key(axes, key);
-    let found = answer.anchor;
-    let outcome = answer.outcome;
-    *anchor = found;
-    *level = answer.level;
-    end_of(outcome)
+    let none = Decoded {
+        anchor: [0u64; 3],
+        level: 0,
+    };
+    let mut found = none;
+    let ended = tell(anchors::decode_key(axes, key), none, &mut found);
+    *anchor = found.anchor;
+    *level = found.level;
+    ended
 }
 
 pub fn lohandema_touching(axes: usize, a: u64, b: u64, touches: &mut bool) -> Ended
-    ensures ended { result ≡ told (touch_end (touching_answer axes a b)) }
-    ensures touches { touches.new ≡ touch_in (touching_answer axes a b) }
+    ensures ended { result ≡ told (ending (touching_answer axes a b)) }
+    ensures touches { touches.new ≡ answer_or false (touching_answer axes a b) }
 {
-    let answer = anchors::touching(axes, a, b);
-    match answer {
-        TouchAnswer::Touching(truth) => {
-            *touches = truth;
-            end_of(Outcome::Done)
-        }
-        TouchAnswer::Refused(refusal) => {
-            *touches = false;
-            end_of(Outcome::Refused(refusal))
-        }
-    }
+    tell(anchors::touching(axes, a, b), false, touches)
 }

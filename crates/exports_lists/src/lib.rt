@@ -7,32 +7,26 @@ ghost use Rattle.interaction.specs.Answers.{lists_answer, u_starts_left, u_keys_
 ghost use Rattle.list_sizes.specs.Sizes.{sizes_answer};
 ghost use Rattle.near_work.specs.Answers.{work_answer, counts_left};
 ghost use Rattle.exports_points.specs.Boxes.{box_at};
+ghost use Rattle.refusal.specs.Outcome.{ending, answer_or};
 ghost use Rattle.exports_keys.specs.Told.{told};
-ghost use Rattle.exports_lists.specs.Told.{lists_end, u_in, v_in, work_end, work_in};
+ghost use Rattle.exports_lists.specs.Told.{no_sizes};
 
 use exports_keys::Ended;
-use interaction::ListsAnswer;
-use near_work::WorkAnswer;
-use refusal::Outcome;
+use node_rows::Sizes;
+use refusal::Refusal;
 
 // Tells how many keys the two lists have.
-fn tell_lists(answer: ListsAnswer, u: &mut usize, v: &mut usize) -> Ended
-    ensures ended { result ≡ told (lists_end answer) }
-    ensures u { u.new ≡ u_in answer }
-    ensures v { v.new ≡ v_in answer }
+fn tell_sizes(answer: Result<Sizes, Refusal>, u: &mut usize, v: &mut usize) -> Ended
+    ensures ended { result ≡ told (ending answer) }
+    ensures u { u.new ≡ (answer_or no_sizes answer).u }
+    ensures v { v.new ≡ (answer_or no_sizes answer).v }
 {
-    match answer {
-        ListsAnswer::Listed(near, far) => {
-            *u = near;
-            *v = far;
-            exports_keys::end_of(Outcome::Done)
-        }
-        ListsAnswer::Refused(refusal) => {
-            *u = 0;
-            *v = 0;
-            exports_keys::end_of(Outcome::Refused(refusal))
-        }
-    }
+    let none = Sizes { u: 0, v: 0 };
+    let mut sizes = none;
+    let ended = exports_keys::tell(answer, none, &mut sizes);
+    *u = sizes.u;
+    *v = sizes.v;
+    ended
 }
 
 pub fn lohandema_get_interaction_lists(
@@ -48,7 +42,7 @@ pub fn lohandema_get_interaction_lists(
     u: &mut usize,
     v: &mut usize,
 ) -> Ended
-    ensures ended { result ≡ told (lists_end (lists_answer axes (columns key.now own.now begin.now total.now)
+    ensures ended { result ≡ told (ending (lists_answer axes (columns key.now own.now begin.now total.now)
         (length u_starts.old) (length u_keys.old) (length v_starts.old) (length v_keys.old))) }
     ensures u_starts { u_starts.new ≡ u_starts_left axes (columns key.now own.now begin.now total.now)
         (length u_starts.old) (length u_keys.old) (length v_starts.old) (length v_keys.old) }
@@ -58,15 +52,15 @@ pub fn lohandema_get_interaction_lists(
         (length u_starts.old) (length u_keys.old) (length v_starts.old) (length v_keys.old) }
     ensures v_keys { v_keys.new ≡ v_keys_left axes (columns key.now own.now begin.now total.now)
         (length u_starts.old) (length u_keys.old) (length v_starts.old) (length v_keys.old) }
-    ensures u { u.new ≡ u_in (lists_answer axes (columns key.now own.now begin.now total.now)
-        (length u_starts.old) (length u_keys.old) (length v_starts.old) (length v_keys.old)) }
-    ensures v { v.new ≡ v_in (lists_answer axes (columns key.now own.now begin.now total.now)
-        (length u_starts.old) (length u_keys.old) (length v_starts.old) (length v_keys.old)) }
+    ensures u { u.new ≡ (answer_or no_sizes (lists_answer axes (columns key.now own.now begin.now total.now)
+        (length u_starts.old) (length u_keys.old) (length v_starts.old) (length v_keys.old))).u }
+    ensures v { v.new ≡ (answer_or no_sizes (lists_answer axes (columns key.now own.now begin.now total.now)
+        (length u_starts.old) (length u_keys.old) (length v_starts.old) (length v_keys.old))).v }
 {
     let answer = interaction::get_interaction_lists(
         axes, key, own, begin, total, u_starts, u_keys, v_starts, v_keys,
     );
-    tell_lists(answer, u, v)
+    tell_sizes(answer, u, v)
 }
 
 // How many keys both lists have, with no list.
@@ -81,17 +75,17 @@ pub fn lohandema_get_list_sizes(
     u: &mut usize,
     v: &mut usize,
 ) -> Ended
-    ensures ended { result ≡ told (lists_end (sizes_answer axes (columns key.now own.now begin.now total.now)
+    ensures ended { result ≡ told (ending (sizes_answer axes (columns key.now own.now begin.now total.now)
         (length work.old) (length row.old))) }
     ensures work { work.new ≡ replicate (length work.old) 0 }
     ensures row { row.new ≡ replicate (length row.old) 0 }
-    ensures u { u.new ≡ u_in (sizes_answer axes (columns key.now own.now begin.now total.now)
-        (length work.old) (length row.old)) }
-    ensures v { v.new ≡ v_in (sizes_answer axes (columns key.now own.now begin.now total.now)
-        (length work.old) (length row.old)) }
+    ensures u { u.new ≡ (answer_or no_sizes (sizes_answer axes (columns key.now own.now begin.now total.now)
+        (length work.old) (length row.old))).u }
+    ensures v { v.new ≡ (answer_or no_sizes (sizes_answer axes (columns key.now own.now begin.now total.now)
+        (length work.old) (length row.old))).v }
 {
     let answer = list_sizes::get_list_sizes(axes, key, own, begin, total, work, row);
-    tell_lists(answer, u, v)
+    tell_sizes(answer, u, v)
 }
 
 // Near work of a tree with targets, or with its sources as targets where there are none; the counts are left as the targets of each node.
@@ -107,23 +101,14 @@ pub fn lohandema_get_near_work(
     counts: &mut [usize],
     work: &mut u64,
 ) -> Ended
-    ensures ended { result ≡ told (work_end (work_answer (box_at centre.now radius axes) (columns key.now own.now begin.now total.now)
+    ensures ended { result ≡ told (ending (work_answer (box_at centre.now radius axes) (columns key.now own.now begin.now total.now)
         targets.now (length counts.old))) }
     ensures counts { counts.new ≡ counts_left (box_at centre.now radius axes) (columns key.now own.now begin.now total.now)
         targets.now (length counts.old) }
-    ensures work { work.new ≡ work_in (work_answer (box_at centre.now radius axes) (columns key.now own.now begin.now total.now)
+    ensures work { work.new ≡ answer_or 0 (work_answer (box_at centre.now radius axes) (columns key.now own.now begin.now total.now)
         targets.now (length counts.old)) }
 {
     let b = exports_points::box_at(centre, radius, axes);
     let answer = near_work::get_near_work(b, key, own, begin, total, targets, counts);
-    match answer {
-        WorkAnswer::Work(sum) => {
-            *work = sum;
-            exports_keys::end_of(Outcome::Done)
-        }
-        WorkAnswer::Refused(refusal) => {
-            *work = 0;
-            exports_keys::end_of(Outcome::Refused(refusal))
-        }
-    }
+    exports_keys::tell(answer, 0, work)
 }

@@ -12,17 +12,16 @@ use Rattle.morton.specs.Keys.{level_of}
 use Rattle.tree.specs.Nodes.{stored, leaf}
 use Rattle.tree.specs.WellFormed.{keys_ascend}
 use Rattle.tree.specs.Finding.{TreeKeys, FoundNode}
-use Rattle.tree.specs.declared.Found.{Found}
-use Rattle.tree.specs.declared.Found.TheVariants.{At, Nothing}
 use Rattle.tree.proofs.Leaves.{tree_of, leaf-root}
 use Rattle.tree.proofs.Laws.{leaf-is}
 use Rattle.exports_nodes.specs.Nodes.{leaf_row, FirstOfLevel}
+use Rattle.std.specs.Prelude.{None, Option, Some}
 
-module _ (d : ℕ) (keys : List ℕ) (k : ℕ) (r : Found) (f : FoundNode d keys k r) where
-  pub found_at : (i : ℕ) → r ≡ At i → (i < length keys) × (get_or keys i 0 ≡ k)
+module _ (d : ℕ) (keys : List ℕ) (k : ℕ) (r : Option ℕ) (f : FoundNode d keys k r) where
+  pub found_at : (i : ℕ) → r ≡ Some i → (i < length keys) × (get_or keys i 0 ≡ k)
   found_at i e = subst (FoundNode d keys k) e f
 
-  pub found_none : r ≡ Nothing → keys_ascend d keys ≡ true → stored keys k ≡ false
+  pub found_none : r ≡ None → keys_ascend d keys ≡ true → stored keys k ≡ false
   found_none e = subst (FoundNode d keys k) e f
 
 -- the test by rows, where each of its parts is known

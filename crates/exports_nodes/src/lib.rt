@@ -6,8 +6,6 @@ ghost use Rattle.tree.specs.Nodes.{leaf};
 ghost use Rattle.tree.specs.Finding.{TreeKeys};
 ghost use Rattle.exports_nodes.specs.Nodes.{Finds, leaf_row, FirstOfLevel};
 
-use tree::Found;
-
 // The node with a key, by its number; false, with number 0, where none is found.
 pub fn lohandema_find_node(axes: usize, key: &[u64], wanted: u64, node: &mut usize) -> bool
     ensures { Finds axes key.now wanted result node.new }
@@ -18,11 +16,11 @@ pub fn lohandema_find_node(axes: usize, key: &[u64], wanted: u64, node: &mut usi
     }
     let found = tree::find_node(axes, key, wanted);
     match found {
-        Found::At(n) => {
+        Some(n) => {
             *node = n;
             true
         }
-        Found::Nothing => {
+        None => {
             *node = 0;
             false
         }
@@ -51,12 +49,10 @@ pub fn lohandema_is_leaf(key: &[u64], node: usize) -> bool
 pub fn lohandema_next_of_level(key: &[u64], level: u64, from: usize) -> usize
     ensures { FirstOfLevel key.now level from result }
 {
-    let mut i = from;
-    while i < key.len() {
+    for i in from..key.len() {
         if key[i] % 32768 == level {
             return i;
         }
-        i += 1;
     }
     key.len()
 }

@@ -1,2 +1,1 @@
-pub mod Depths
 pub mod Agreed

@@ -1,19 +1,20 @@
 #![tactic(auto)]
 
 // The calls on points and boxes for C. The box comes as its centre, its radius and its number of axes.
-ghost use Rattle.std.specs.Prelude.{◌≡◌};
+ghost use Rattle.std.specs.Prelude.{◌≡◌, false};
+ghost use Rattle.refusal.specs.Outcome.{ending, answer_or};
 ghost use Rattle.exports_keys.specs.Told.{told};
+ghost use Rattle.space.specs.Floats.{nought};
 ghost use Rattle.space.specs.Domain.{box_outcome};
 ghost use Rattle.points.specs.Calls.{point_to_anchor, point_to_key};
 ghost use Rattle.centres.specs.Centres.{side_length, centre_length, are_adjacent};
 ghost use Rattle.extents.specs.Extents.{tree_box};
 ghost use Rattle.exports_points.specs.Boxes.{box_at};
-ghost use Rattle.exports_points.specs.Told.{cell_end, key_in, side_end, side_in, adjacent_end, adjacent_in, AgreeTold, depth_end, reference_depth_in};
+ghost use Rattle.exports_points.specs.Told.{no_anchor, no_centre, no_box, AgreeTold, depth_answer};
 
-use centres::{Adjacent, SideLength};
+use centres::Centred;
 use exports_keys::Ended;
-use points::PointKey;
-use refusal::{Outcome, Refusal};
+use refusal::Refusal;
 use space::Box;
 
 pub fn box_at(centre: &[f64; 3], radius: f64, axes: usize) -> Box
@@ -43,16 +44,12 @@ pub fn lohandema_point_to_anchor(
     level: u64,
     anchor: &mut [u64; 3],
 ) -> Ended
-    ensures ended { result ≡ told (point_to_anchor (box_at centre.now radius axes) point.now level).outcome }
-    ensures anchor { anchor.new ≡ (point_to_anchor (box_at centre.now radius axes) point.now level).anchor }
+    ensures ended { result ≡ told (ending (point_to_anchor (box_at centre.now radius axes) point.now level)) }
+    ensures anchor { anchor.new ≡ answer_or no_anchor (point_to_anchor (box_at centre.now radius axes) point.now level) }
 {
     let b = box_at(centre, radius, axes);
     let place = *point;
-    let answer = points::point_to_anchor(b, place, level);
-    let found = answer.anchor;
-    let outcome = answer.outcome;
-    *anchor = found;
-    exports_keys::end_of(outcome)
+    exports_keys::tell(points::point_to_anchor(b, place, level), [0u64; 3], anchor)
 }
 
 pub fn lohandema_point_to_key(
@@ -63,22 +60,12 @@ pub fn lohandema_point_to_key(
     level: u64,
     key: &mut u64,
 ) -> Ended
-    ensures ended { result ≡ told (cell_end (point_to_key (box_at centre.now radius axes) point.now level)) }
-    ensures key { key.new ≡ key_in (point_to_key (box_at centre.now radius axes) point.now level) }
+    ensures ended { result ≡ told (ending (point_to_key (box_at centre.now radius axes) point.now level)) }
+    ensures key { key.new ≡ answer_or 0 (point_to_key (box_at centre.now radius axes) point.now level) }
 {
     let b = box_at(centre, radius, axes);
     let place = *point;
-    let answer = points::point_to_key(b, place, level);
-    match answer {
-        PointKey::Cell(k) => {
-            *key = k;
-            exports_keys::end_of(Outcome::Done)
-        }
-        PointKey::Refused(refusal) => {
-            *key = 0;
-            exports_keys::end_of(Outcome::Refused(refusal))
-        }
-    }
+    exports_keys::tell(points::point_to_key(b, place, level), 0, key)
 }
 
 pub fn lohandema_get_side_length(
@@ -88,21 +75,11 @@ pub fn lohandema_get_side_length(
     level: u64,
     side: &mut f64,
 ) -> Ended
-    ensures ended { result ≡ told (side_end (side_length (box_at centre.now radius axes) level)) }
-    ensures side { side.new ≡ side_in (side_length (box_at centre.now radius axes) level) }
+    ensures ended { result ≡ told (ending (side_length (box_at centre.now radius axes) level)) }
+    ensures side { side.new ≡ answer_or nought (side_length (box_at centre.now radius axes) level) }
 {
     let b = box_at(centre, radius, axes);
-    let answer = centres::get_side_length(b, level);
-    match answer {
-        SideLength::Side(x) => {
-            *side = x;
-            exports_keys::end_of(Outcome::Done)
-        }
-        SideLength::Refused(refusal) => {
-            *side = 0.0;
-            exports_keys::end_of(Outcome::Refused(refusal))
-        }
-    }
+    exports_keys::tell(centres::get_side_length(b, level), 0.0, side)
 }
 
 pub fn lohandema_get_center_length(
@@ -113,17 +90,20 @@ pub fn lohandema_get_center_length(
     middle: &mut [f64; 3],
     length: &mut f64,
 ) -> Ended
-    ensures ended { result ≡ told (centre_length (box_at centre.now radius axes) key).outcome }
-    ensures middle { middle.new ≡ (centre_length (box_at centre.now radius axes) key).centre }
-    ensures length { length.new ≡ (centre_length (box_at centre.now radius axes) key).length }
+    ensures ended { result ≡ told (ending (centre_length (box_at centre.now radius axes) key)) }
+    ensures middle { middle.new ≡ (answer_or no_centre (centre_length (box_at centre.now radius axes) key)).centre }
+    ensures length { length.new ≡ (answer_or no_centre (centre_length (box_at centre.now radius axes) key)).length }
 {
     let b = box_at(centre, radius, axes);
-    let answer = centres::get_center_length(b, key);
-    let found = answer.centre;
-    let outcome = answer.outcome;
-    *middle = found;
-    *length = answer.length;
-    exports_keys::end_of(outcome)
+    let none = Centred {
+        centre: [0.0; 3],
+        length: 0.0,
+    };
+    let mut found = none;
+    let ended = exports_keys::tell(centres::get_center_length(b, key), none, &mut found);
+    *middle = found.centre;
+    *length = found.length;
+    ended
 }
 
 pub fn lohandema_are_adjacent(
@@ -134,22 +114,12 @@ pub fn lohandema_are_adjacent(
     second: u64,
     adjacent: &mut bool,
 ) -> Ended
-    ensures ended { result ≡ told (adjacent_end (are_adjacent (box_at centre.now radius axes) first second)) }
-    ensures adjacent { adjacent.new ≡ adjacent_in (are_adjacent (box_at centre.now radius axes) first second) }
+    ensures ended { result ≡ told (ending (are_adjacent (box_at centre.now radius axes) first second)) }
+    ensures adjacent { adjacent.new ≡ answer_or false (are_adjacent (box_at centre.now radius axes) first second) }
     ensures agrees { AgreeTold (box_at centre.now radius axes) first second result adjacent.new }
 {
     let b = box_at(centre, radius, axes);
-    let answer = centres::are_adjacent(b, first, second);
-    match answer {
-        Adjacent::Is(truth) => {
-            *adjacent = truth;
-            exports_keys::end_of(Outcome::Done)
-        }
-        Adjacent::Refused(refusal) => {
-            *adjacent = false;
-            exports_keys::end_of(Outcome::Refused(refusal))
-        }
-    }
+    exports_keys::tell(centres::are_adjacent(b, first, second), false, adjacent)
 }
 
 pub fn lohandema_calculate_tree_center_and_radius(
@@ -158,28 +128,40 @@ pub fn lohandema_calculate_tree_center_and_radius(
     radius: &mut f64,
     axes: &mut usize,
 ) -> Ended
-    ensures ended { result ≡ told (tree_box extents.now).outcome }
-    ensures bounds { box_at centre.new radius.new axes.new ≡ (tree_box extents.now).bounds }
+    ensures ended { result ≡ told (ending (tree_box extents.now)) }
+    ensures bounds { box_at centre.new radius.new axes.new ≡ answer_or no_box (tree_box extents.now) }
 {
-    let answer = extents::calculate_tree_center_and_radius(extents);
-    let b = answer.bounds;
-    let outcome = answer.outcome;
-    let place = b.centre;
-    *centre = place;
+    let none = Box {
+        centre: [0.0; 3],
+        radius: 0.0,
+        axes: 0,
+    };
+    let mut b = none;
+    let ended = exports_keys::tell(
+        extents::calculate_tree_center_and_radius(extents),
+        none,
+        &mut b,
+    );
+    *centre = b.centre;
     *radius = b.radius;
     *axes = b.axes;
-    exports_keys::end_of(outcome)
+    ended
 }
 
-// The least depth whose cells are at least as many as the sources, held to 1..16.
-pub fn lohandema_reference_depth(axes: usize, sources: usize, depth: &mut u64) -> Ended
-    ensures ended { result ≡ told (depth_end axes) }
-    ensures depth { depth.new ≡ reference_depth_in axes sources }
+// The least depth whose cells are at least as many as the sources, held to 1..16, on 1 to 3 axes.
+fn depth_of(axes: usize, sources: usize) -> Result<u64, Refusal>
+    ensures { result ≡ depth_answer axes sources }
 {
     if !axes::axes_known(axes) {
-        *depth = 0;
-        return exports_keys::end_of(Outcome::Refused(Refusal::Dims));
+        return Err(Refusal::Dims);
     }
-    *depth = refine::reference_depth(axes, sources);
-    exports_keys::end_of(Outcome::Done)
+    Ok(refine::reference_depth(axes, sources))
+}
+
+// The same, told to C.
+pub fn lohandema_reference_depth(axes: usize, sources: usize, depth: &mut u64) -> Ended
+    ensures ended { result ≡ told (ending (depth_answer axes sources)) }
+    ensures depth { depth.new ≡ answer_or 0 (depth_answer axes sources) }
+{
+    exports_keys::tell(depth_of(axes, sources), 0, depth)
 }

@@ -2,37 +2,48 @@
 
 // The reader of tree files for C.
 ghost use Rattle.std.specs.Prelude.{◌≡◌, length};
+ghost use Rattle.refusal.specs.Outcome.{ending, answer_or};
 ghost use Rattle.tree_file.specs.Trailer.{tree_in};
 ghost use Rattle.file_judged.specs.Rooms.{rooms};
 ghost use Rattle.read_file.specs.Answers.{reading_answer, reading_left};
 ghost use Rattle.exports_keys.specs.Told.{told};
+ghost use Rattle.exports_reading.specs.Told.{no_tree};
 
 use exports_keys::Ended;
 use read_file::ReadTree;
+use refusal::Refusal;
 
-// Tells how the reading ended, and the numbers of the tree.
+// Tells how the reading ended, and the numbers of the tree, 0 after a refusal.
 fn tell_read(
-    answer: ReadTree,
+    answer: Result<ReadTree, Refusal>,
     axes: &mut usize,
     nodes: &mut usize,
     sources: &mut usize,
     u: &mut usize,
     v: &mut usize,
 ) -> Ended
-    ensures ended { result ≡ told answer.outcome }
-    ensures axes { axes.new ≡ answer.axes }
-    ensures nodes { nodes.new ≡ answer.nodes }
-    ensures sources { sources.new ≡ answer.sources }
-    ensures u { u.new ≡ answer.u }
-    ensures v { v.new ≡ answer.v }
+    ensures ended { result ≡ told (ending answer) }
+    ensures axes { axes.new ≡ (answer_or no_tree answer).axes }
+    ensures nodes { nodes.new ≡ (answer_or no_tree answer).nodes }
+    ensures sources { sources.new ≡ (answer_or no_tree answer).sources }
+    ensures u { u.new ≡ (answer_or no_tree answer).u }
+    ensures v { v.new ≡ (answer_or no_tree answer).v }
 {
-    *axes = answer.axes;
-    *nodes = answer.nodes;
-    *sources = answer.sources;
-    *u = answer.u;
-    *v = answer.v;
-    let outcome = answer.outcome;
-    exports_keys::end_of(outcome)
+    let none = ReadTree {
+        axes: 0,
+        nodes: 0,
+        sources: 0,
+        u: 0,
+        v: 0,
+    };
+    let mut tree = none;
+    let ended = exports_keys::tell(answer, none, &mut tree);
+    *axes = tree.axes;
+    *nodes = tree.nodes;
+    *sources = tree.sources;
+    *u = tree.u;
+    *v = tree.v;
+    ended
 }
 
 // The tree of a file, with its order column and its lists, and how many axes, nodes, sources, U keys and V keys there are.
@@ -53,18 +64,18 @@ pub fn lohandema_read_tree(
     u: &mut usize,
     v: &mut usize,
 ) -> Ended
-    ensures ended { result ≡ told (reading_answer file.now (rooms indices.old key.old own.old begin.old total.old
-        u_starts.old u_keys.old v_starts.old v_keys.old)).outcome }
-    ensures axes { axes.new ≡ (reading_answer file.now (rooms indices.old key.old own.old begin.old total.old
-        u_starts.old u_keys.old v_starts.old v_keys.old)).axes }
-    ensures nodes { nodes.new ≡ (reading_answer file.now (rooms indices.old key.old own.old begin.old total.old
-        u_starts.old u_keys.old v_starts.old v_keys.old)).nodes }
-    ensures sources { sources.new ≡ (reading_answer file.now (rooms indices.old key.old own.old begin.old total.old
-        u_starts.old u_keys.old v_starts.old v_keys.old)).sources }
-    ensures u { u.new ≡ (reading_answer file.now (rooms indices.old key.old own.old begin.old total.old
-        u_starts.old u_keys.old v_starts.old v_keys.old)).u }
-    ensures v { v.new ≡ (reading_answer file.now (rooms indices.old key.old own.old begin.old total.old
-        u_starts.old u_keys.old v_starts.old v_keys.old)).v }
+    ensures ended { result ≡ told (ending (reading_answer file.now (rooms indices.old key.old own.old begin.old total.old
+        u_starts.old u_keys.old v_starts.old v_keys.old))) }
+    ensures axes { axes.new ≡ (answer_or no_tree (reading_answer file.now (rooms indices.old key.old own.old begin.old total.old
+        u_starts.old u_keys.old v_starts.old v_keys.old))).axes }
+    ensures nodes { nodes.new ≡ (answer_or no_tree (reading_answer file.now (rooms indices.old key.old own.old begin.old total.old
+        u_starts.old u_keys.old v_starts.old v_keys.old))).nodes }
+    ensures sources { sources.new ≡ (answer_or no_tree (reading_answer file.now (rooms indices.old key.old own.old begin.old total.old
+        u_starts.old u_keys.old v_starts.old v_keys.old))).sources }
+    ensures u { u.new ≡ (answer_or no_tree (reading_answer file.now (rooms indices.old key.old own.old begin.old total.old
+        u_starts.old u_keys.old v_starts.old v_keys.old))).u }
+    ensures v { v.new ≡ (answer_or no_tree (reading_answer file.now (rooms indices.old key.old own.old begin.old total.old
+        u_starts.old u_keys.old v_starts.old v_keys.old))).v }
     ensures indices { indices.new ≡ reading_left file.now (rooms indices.old key.old own.old begin.old total.old
         u_starts.old u_keys.old v_starts.old v_keys.old) (length indices.old) (tree_in file.now).order }
     ensures key { key.new ≡ reading_left file.now (rooms indices.old key.old own.old begin.old total.old

@@ -5,39 +5,37 @@ ghost use Rattle.std.specs.Prelude.{◌≡◌};
 ghost use Rattle.salvaged.specs.Nodes.{input};
 ghost use Rattle.salvaged.specs.Answers.{salvage_answer, order_left, keys_left, own_left, begins_left, totals_left, codes_left, changed_left};
 ghost use Rattle.salvage.specs.Rooms.{rooms};
+ghost use Rattle.refusal.specs.Outcome.{ending, answer_or};
 ghost use Rattle.exports_keys.specs.Told.{told};
-ghost use Rattle.exports_salvage.specs.Told.{salvaged_end, nodes_in, sources_in, changes_in};
+ghost use Rattle.exports_salvage.specs.Told.{no_salvage};
 
 use exports_keys::Ended;
-use refusal::Outcome;
+use refusal::Refusal;
 use salvaged::Salvaged;
 
-// Tells the numbers of nodes, sources and changes.
+// Tells the numbers of nodes, sources and changes, or 0.
 fn tell_salvaged(
-    answer: Salvaged,
+    answer: Result<Salvaged, Refusal>,
     nodes: &mut usize,
     sources: &mut usize,
     changes: &mut usize,
 ) -> Ended
-    ensures ended { result ≡ told (salvaged_end answer) }
-    ensures nodes { nodes.new ≡ nodes_in answer }
-    ensures sources { sources.new ≡ sources_in answer }
-    ensures changes { changes.new ≡ changes_in answer }
+    ensures ended { result ≡ told (ending answer) }
+    ensures nodes { nodes.new ≡ (answer_or no_salvage answer).nodes }
+    ensures sources { sources.new ≡ (answer_or no_salvage answer).sources }
+    ensures changes { changes.new ≡ (answer_or no_salvage answer).changes }
 {
-    match answer {
-        Salvaged::Tree(n, s, c) => {
-            *nodes = n;
-            *sources = s;
-            *changes = c;
-            exports_keys::end_of(Outcome::Done)
-        }
-        Salvaged::Refused(refusal) => {
-            *nodes = 0;
-            *sources = 0;
-            *changes = 0;
-            exports_keys::end_of(Outcome::Refused(refusal))
-        }
-    }
+    let none = Salvaged {
+        nodes: 0,
+        sources: 0,
+        changes: 0,
+    };
+    let mut salvaged = none;
+    let ended = exports_keys::tell(answer, none, &mut salvaged);
+    *nodes = salvaged.nodes;
+    *sources = salvaged.sources;
+    *changes = salvaged.changes;
+    ended
 }
 
 // The old columns and their order column are read; the new ones and the change list are lent.
@@ -58,7 +56,7 @@ pub fn lohandema_salvage(
     sources: &mut usize,
     changes: &mut usize,
 ) -> Ended
-    ensures ended { result ≡ told (salvaged_end (salvage_answer (input axes key.now own.now begin.now indices.now)
+    ensures ended { result ≡ told (ending (salvage_answer (input axes key.now own.now begin.now indices.now)
         (rooms new_indices.old new_key.old new_own.old new_begin.old new_total.old codes.old changed.old))) }
     ensures new_indices { new_indices.new ≡ order_left (input axes key.now own.now begin.now indices.now)
         (rooms new_indices.old new_key.old new_own.old new_begin.old new_total.old codes.old changed.old) }
@@ -74,12 +72,12 @@ pub fn lohandema_salvage(
         (rooms new_indices.old new_key.old new_own.old new_begin.old new_total.old codes.old changed.old) }
     ensures changed { changed.new ≡ changed_left (input axes key.now own.now begin.now indices.now)
         (rooms new_indices.old new_key.old new_own.old new_begin.old new_total.old codes.old changed.old) }
-    ensures nodes { nodes.new ≡ nodes_in (salvage_answer (input axes key.now own.now begin.now indices.now)
-        (rooms new_indices.old new_key.old new_own.old new_begin.old new_total.old codes.old changed.old)) }
-    ensures sources { sources.new ≡ sources_in (salvage_answer (input axes key.now own.now begin.now indices.now)
-        (rooms new_indices.old new_key.old new_own.old new_begin.old new_total.old codes.old changed.old)) }
-    ensures changes { changes.new ≡ changes_in (salvage_answer (input axes key.now own.now begin.now indices.now)
-        (rooms new_indices.old new_key.old new_own.old new_begin.old new_total.old codes.old changed.old)) }
+    ensures nodes { nodes.new ≡ (answer_or no_salvage (salvage_answer (input axes key.now own.now begin.now indices.now)
+        (rooms new_indices.old new_key.old new_own.old new_begin.old new_total.old codes.old changed.old))).nodes }
+    ensures sources { sources.new ≡ (answer_or no_salvage (salvage_answer (input axes key.now own.now begin.now indices.now)
+        (rooms new_indices.old new_key.old new_own.old new_begin.old new_total.old codes.old changed.old))).sources }
+    ensures changes { changes.new ≡ (answer_or no_salvage (salvage_answer (input axes key.now own.now begin.now indices.now)
+        (rooms new_indices.old new_key.old new_own.old new_begin.old new_total.old codes.old changed.old))).changes }
 {
     let answer = salvage::salvage(
         axes,

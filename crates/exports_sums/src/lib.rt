@@ -1,20 +1,20 @@
 #![tactic(auto)]
 
 // The sum checks of a leaf and of a survey, the check of lists and the test of an order column for C.
-ghost use Rattle.std.specs.Prelude.{◌≡◌, length, replicate};
+ghost use Rattle.std.specs.Prelude.{◌≡◌, false, length, replicate};
 ghost use Rattle.tree.specs.Columns.{columns};
 ghost use Rattle.sums.specs.Arrangement.{arranges};
 ghost use Rattle.list_check.specs.Answers.{right_answer};
 ghost use Rattle.sum_check.specs.Answers.{sum_answer};
 ghost use Rattle.survey_check.specs.Answers.{survey_answer};
+ghost use Rattle.refusal.specs.Outcome.{ending, answer_or};
 ghost use Rattle.exports_keys.specs.Told.{told};
-ghost use Rattle.exports_sums.specs.Told.{right_end, right_in, sums_end, near_in, far_in, additions_in, survey_end, leaves_in, all_additions_in};
+ghost use Rattle.exports_sums.specs.Told.{no_sums, no_tally};
 
 use exports_keys::Ended;
-use list_check::RightAnswer;
-use refusal::Outcome;
-use sum_check::SumAnswer;
-use survey_check::SurveyAnswer;
+use refusal::Refusal;
+use sum_check::Sums;
+use survey_check::Tally;
 
 // Whether the order column has each index below the total once.
 pub fn lohandema_is_arrangement(indices: &[usize], total: usize) -> bool
@@ -36,47 +36,40 @@ pub fn lohandema_lists_right(
     v_keys: &[u64],
     right: &mut bool,
 ) -> Ended
-    ensures ended { result ≡ told (right_end (right_answer axes (columns key.now own.now begin.now total.now)
+    ensures ended { result ≡ told (ending (right_answer axes (columns key.now own.now begin.now total.now)
         u_starts.now u_keys.now v_starts.now v_keys.now)) }
-    ensures right { right.new ≡ right_in (right_answer axes (columns key.now own.now begin.now total.now)
+    ensures right { right.new ≡ answer_or false (right_answer axes (columns key.now own.now begin.now total.now)
         u_starts.now u_keys.now v_starts.now v_keys.now) }
 {
     let answer = list_check::lists_right(
         axes, key, own, begin, total, u_starts, u_keys, v_starts, v_keys,
     );
-    match answer {
-        RightAnswer::Right(truth) => {
-            *right = truth;
-            exports_keys::end_of(Outcome::Done)
-        }
-        RightAnswer::Refused(refusal) => {
-            *right = false;
-            exports_keys::end_of(Outcome::Refused(refusal))
-        }
-    }
+    exports_keys::tell(answer, false, right)
 }
 
 // Tells the sums of a leaf.
-fn tell_sums(answer: SumAnswer, near: &mut i64, far: &mut i64, additions: &mut usize) -> Ended
-    ensures ended { result ≡ told (sums_end answer) }
-    ensures near { near.new ≡ near_in answer }
-    ensures far { far.new ≡ far_in answer }
-    ensures additions { additions.new ≡ additions_in answer }
+fn tell_sums(
+    answer: Result<Sums, Refusal>,
+    near: &mut i64,
+    far: &mut i64,
+    additions: &mut usize,
+) -> Ended
+    ensures ended { result ≡ told (ending answer) }
+    ensures near { near.new ≡ (answer_or no_sums answer).near }
+    ensures far { far.new ≡ (answer_or no_sums answer).far }
+    ensures additions { additions.new ≡ (answer_or no_sums answer).additions }
 {
-    match answer {
-        SumAnswer::Sums(n, f, count) => {
-            *near = n;
-            *far = f;
-            *additions = count;
-            exports_keys::end_of(Outcome::Done)
-        }
-        SumAnswer::Refused(refusal) => {
-            *near = 0;
-            *far = 0;
-            *additions = 0;
-            exports_keys::end_of(Outcome::Refused(refusal))
-        }
-    }
+    let none = Sums {
+        near: 0,
+        far: 0,
+        additions: 0,
+    };
+    let mut sums = none;
+    let ended = exports_keys::tell(answer, none, &mut sums);
+    *near = sums.near;
+    *far = sums.far;
+    *additions = sums.additions;
+    ended
 }
 
 // The near sum and the far sum of a leaf's readings, and the number of additions.
@@ -97,14 +90,14 @@ pub fn lohandema_sum_check(
     far: &mut i64,
     additions: &mut usize,
 ) -> Ended
-    ensures ended { result ≡ told (sums_end (sum_answer axes (columns key.now own.now begin.now total.now)
+    ensures ended { result ≡ told (ending (sum_answer axes (columns key.now own.now begin.now total.now)
         indices.now readings.now node u_starts.now u_keys.now v_starts.now v_keys.now)) }
-    ensures near { near.new ≡ near_in (sum_answer axes (columns key.now own.now begin.now total.now)
-        indices.now readings.now node u_starts.now u_keys.now v_starts.now v_keys.now) }
-    ensures far { far.new ≡ far_in (sum_answer axes (columns key.now own.now begin.now total.now)
-        indices.now readings.now node u_starts.now u_keys.now v_starts.now v_keys.now) }
-    ensures additions { additions.new ≡ additions_in (sum_answer axes (columns key.now own.now begin.now total.now)
-        indices.now readings.now node u_starts.now u_keys.now v_starts.now v_keys.now) }
+    ensures near { near.new ≡ (answer_or no_sums (sum_answer axes (columns key.now own.now begin.now total.now)
+        indices.now readings.now node u_starts.now u_keys.now v_starts.now v_keys.now)).near }
+    ensures far { far.new ≡ (answer_or no_sums (sum_answer axes (columns key.now own.now begin.now total.now)
+        indices.now readings.now node u_starts.now u_keys.now v_starts.now v_keys.now)).far }
+    ensures additions { additions.new ≡ (answer_or no_sums (sum_answer axes (columns key.now own.now begin.now total.now)
+        indices.now readings.now node u_starts.now u_keys.now v_starts.now v_keys.now)).additions }
 {
     let answer = sum_check::sum_check(
         axes, key, own, begin, total, indices, readings, u_starts, u_keys, v_starts, v_keys, node,
@@ -113,23 +106,20 @@ pub fn lohandema_sum_check(
 }
 
 // Tells the answer of a survey's sum check.
-fn tell_survey(answer: SurveyAnswer, leaves: &mut usize, additions: &mut usize) -> Ended
-    ensures ended { result ≡ told (survey_end answer) }
-    ensures leaves { leaves.new ≡ leaves_in answer }
-    ensures additions { additions.new ≡ all_additions_in answer }
+fn tell_survey(answer: Result<Tally, Refusal>, leaves: &mut usize, additions: &mut usize) -> Ended
+    ensures ended { result ≡ told (ending answer) }
+    ensures leaves { leaves.new ≡ (answer_or no_tally answer).leaves }
+    ensures additions { additions.new ≡ (answer_or no_tally answer).additions }
 {
-    match answer {
-        SurveyAnswer::Checked(agreeing, count) => {
-            *leaves = agreeing;
-            *additions = count;
-            exports_keys::end_of(Outcome::Done)
-        }
-        SurveyAnswer::Refused(refusal) => {
-            *leaves = 0;
-            *additions = 0;
-            exports_keys::end_of(Outcome::Refused(refusal))
-        }
-    }
+    let none = Tally {
+        leaves: 0,
+        additions: 0,
+    };
+    let mut tally = none;
+    let ended = exports_keys::tell(answer, none, &mut tally);
+    *leaves = tally.leaves;
+    *additions = tally.additions;
+    ended
 }
 
 // How many leaves' near and far sum together are the plain sum of all readings, and the additions of all leaves.
@@ -149,15 +139,15 @@ pub fn lohandema_check_sums(
     leaves: &mut usize,
     additions: &mut usize,
 ) -> Ended
-    ensures ended { result ≡ told (survey_end (survey_answer axes (columns key.now own.now begin.now total.now)
+    ensures ended { result ≡ told (ending (survey_answer axes (columns key.now own.now begin.now total.now)
         indices.now readings.now u_starts.now u_keys.now v_starts.now v_keys.now
         (length sums.old))) }
-    ensures leaves { leaves.new ≡ leaves_in (survey_answer axes (columns key.now own.now begin.now total.now)
+    ensures leaves { leaves.new ≡ (answer_or no_tally (survey_answer axes (columns key.now own.now begin.now total.now)
         indices.now readings.now u_starts.now u_keys.now v_starts.now v_keys.now
-        (length sums.old)) }
-    ensures additions { additions.new ≡ all_additions_in (survey_answer axes (columns key.now own.now begin.now total.now)
+        (length sums.old))).leaves }
+    ensures additions { additions.new ≡ (answer_or no_tally (survey_answer axes (columns key.now own.now begin.now total.now)
         indices.now readings.now u_starts.now u_keys.now v_starts.now v_keys.now
-        (length sums.old)) }
+        (length sums.old))).additions }
     ensures left { sums.new ≡ replicate (length sums.old) 0 }
 {
     let answer = survey_check::check_sums(

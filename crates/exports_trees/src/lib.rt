@@ -9,17 +9,16 @@ ghost use Rattle.tree.specs.WellFormed.{well_formed};
 ghost use Rattle.tree.specs.Sources.{leaf_sources, cell_sources};
 ghost use Rattle.leaf_points.specs.Grouping.{group_outcome, group_starts_left, group_indices_left};
 ghost use Rattle.space.specs.Rows.{rows_of};
-ghost use Rattle.lookup.specs.Batch.{lookup_outcome, lookup_answer, lookup_left};
+ghost use Rattle.lookup.specs.Batch.{lookup_answer, lookup_left};
 ghost use Rattle.lookup.specs.Single.{point_to_leaf};
 ghost use Rattle.sourced.specs.Answers.{cells_answer, cells_left};
+ghost use Rattle.refusal.specs.Outcome.{ending, answer_or};
 ghost use Rattle.exports_keys.specs.Told.{told};
 ghost use Rattle.exports_points.specs.Boxes.{box_at};
-ghost use Rattle.exports_trees.specs.Told.{steps_in, leaf_end, leaf_in, climbed_in, cells_end, cells_in, part_start};
+ghost use Rattle.exports_trees.specs.Told.{no_leaf, part_start};
 
 use exports_keys::Ended;
-use lookup::{LookedUp, PointLeaf};
-use refusal::Outcome;
-use sourced::CellsAnswer;
+use lookup::Holder;
 
 pub fn lohandema_is_well_formed(
     axes: usize,
@@ -103,26 +102,17 @@ pub fn lohandema_points_to_keys(
     output: &mut [u64],
     steps: &mut usize,
 ) -> Ended
-    ensures ended { result ≡ told (lookup_outcome (box_at centre.now radius axes) (columns key.now own.now begin.now total.now)
-        points.now (length output.old)) }
+    ensures ended { result ≡ told (ending (lookup_answer (box_at centre.now radius axes) (columns key.now own.now begin.now total.now)
+        points.now (length output.old))) }
     ensures output { output.new ≡ lookup_left (box_at centre.now radius axes) (columns key.now own.now begin.now total.now)
         points.now (length output.old) }
-    ensures steps { steps.new ≡ steps_in (lookup_answer (box_at centre.now radius axes) (columns key.now own.now begin.now total.now)
+    ensures steps { steps.new ≡ answer_or 0 (lookup_answer (box_at centre.now radius axes) (columns key.now own.now begin.now total.now)
         points.now (length output.old)) }
     ensures few { steps.new ≤ 15 * rows_of (box_at centre.now radius axes) points.now }
 {
     let b = exports_points::box_at(centre, radius, axes);
     let answer = lookup::points_to_keys(b, key, own, begin, total, points, output);
-    match answer {
-        LookedUp::Found(climbed) => {
-            *steps = climbed;
-            exports_keys::end_of(Outcome::Done)
-        }
-        LookedUp::Refused(refusal) => {
-            *steps = 0;
-            exports_keys::end_of(Outcome::Refused(refusal))
-        }
-    }
+    exports_keys::tell(answer, 0, steps)
 }
 
 // The leaf that holds one point, and the steps to it.
@@ -138,29 +128,23 @@ pub fn lohandema_point_to_leaf(
     leaf: &mut u64,
     steps: &mut u64,
 ) -> Ended
-    ensures ended { result ≡ told (leaf_end (point_to_leaf (box_at centre.now radius axes)
+    ensures ended { result ≡ told (ending (point_to_leaf (box_at centre.now radius axes)
         (columns key.now own.now begin.now total.now) point.now)) }
-    ensures leaf { leaf.new ≡ leaf_in (point_to_leaf (box_at centre.now radius axes)
-        (columns key.now own.now begin.now total.now) point.now) }
-    ensures steps { steps.new ≡ climbed_in (point_to_leaf (box_at centre.now radius axes)
-        (columns key.now own.now begin.now total.now) point.now) }
+    ensures leaf { leaf.new ≡ (answer_or no_leaf (point_to_leaf (box_at centre.now radius axes)
+        (columns key.now own.now begin.now total.now) point.now)).key }
+    ensures steps { steps.new ≡ (answer_or no_leaf (point_to_leaf (box_at centre.now radius axes)
+        (columns key.now own.now begin.now total.now) point.now)).steps }
     ensures few { steps.new ≤ 15 }
 {
     let b = exports_points::box_at(centre, radius, axes);
     let place = *point;
+    let none = Holder { key: 0, steps: 0 };
+    let mut found = none;
     let answer = lookup::point_to_leaf(b, key, own, begin, total, place);
-    match answer {
-        PointLeaf::Leaf(k, climbed) => {
-            *leaf = k;
-            *steps = climbed;
-            exports_keys::end_of(Outcome::Done)
-        }
-        PointLeaf::Refused(refusal) => {
-            *leaf = 0;
-            *steps = 0;
-            exports_keys::end_of(Outcome::Refused(refusal))
-        }
-    }
+    let ended = exports_keys::tell(answer, none, &mut found);
+    *leaf = found.key;
+    *steps = found.steps;
+    ended
 }
 
 pub fn lohandema_get_points_to_leaves_map(
@@ -180,10 +164,10 @@ pub fn lohandema_get_points_to_leaves_map(
     ensures indices { indices.new ≡ group_indices_left axes (columns key.now own.now begin.now total.now)
         points.now (length starts.old) (length indices.old) }
 {
-    let end = leaf_points::get_points_to_leaves_map(
+    let outcome = leaf_points::get_points_to_leaves_map(
         axes, key, own, begin, total, points, starts, indices,
     );
-    exports_keys::end_of(end)
+    exports_keys::end_of(outcome)
 }
 
 pub fn lohandema_get_sourced_cells(
@@ -195,19 +179,10 @@ pub fn lohandema_get_sourced_cells(
     cells: &mut [u64],
     count: &mut usize,
 ) -> Ended
-    ensures ended { result ≡ told (cells_end (cells_answer axes (columns key.now own.now begin.now total.now) (length cells.old))) }
+    ensures ended { result ≡ told (ending (cells_answer axes (columns key.now own.now begin.now total.now) (length cells.old))) }
     ensures cells { cells.new ≡ cells_left axes (columns key.now own.now begin.now total.now) (length cells.old) }
-    ensures count { count.new ≡ cells_in (cells_answer axes (columns key.now own.now begin.now total.now) (length cells.old)) }
+    ensures count { count.new ≡ answer_or 0 (cells_answer axes (columns key.now own.now begin.now total.now) (length cells.old)) }
 {
     let answer = sourced::get_sourced_cells(axes, key, own, begin, total, cells);
-    match answer {
-        CellsAnswer::Cells(n) => {
-            *count = n;
-            exports_keys::end_of(Outcome::Done)
-        }
-        CellsAnswer::Refused(refusal) => {
-            *count = 0;
-            exports_keys::end_of(Outcome::Refused(refusal))
-        }
-    }
+    exports_keys::tell(answer, 0, count)
 }

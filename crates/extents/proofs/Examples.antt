@@ -1,4 +1,5 @@
 -- Boxes from extents, computed from the definitions.
+use Rattle.std.specs.Prelude.{Err, Ok}
 use mathlib.Core.Path.{◌≡◌, refl}
 use mathlib.Core.Bool.{true, false}
 use mathlib.Core.List.{[], ◌∷◌}
@@ -6,11 +7,11 @@ use lib.IntN.{pos, negsuc}
 use lib.Ieee.{Float, nan, inf, fin, binary64, of_bits, neg, lt, le, add, sub, div, round}
 use Rattle.slices.specs.Every.{every}
 use Rattle.refusal.specs.declared.Refusal.TheVariants.{Dims, Box as OutOfDomain}
-use Rattle.refusal.specs.declared.Outcome.TheVariants.{Done}
 use Rattle.space.specs.Floats.{size_of}
 use Rattle.space.specs.Domain.{centres_known}
 use Rattle.extents.specs.Floors.{floor_of, ceil_of}
-use Rattle.extents.specs.Extents.{all_finite, margin, middle, half_width, largest, no_box, tree_box}
+use Rattle.extents.specs.Extents.{all_finite, margin, middle, half_width, largest, tree_box}
+use Rattle.refusal.specs.Outcome.{accepted}
 
 abbrev nought : Float
 nought = fin false 0 (pos 0)
@@ -48,27 +49,27 @@ floors = (refl, refl, refl, refl, refl, refl)
 -- ---- boxes
 -- an axis upside down is no reason to refuse, while another gives the radius: centre (2.5, 5), radius 5.001
 pub upside-down : tree_box (five ∷ nought ∷ nought ∷ ten ∷ [])
-    ≡ record { outcome = Done; bounds = record { centre = fin false 5 (negsuc 0) ∷ five ∷ nought ∷ []; radius = of_bits binary64 0x4014_0106_24dd_2f1b; axes = 2 } }
+    ≡ Ok (record { centre = fin false 5 (negsuc 0) ∷ five ∷ nought ∷ []; radius = of_bits binary64 0x4014_0106_24dd_2f1b; axes = 2 })
 unfolding all_finite middle half_width largest floor_of margin neg of_bits lt le add sub div centres_known size_of every
 upside-down = refl
 
 -- nor are the largest numbers, where the centre is in the domain
 pub largest-numbers : tree_box (most ∷ nought ∷ neg most ∷ ten ∷ [])
-    ≡ record { outcome = Done; bounds = record { centre = nought ∷ five ∷ nought ∷ []; radius = of_bits binary64 0x4014_0106_24dd_2f1b; axes = 2 } }
+    ≡ Ok (record { centre = nought ∷ five ∷ nought ∷ []; radius = of_bits binary64 0x4014_0106_24dd_2f1b; axes = 2 })
 unfolding all_finite middle half_width largest floor_of margin neg of_bits lt le add sub div centres_known size_of every
 largest-numbers = refl
 
 -- -0.0 .. -0.5 and 0.0 .. 1.0: the centre begins with -0.0
 pub minus-zero : tree_box (minus-nought ∷ nought ∷ neg half ∷ one ∷ [])
-    ≡ record { outcome = Done; bounds = record { centre = minus-nought ∷ half ∷ nought ∷ []; radius = of_bits binary64 0x3fe0_0831_26e9_78d5; axes = 2 } }
+    ≡ Ok (record { centre = minus-nought ∷ half ∷ nought ∷ []; radius = of_bits binary64 0x3fe0_0831_26e9_78d5; axes = 2 })
 unfolding all_finite middle half_width largest floor_of margin neg of_bits lt le add sub div centres_known size_of every
 minus-zero = refl
 
 pub refusals :
-    (tree_box (one ∷ one ∷ ten ∷ []) ≡ no_box Dims)
-    × (tree_box (nan ∷ []) ≡ no_box Dims)
-    × (tree_box (one ∷ inf false ∷ []) ≡ no_box OutOfDomain)
-    × (tree_box (five ∷ five ∷ []) ≡ no_box OutOfDomain)
-    × (tree_box (most ∷ nought ∷ most ∷ ten ∷ []) ≡ no_box OutOfDomain)
+    (tree_box (one ∷ one ∷ ten ∷ []) ≡ Err Dims)
+    × (tree_box (nan ∷ []) ≡ Err Dims)
+    × (tree_box (one ∷ inf false ∷ []) ≡ Err OutOfDomain)
+    × (tree_box (five ∷ five ∷ []) ≡ Err OutOfDomain)
+    × (tree_box (most ∷ nought ∷ most ∷ ten ∷ []) ≡ Err OutOfDomain)
 unfolding all_finite middle half_width largest floor_of margin neg of_bits lt le add sub div centres_known size_of every
 refusals = (refl, refl, refl, refl, refl)

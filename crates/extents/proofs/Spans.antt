@@ -1,25 +1,25 @@
 -- The box from extents, number by number.
-use mathlib.Core.Path.{◌≡◌, refl, sym, ap, ap₂, ◌∙◌, subst}
+use mathlib.Core.Path.{◌≡◌, refl, sym, ap, ap₂, ◌∙◌}
 use mathlib.Core.Bool.{Bool, true, false, ◌&&◌}
 use mathlib.Core.List.{List, [], ◌∷◌}
 use Prim.Native.Nat.{ℕ, ◌+◌, ◌/◌, ◌≤◌, ◌<◌}
 use native.Mathlib.Numerals.{add-one}
 use native.Mathlib.Omega.{arith}
 use lib.Dec.{eqb}
-use lib.Ieee.{Float, nan, inf, binary64, of_bits, round, add, sub, div, lt}
-use lib.ListN.{length, get_or, drop}
-use lib.Seq.{drop-cons, drop-length}
+use lib.Ieee.{Float, inf, binary64, of_bits, round, add, sub, div, lt}
+use lib.ListN.{length}
 use borrow.Author.Tests.{lt-ltb, le-ltb, eq-eqb, ne_eqb}
+use Rattle.std.specs.List.{list_all}
 use Rattle.refusal.specs.declared.Refusal.{Refusal}
 use Rattle.refusal.specs.declared.Refusal.TheVariants.{Dims, Box as OutOfDomain}
-use Rattle.refusal.specs.declared.Outcome.{Outcome}
-use Rattle.refusal.specs.declared.Outcome.TheVariants.{Refused}
 use Rattle.space.specs.declared.Box.{Box}
 use Rattle.refusal.specs.Chain.{ask, ◌then◌}
 use Rattle.space.specs.Domain.{box_outcome}
 use Rattle.space.proofs.Literals.{zero_is}
 use Rattle.space.specs.Floats.{is_finite}
-use Rattle.extents.specs.Extents.{length_known, all_finite, two, margin, low, high, middle, half_width, larger, largest, box_from, extents_outcome, no_box, box_or, tree_box}
+use Rattle.extents.specs.Extents.{length_known, all_finite, two, margin, low, high, middle, half_width, larger, largest, box_from, extents_outcome, tree_box}
+use Rattle.std.specs.Prelude.{Err, Ok}
+use Rattle.refusal.specs.Outcome.{Outcome}
 
 -- ---- literals
 two_is : of_bits binary64 4611686018427387904 ≡ two
@@ -36,20 +36,10 @@ unfolding of_bits
 least-is = refl
 
 -- ---- finite numbers
-module _ (xs : List Float) where
-  rest : (i : ℕ) → i < length xs → all_finite (drop i xs) ≡ (is_finite (get_or xs i nan) && all_finite (drop (i + 1) xs))
-  unfolding all_finite
-  rest i h = ap all_finite (drop-cons xs i nan h) ∙ ap (λ j. is_finite (get_or xs i nan) && all_finite (drop j xs)) (sym (add-one i))
-
-  pub finite-next : (i : ℕ) (t : Bool) → i < length xs → t ≡ is_finite (get_or xs i nan) → t ≡ true → all_finite (drop (i + 1) xs) ≡ all_finite (drop i xs)
-  finite-next i t h e f = sym (rest i h ∙ ap (λ b. b && all_finite (drop (i + 1) xs)) (sym e ∙ f))
-
-  pub finite-stop : (i : ℕ) (t : Bool) → i < length xs → t ≡ is_finite (get_or xs i nan) → t ≡ false → false ≡ all_finite (drop i xs)
-  finite-stop i t h e f = sym (rest i h ∙ ap (λ b. b && all_finite (drop (i + 1) xs)) (sym e ∙ f))
-
-  pub finite-all : (i : ℕ) → i ≤ length xs → length xs ≤ i → true ≡ all_finite (drop i xs)
-  unfolding all_finite
-  finite-all i h g = let e : i ≡ length xs = omega arith in sym (ap all_finite (ap (λ j. drop j xs) e ∙ drop-length xs))
+pub finite_is : (xs : List Float) → list_all is_finite xs ≡ all_finite xs
+unfolding all_finite
+finite_is [] = refl
+finite_is (x ∷ xs) = ap (λ t. is_finite x && t) (finite_is xs)
 
 -- ---- the numbers of an axis
 module _ (xs : List Float) (d a : ℕ) where
@@ -93,9 +83,6 @@ four-known n g h = sym (rw (ne_eqb n 2 g, eq-eqb n 4 h))
 pub six-known : (n : ℕ) → (n ≡ 2 → ⊥) → (n ≡ 4 → ⊥) → eqb n 6 ≡ length_known n
 six-known n g h = sym (rw (ne_eqb n 2 g, ne_eqb n 4 h))
 
-pub no-box : (r : Refusal) → record { outcome = Refused r; bounds = record { centre = of_bits binary64 0 ∷ of_bits binary64 0 ∷ of_bits binary64 0 ∷ []; radius = of_bits binary64 0; axes = 0 } } ≡ no_box r
-no-box r = ap (λ x. record { outcome = Refused r; bounds = record { centre = x ∷ x ∷ x ∷ []; radius = x; axes = 0 } }) zero_is
-
 half-fits : (n : ℕ) → n / 2 + n / 2 ≤ n
 half-fits n = omega arith
 
@@ -106,18 +93,18 @@ module _ (xs : List Float) where
   abbrev found : Box
   found = box_from xs (length xs / 2)
 
-  from : (o : Outcome) → o ≡ extents_outcome xs → box_or o found ≡ tree_box xs
-  from o e = ap (λ o. box_or o found) e
+  from : (o : Outcome) → o ≡ extents_outcome xs → o then Ok found ≡ tree_box xs
+  from o e = ap (λ o. o then Ok found) e
 
-  pub length-off : (t : Bool) → t ≡ length_known (length xs) → t ≡ false → no_box Dims ≡ tree_box xs
-  length-off t e f = from (Refused Dims) (sym (ap (λ b. ask b Dims then ask (all_finite xs) OutOfDomain then box_outcome found) (sym e ∙ f)))
+  pub length-off : (t : Bool) → t ≡ length_known (length xs) → t ≡ false → Err Dims ≡ tree_box xs
+  length-off t e f = from (Err Dims) (sym (ap (λ b. ask b Dims then ask (all_finite xs) OutOfDomain then box_outcome found) (sym e ∙ f)))
 
   module _ (t : Bool) (known : t ≡ length_known (length xs)) (yes : t ≡ true) where
-    pub finite-off : (u : Bool) → u ≡ all_finite xs → u ≡ false → no_box OutOfDomain ≡ tree_box xs
+    pub finite-off : (u : Bool) → u ≡ all_finite xs → u ≡ false → Err OutOfDomain ≡ tree_box xs
     finite-off u e f =
-        from (Refused OutOfDomain)
+        from (Err OutOfDomain)
         (sym (ap₂ (λ a b. ask a Dims then ask b OutOfDomain then box_outcome found) (sym known ∙ yes) (sym e ∙ f)))
 
-    pub box-found : (u : Bool) (o : Outcome) → u ≡ all_finite xs → u ≡ true → o ≡ box_outcome found → box_or o found ≡ tree_box xs
+    pub box-found : (u : Bool) (o : Outcome) → u ≡ all_finite xs → u ≡ true → o ≡ box_outcome found → o then Ok found ≡ tree_box xs
     box-found u o e f g =
         from o (g ∙ sym (ap₂ (λ a b. ask a Dims then ask b OutOfDomain then box_outcome found) (sym known ∙ yes) (sym e ∙ f)))

@@ -1,18 +1,15 @@
 -- Document 01: the box from extents, lows and then highs.
-use Rattle.std.specs.Prelude.{Bool, true, false, ◌&&◌, ◌||◌, cond, List, [], ◌∷◌, ℕ, zero, suc, ◌+◌, ◌/◌, pos, ltb, eqb, Float, length, get_or}
+use Rattle.std.specs.Prelude.{Bool, true, false, ◌&&◌, ◌||◌, cond, List, [], ◌∷◌, ℕ, zero, suc, ◌+◌, ◌/◌, pos, ltb, eqb, Float, length, get_or, Ok}
 use Rattle.std.specs.Float.{nan, inf, fin, binary64}
 use Rattle.std.specs.Float.Ieee.{round, add, sub, div, lt}
-use Rattle.refusal.specs.declared.Refusal.{Refusal}
 use Rattle.refusal.specs.declared.Refusal.TheVariants.{Dims, Box as OutOfDomain}
-use Rattle.refusal.specs.declared.Outcome.{Outcome}
-use Rattle.refusal.specs.declared.Outcome.TheVariants.{Done, Refused}
 use Rattle.space.specs.declared.Box.{Box}
 use Rattle.refusal.specs.Chain.{ask, ◌then◌}
 use Rattle.space.specs.Floats.{is_finite, nought}
 use Rattle.space.specs.Domain.{box_outcome}
 use Rattle.space.specs.Cells.{on_axis}
-use Rattle.extents.specs.declared.TreeBox.{TreeBox}
 use Rattle.extents.specs.Floors.{floor_of, ceil_of}
+use Rattle.refusal.specs.Outcome.{Answer, Outcome}
 
 -- 2, 4 or 6 numbers
 abbrev pub length_known : ℕ → Bool
@@ -60,13 +57,5 @@ box_from xs d = record { centre = middle xs d 0 ∷ middle xs d 1 ∷ middle xs 
 abbrev pub extents_outcome : List Float → Outcome
 extents_outcome xs = ask (length_known (length xs)) Dims then ask (all_finite xs) OutOfDomain then box_outcome (box_from xs (length xs / 2))
 
--- 0 throughout after a refusal
-abbrev pub no_box : Refusal → TreeBox
-no_box r = record { outcome = Refused r; bounds = record { centre = nought ∷ nought ∷ nought ∷ []; radius = nought; axes = 0 } }
-
-abbrev pub box_or : Outcome → Box → TreeBox
-box_or Done b = record { outcome = Done; bounds = b }
-box_or (Refused r) b = no_box r
-
-abbrev pub tree_box : List Float → TreeBox
-tree_box xs = box_or (extents_outcome xs) (box_from xs (length xs / 2))
+abbrev pub tree_box : List Float → Answer Box
+tree_box xs = extents_outcome xs then Ok (box_from xs (length xs / 2))

@@ -3,9 +3,9 @@
 // The box from extents.
 ghost use Rattle.std.specs.Prelude.{◌≡◌, ◌+◌, ◌/◌, ◌^◌, ◌≤◌, ◌<◌, length};
 ghost use Rattle.extents.specs.Floors.{floor_of, ceil_of, whole_under, whole_over};
-ghost use Rattle.extents.specs.Extents.{length_known, all_finite, middle, half_width, larger, largest, box_from, no_box, tree_box};
+ghost use Rattle.extents.specs.Extents.{length_known, all_finite, middle, half_width, larger, largest, box_from, tree_box};
 
-use refusal::{Outcome, Refusal};
+use refusal::Refusal;
 use space::Box;
 
 // The whole number under a size that is given by its bits, the sign off.
@@ -66,14 +66,7 @@ fn ceil_of(x: f64) -> f64
 fn all_finite(extents: &[f64]) -> bool
     ensures { result ≡ all_finite extents.now }
 {
-    let mut i = 0;
-    while i < extents.len() {
-        if !space::is_finite(extents[i]) {
-            return false;
-        }
-        i += 1;
-    }
-    true
+    extents.iter().all(|x| space::is_finite(*x))
 }
 
 // The box's centre on axis a of d.
@@ -110,10 +103,8 @@ fn largest_reach(extents: &[f64], d: usize) -> f64
 {
     // minus infinity
     let mut radius: f64 = f64::from_bits(0xfff0_0000_0000_0000);
-    let mut a = 0;
-    while a < d {
+    for a in 0..d {
         radius = larger_of(radius, reach_on(extents, d, a));
-        a += 1;
     }
     radius
 }
@@ -132,26 +123,6 @@ fn box_from(extents: &[f64], d: usize) -> Box
     }
 }
 
-// A box, 0 throughout after a refusal.
-#[derive(Clone, Copy)]
-pub struct TreeBox {
-    pub outcome: Outcome,
-    pub bounds: Box,
-}
-
-fn refused(refusal: Refusal) -> TreeBox
-    ensures { result ≡ no_box refusal }
-{
-    TreeBox {
-        outcome: Outcome::Refused(refusal),
-        bounds: Box {
-            centre: [0.0, 0.0, 0.0],
-            radius: 0.0,
-            axes: 0,
-        },
-    }
-}
-
 fn length_known(n: usize) -> bool
     ensures { result ≡ length_known n }
 {
@@ -165,23 +136,17 @@ fn length_known(n: usize) -> bool
 }
 
 // The centre and the radius of the tree that extents ask for: the lows of the axes, then the highs.
-pub fn calculate_tree_center_and_radius(extents: &[f64]) -> TreeBox
+pub fn calculate_tree_center_and_radius(extents: &[f64]) -> Result<Box, Refusal>
     ensures { result ≡ tree_box extents.now }
 {
     let n = extents.len();
     if !length_known(n) {
-        return refused(Refusal::Dims);
+        return Err(Refusal::Dims);
     }
     if !all_finite(extents) {
-        return refused(Refusal::Box);
+        return Err(Refusal::Box);
     }
     let b = box_from(extents, n / 2);
-    let o = space::box_outcome(b);
-    match o {
-        Outcome::Refused(refusal) => refused(refusal),
-        Outcome::Done => TreeBox {
-            outcome: Outcome::Done,
-            bounds: b,
-        },
-    }
+    space::box_outcome(b)?;
+    Ok(b)
 }

@@ -33,10 +33,8 @@ pub fn put_numbers(out: &mut [u8], at: usize, xs: &[usize])
     requires { at + 4 * length xs.now ≤ length out.old }
     ensures { out.new ≡ pasted out.old at (in_bytes 4 xs.now) }
 {
-    let mut i = 0;
-    while i < xs.len() {
+    for i in 0..xs.len() {
         put_number(out, at + 4 * i, xs[i] as u64);
-        i += 1;
     }
 }
 
@@ -45,10 +43,8 @@ pub fn put_keys(out: &mut [u8], at: usize, xs: &[u64])
     requires { at + 8 * length xs.now ≤ length out.old }
     ensures { out.new ≡ pasted out.old at (in_bytes 8 xs.now) }
 {
-    let mut i = 0;
-    while i < xs.len() {
+    for i in 0..xs.len() {
         put_key(out, at + 8 * i, xs[i]);
-        i += 1;
     }
 }
 
@@ -56,11 +52,7 @@ pub fn put_keys(out: &mut [u8], at: usize, xs: &[u64])
 pub fn clear(s: &mut [u8])
     ensures { s.new ≡ replicate (length s.old) 0 }
 {
-    let mut i = 0;
-    while i < s.len() {
-        s[i] = 0;
-        i += 1;
-    }
+    s.fill(0);
 }
 
 // Sets every byte from place `from` on to 0.

@@ -13,19 +13,19 @@ use Rattle.slices.proofs.Every.{every-at}
 use Rattle.slices.proofs.Lists.{length-range, get_or-range, get_d_map}
 use Rattle.slices.proofs.Tests.{and_l, and_r}
 use Rattle.refusal.specs.declared.Refusal.TheVariants.{Dims, Section}
-use Rattle.refusal.specs.declared.Outcome.{Outcome}
-use Rattle.refusal.specs.declared.Outcome.TheVariants.{Done, Refused}
 use Rattle.refusal.specs.Chain.{ask, ◌then◌}
-use Rattle.refusal.proofs.Chain.{never, asked, both-done}
+use Rattle.refusal.proofs.Chain.{asked, both-done, after-done, answered-done}
 use Rattle.morton.specs.Keys.{axes_known}
 use Rattle.tree_file.specs.Bytes.{entries_at}
 use Rattle.tree_file.specs.Trailer.{width_of, axes_in, entries_in, trailer_bytes, trailer_fits, trailer, back_at, length_at, code_at, code_taken, is_new, is_inside, is_whole, entry_of, entry_good, sections_good, section_of, start_of, numbers_of, column_in}
 use Rattle.tree_file.specs.Checks.{sections_check}
 use Rattle.file_bytes.proofs.Numbers.{entries-length}
 use Rattle.file_sections.specs.declared.Sections.{Sections}
-use Rattle.file_sections.specs.Answers.{located, refused_by, located_or, sections_in}
+use Rattle.file_sections.specs.Answers.{located, sections_in}
 use Rattle.file_sections.proofs.Located.{entry-most}
 use Rattle.file_columns.specs.Columns.{Sectioned}
+use Rattle.refusal.specs.Outcome.{Answer, accepted}
+use Rattle.std.specs.Prelude.{Ok}
 
 -- ---- a column is entries at a place
 
@@ -117,21 +117,21 @@ module _ (file : List ℕ) (fits : trailer_fits file ≡ true) (known : axes_kno
       entry f c l = get_d_map f (range 1 9) c (omega (arith, length-range 1 9)) ∙ ap f (get_or-range 1 9 c l ∙ omega arith)
 
 -- not refused
-pub sections-passed : (file : List ℕ) → sections_check file ≡ Done → (trailer_fits file ≡ true) × (axes_known (axes_in file) ≡ true) × (sections_good file ≡ true)
+pub sections-passed : (file : List ℕ) → sections_check file ≡ accepted → (trailer_fits file ≡ true) × (axes_known (axes_in file) ≡ true) × (sections_good file ≡ true)
 sections-passed file e =
     let (a, b) = both-done (ask (trailer_fits file) Section then ask (axes_known (axes_in file)) Dims) (ask (sections_good file) Section) e in
     let (c, d) = both-done (ask (trailer_fits file) Section) (ask (axes_known (axes_in file)) Dims) a in
     (asked (trailer_fits file) Section c, asked (axes_known (axes_in file)) Dims d, asked (sections_good file) Section b)
 
-pub check-is : (file : List ℕ) (s : Sections) → s ≡ sections_in file → s.outcome ≡ sections_check file
-check-is file s e = ap (λ (x : Sections). x.outcome) e ∙ go (sections_check file)
-  where
-    go : (o : Outcome) → (located_or file o).outcome ≡ o
-    go Done = refl
-    go (Refused r) = refl
+-- the sections of a file that were handed on
+pub answers-located : (file : List ℕ) (s : Sections) → Ok s ≡ sections_in file → (sections_check file ≡ accepted) × (s ≡ located file)
+answers-located file s e =
+    let d = answered-done (sections_check file) (located file) s e in
+    let z : ◌≡◌ {A = Answer Sections} (Ok s) (Ok (located file)) = e ∙ after-done (sections_check file) (Ok (located file)) d in
+    (d, cc)
 
-pub sectioned : (file : List ℕ) (s : Sections) → s ≡ sections_in file → s.outcome ≡ Done → Sectioned file s
-sectioned file s e d =
-    let check : sections_check file ≡ Done = sym (check-is file s e) ∙ d in
-    let (a, b, c) = sections-passed file check in
-    subst (Sectioned file) (sym (e ∙ ap (located_or file) check)) (sectioned-at file a b c)
+pub sectioned : (file : List ℕ) (s : Sections) → Ok s ≡ sections_in file → Sectioned file s
+sectioned file s e =
+    let (d, is) = answers-located file s e in
+    let (a, b, c) = sections-passed file d in
+    subst (Sectioned file) (sym is) (sectioned-at file a b c)

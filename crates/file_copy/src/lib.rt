@@ -15,10 +15,8 @@ pub fn take_numbers(file: &[u8], s: Sections, code: usize, out: &mut [usize])
     ensures { out.new ≡ filled (length out.old) (column_in file.now code) }
 {
     let n = count_of(file, s, code);
-    let mut i: usize = 0;
-    while i < n {
+    for i in 0..n {
         out[i] = number_of(file, s, code, i);
-        i += 1;
     }
     slices::clear_from_usize(out, n);
 }
@@ -29,10 +27,8 @@ pub fn take_keys(file: &[u8], s: Sections, code: usize, out: &mut [u64])
     ensures { out.new ≡ filled (length out.old) (column_in file.now code) }
 {
     let n = count_of(file, s, code);
-    let mut i: usize = 0;
-    while i < n {
+    for i in 0..n {
         out[i] = key_of(file, s, code, i);
-        i += 1;
     }
     slices::clear_from(out, n);
 }

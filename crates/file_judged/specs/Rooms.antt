@@ -1,12 +1,13 @@
 -- The reader's refusals in their order, with so much room: document 02, order 6.
-use Rattle.std.specs.Prelude.{List, ℕ, min, leb, length}
+use Rattle.std.specs.Prelude.{List, ℕ, leb, length}
 use Rattle.refusal.specs.declared.Refusal.TheVariants.{Room}
-use Rattle.refusal.specs.declared.Outcome.{Outcome}
 use Rattle.refusal.specs.Chain.{ask, ◌then◌}
+use Rattle.tree.specs.Columns.{node_room}
 use Rattle.rows.specs.Written.{keys_room}
 use Rattle.tree_file.specs.Contents.{Contents}
 use Rattle.tree_file.specs.Trailer.{tree_in}
-use Rattle.tree_file.specs.Checks.{most_nodes, readable}
+use Rattle.tree_file.specs.Checks.{readable}
+use Rattle.refusal.specs.Outcome.{Outcome}
 
 -- how many entries the lent slices have; of the four node columns the shortest counts, and of it at most 1,048,576
 pub record Rooms : Type 0 where
@@ -16,9 +17,6 @@ pub record Rooms : Type 0 where
   pub u_keys : ℕ
   pub v_starts : ℕ
   pub v_keys : ℕ
-
-abbrev pub node_room : (key own begin total : ℕ) → ℕ
-node_room key own begin total = min most_nodes (min key (min own (min begin total)))
 
 abbrev pub rooms : (order key own begin total us uk vs vk : List ℕ) → Rooms
 rooms order key own begin total us uk vs vk = record {

@@ -103,12 +103,10 @@ fn put_entries(file: &mut [u8], at: usize, lengths: &[usize; 9], whole: usize)
     ensures { file.new ≡ pasted file.old at (entries_from 1 lengths.now) }
 {
     let mut back = whole;
-    let mut i = 0;
-    while i < 9 {
+    for i in 0..9 {
         let bytes = lengths[i];
         put_entry(file, at + 12 * i, i + 1, back, bytes);
         back -= bytes;
-        i += 1;
     }
 }
 

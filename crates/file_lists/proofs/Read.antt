@@ -10,8 +10,6 @@ use Rattle.morton.specs.Keys.{level_of, parent, ValidKey}
 use Rattle.morton.proofs.Arithmetic.{parent-valid}
 use Rattle.tree.specs.Nodes.{leaf}
 use Rattle.tree.specs.Finding.{TreeKeys}
-use Rattle.tree.specs.declared.Found as F
-use Rattle.tree.specs.declared.Found.TheVariants.{At, Nothing}
 use Rattle.rows.specs.Written.{row_of}
 use Rattle.sums.specs.Tells.{Tells}
 use Rattle.sums.specs.Right.{StartsRight, ListsRight}
@@ -29,6 +27,7 @@ use Rattle.file_sections.specs.declared.Sections.{Sections}
 use Rattle.file_columns.specs.Columns.{Sectioned}
 use Rattle.file_columns.proofs.Sectioned.{column-length}
 use Rattle.file_rows.specs.Parts.{part}
+use Rattle.std.specs.Prelude.{None, Some, Option}
 
 -- a file has fewer nodes than bytes
 pub few : (file : List ℕ) (s : Sections) → Sectioned file s → 8 * length (column_in file 1) ≤ length file
@@ -67,17 +66,17 @@ module _ (keys starts flat : List ℕ) (s : StartsRight keys starts flat) (i : �
 -- ---- V
 
 module _ (d : ℕ) (keys own total starts flat : List ℕ) (i above : ℕ) (s : StartsRight keys starts flat) (l : i < length keys) (from to : ℕ) (ef : from ≡ get_or starts i 0) (et : to ≡ get_or starts (i + 1) 0)
-    (k : ℕ) (is : k ≡ get_or keys i 0) (a : F.Found) (h : Brings d keys own total true k (part flat from to) a) where
+    (k : ℕ) (is : k ≡ get_or keys i 0) (a : Option ℕ) (h : Brings d keys own total true k (part flat from to) a) where
   brings : Brings d keys own total true k (part flat (get_or starts i 0) (get_or starts (i + 1) 0)) a
   brings = subst (λ r. Brings d keys own total true k r a) (part-read keys starts flat s i l from to ef et) h
 
-  pub far-lost : a ≡ Nothing → FarSays d keys own total starts flat i above Nothing
+  pub far-lost : a ≡ None → FarSays d keys own total starts flat i above None
   far-lost = N.far-lost d keys own total starts flat i above s l k is a brings
 
-  pub far-small : (count : ℕ) → a ≡ At count → count ≤ too_many
+  pub far-small : (count : ℕ) → a ≡ Some count → count ≤ too_many
   far-small = N.far-small d keys own total starts flat i above s l k is a brings
 
-  pub far-says : (count : ℕ) → a ≡ At count → (n : ℕ) → n ≡ min (above + count) too_many → FarSays d keys own total starts flat i above (At n)
+  pub far-says : (count : ℕ) → a ≡ Some count → (n : ℕ) → n ≡ min (above + count) too_many → FarSays d keys own total starts flat i above (Some n)
   far-says = N.far-says d keys own total starts flat i above s l k is a brings
 
 -- ---- U
@@ -86,17 +85,17 @@ module _ (d : ℕ) (keys own total starts flat : List ℕ) (i met : ℕ) (s : St
   pub inner-tells : leaf d keys (get_or keys i 0) ≡ false → Tells (NearRight d keys own total starts flat i met) (leb to from)
   inner-tells q = subst (Tells (NearRight d keys own total starts flat i met)) (sym (ap₂ leb et ef)) (N.inner-tells d keys own total starts flat i met s l q)
 
-  module _ (lf : leaf d keys (get_or keys i 0) ≡ true) (k : ℕ) (is : k ≡ get_or keys i 0) (a : F.Found) (h : Brings d keys own total false k (part flat from to) a) where
+  module _ (lf : leaf d keys (get_or keys i 0) ≡ true) (k : ℕ) (is : k ≡ get_or keys i 0) (a : Option ℕ) (h : Brings d keys own total false k (part flat from to) a) where
     brought : Brings d keys own total false k (part flat (get_or starts i 0) (get_or starts (i + 1) 0)) a
     brought = subst (λ r. Brings d keys own total false k r a) (part-read keys starts flat s i l from to ef et) h
 
-    pub near-lost : a ≡ Nothing → NearRight d keys own total starts flat i met → ⊥
+    pub near-lost : a ≡ None → NearRight d keys own total starts flat i met → ⊥
     near-lost = N.near-lost d keys own total starts flat i met s l lf k is a brought
 
-    pub near-small : (count : ℕ) → a ≡ At count → count ≤ too_many
+    pub near-small : (count : ℕ) → a ≡ Some count → count ≤ too_many
     near-small = N.near-small d keys own total starts flat i met s l lf k is a brought
 
-    pub near-tells : (count : ℕ) → a ≡ At count → (all : ℕ) → all ≡ get_or total 0 0 → Tells (NearRight d keys own total starts flat i met) (eqb (count + met) all)
+    pub near-tells : (count : ℕ) → a ≡ Some count → (all : ℕ) → all ≡ get_or total 0 0 → Tells (NearRight d keys own total starts flat i met) (eqb (count + met) all)
     near-tells count e all q = subst (λ x. Tells (NearRight d keys own total starts flat i met) (eqb (count + met) x)) (sym q) (N.near-tells d keys own total starts flat i met s l lf k is a brought count e)
 
 -- ---- all nodes
@@ -130,12 +129,12 @@ module _ (d : ℕ) (keys own total us uk vs vk : List ℕ) (c : Counted d keys o
     pub above-small : get_or counts (k % 32768 - 1) 0 ≤ too_many
     above-small = subst (λ x. get_or counts (x % 32768 - 1) 0 ≤ too_many) (sym ek) (P.above-small d keys own total us uk vs vk c s counts i g l)
 
-    module _ (a : F.Found) (h : NodeSays d keys own total us uk vs vk i (get_or counts (k % 32768 - 1) 0) a) where
+    module _ (a : Option ℕ) (h : NodeSays d keys own total us uk vs vk i (get_or counts (k % 32768 - 1) 0) a) where
       says : NodeSays d keys own total us uk vs vk i (get_or counts (level_of (get_or keys i 0) - 1) 0) a
       says = subst (λ x. NodeSays d keys own total us uk vs vk i (get_or counts (x % 32768 - 1) 0) a) ek h
 
-      pub fails : a ≡ Nothing → ListsRight d keys own (row_of keys us uk) (row_of keys vs vk) → ⊥
+      pub fails : a ≡ None → ListsRight d keys own (row_of keys us uk) (row_of keys vs vk) → ⊥
       fails e r = P.judge-fails d keys own total us uk vs vk c s r counts i g l a says e
 
-      pub more : (met : ℕ) → a ≡ At met → P.Judging d keys own total us uk vs vk (set counts (k % 32768) met) (i + 1)
+      pub more : (met : ℕ) → a ≡ Some met → P.Judging d keys own total us uk vs vk (set counts (k % 32768) met) (i + 1)
       more met e = subst (λ x. P.Judging d keys own total us uk vs vk (set counts (x % 32768) met) (i + 1)) (sym ek) (P.judge-more d keys own total us uk vs vk c s counts i g l a says met e)

@@ -15,7 +15,6 @@ use file_columns::{count_of, key_of, number_of};
 use file_sections::Sections;
 use list_rows::Row;
 use morton::keys;
-use tree::Found;
 
 // Whether the starts of a list go from 0 to the number of list keys, one more than there are nodes, and never fall.
 fn starts_right(file: &[u8], s: Sections, code: usize) -> bool
@@ -30,16 +29,14 @@ fn starts_right(file: &[u8], s: Sections, code: usize) -> bool
     if first != 0 {
         return false;
     }
-    let mut i: usize = 0;
-    while i < n {
+    for i in 0..n {
         let here = number_of(file, s, code, i);
         let next = number_of(file, s, code, i + 1);
         if next < here {
             return false;
         }
-        i += 1;
     }
-    let last = number_of(file, s, code, i);
+    let last = number_of(file, s, code, n);
     let flat = count_of(file, s, code + 1);
     if last != flat {
         return false;
@@ -61,7 +58,7 @@ fn row_of(file: &[u8], s: Sections, node: usize) -> Row
 }
 
 // How many sources are met above a node and in its V row, if that row passes.
-fn far_sources(file: &[u8], s: Sections, node: usize, row: Row, above: usize) -> Found
+fn far_sources(file: &[u8], s: Sections, node: usize, row: Row, above: usize) -> Option<usize>
     requires sectioned { Sectioned file.now s × Counted s.axes (column_in file.now 1) (column_in file.now 2) (column_in file.now 4)
         × StartsRight (column_in file.now 1) (column_in file.now 8) (column_in file.now 9) }
     requires below { Below (column_in file.now 1) node × Cell s.axes (column_in file.now 1) row × (row.cell ≡ get_or (column_in file.now 1) node 0) × (above ≤ too_many) }
@@ -70,11 +67,8 @@ fn far_sources(file: &[u8], s: Sections, node: usize, row: Row, above: usize) ->
 {
     let from = number_of(file, s, 8, node);
     let to = number_of(file, s, 8, node + 1);
-    let brought = file_rows::row_sources(file, s, true, row, 9, from, to);
-    let Found::At(count) = brought else {
-        return Found::Nothing;
-    };
-    Found::At(list_rows::held(above + count))
+    let count = file_rows::row_sources(file, s, true, row, 9, from, to)?;
+    Some(list_rows::held(above + count))
 }
 
 // Whether the U row of a node passes, and brings the rest of all sources.
@@ -90,8 +84,7 @@ fn near_right(file: &[u8], s: Sections, node: usize, row: Row, met: usize) -> bo
     if !file_rows::is_leaf(file, s, node) {
         return to <= from;
     }
-    let brought = file_rows::row_sources(file, s, false, row, 7, from, to);
-    let Found::At(count) = brought else {
+    let Some(count) = file_rows::row_sources(file, s, false, row, 7, from, to) else {
         return false;
     };
     let all = number_of(file, s, 4, 0);
@@ -99,7 +92,7 @@ fn near_right(file: &[u8], s: Sections, node: usize, row: Row, met: usize) -> bo
 }
 
 // How many sources are met above a node and in its V row, if both its rows are right.
-fn node_sources(file: &[u8], s: Sections, node: usize, above: usize) -> Found
+fn node_sources(file: &[u8], s: Sections, node: usize, above: usize) -> Option<usize>
     requires sectioned { Sectioned file.now s × Counted s.axes (column_in file.now 1) (column_in file.now 2) (column_in file.now 4)
         × Started (column_in file.now 1) (column_in file.now 6) (column_in file.now 7) (column_in file.now 8) (column_in file.now 9) }
     requires below { Below (column_in file.now 1) node × (above ≤ too_many) }
@@ -107,14 +100,11 @@ fn node_sources(file: &[u8], s: Sections, node: usize, above: usize) -> Found
         (column_in file.now 7) (column_in file.now 8) (column_in file.now 9) node above result }
 {
     let row = row_of(file, s, node);
-    let far = far_sources(file, s, node, row, above);
-    let Found::At(met) = far else {
-        return Found::Nothing;
-    };
+    let met = far_sources(file, s, node, row, above)?;
     if near_right(file, s, node, row, met) {
-        return Found::At(met);
+        return Some(met);
     }
-    Found::Nothing
+    None
 }
 
 // Whether the rows of all nodes are right. What is met in the V rows rides on the path from the root, one count for each level.
@@ -135,17 +125,14 @@ fn rows_right(file: &[u8], s: Sections) -> bool
     }
     let n = count_of(file, s, 1);
     let mut far = [0usize; 17];
-    let mut node: usize = 1;
-    while node < n {
+    for node in 1..n {
         let k = key_of(file, s, 1, node);
         let level = (k % 32768) as usize;
         let above = far[level - 1];
-        let says = node_sources(file, s, node, above);
-        let Found::At(met) = says else {
+        let Some(met) = node_sources(file, s, node, above) else {
             return false;
         };
         far[level] = met;
-        node += 1;
     }
     true
 }

@@ -18,13 +18,11 @@ fn all_below(file: &[u8], s: Sections, n: usize) -> bool
     ensures { Tells (AllBelow (column_in file.now 5) n) result }
 {
     let count = count_of(file, s, 5);
-    let mut i: usize = 0;
-    while i < count {
+    for i in 0..count {
         let index = number_of(file, s, 5, i);
         if n <= index {
             return false;
         }
-        i += 1;
     }
     true
 }
@@ -36,23 +34,21 @@ fn once_from(file: &[u8], s: Sections, from: usize) -> bool
 {
     let count = count_of(file, s, 5);
     let mut seen = [0u64; 2048];
-    let mut i: usize = 0;
-    while i < count {
+    for i in 0..count {
         let index = number_of(file, s, 5, i);
         if index < from {
-            i += 1;
-        } else if WINDOW <= index - from {
-            i += 1;
-        } else {
-            let at = index - from;
-            let word = at / 64;
-            let old = seen[word];
-            if (old >> (at % 64)) % 2 != 0 {
-                return false;
-            }
-            seen[word] = old + arrangement::bit_at(at % 64);
-            i += 1;
+            continue;
         }
+        let at = index - from;
+        if WINDOW <= at {
+            continue;
+        }
+        let word = at / 64;
+        let old = seen[word];
+        if (old >> (at % 64)) % 2 != 0 {
+            return false;
+        }
+        seen[word] = old + arrangement::bit_at(at % 64);
     }
     true
 }

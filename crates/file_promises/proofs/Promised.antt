@@ -9,7 +9,6 @@ use lib.ListN.{length, get_or}
 use Rattle.slices.specs.Lists.{sum}
 use Rattle.slices.proofs.Tests.{and_r}
 use Rattle.refusal.specs.declared.Refusal.TheVariants.{Tree, Section}
-use Rattle.refusal.specs.declared.Outcome.TheVariants.{Done}
 use Rattle.refusal.specs.Chain.{ask, ◌then◌}
 use Rattle.refusal.proofs.Chain.{asked, both-done}
 use Rattle.survey.specs.Bytes.{number_at}
@@ -26,11 +25,12 @@ use Rattle.tree_file.specs.Trailer.{width_of, axes_in, start_of, numbers_of, col
 use Rattle.tree_file.specs.Checks.{columns_right, rest_right, sections_check, readable}
 use Rattle.file_columns.proofs.Sectioned.{sections-passed, column-is}
 use Rattle.file_promises.specs.Promises.{Demand3, SameSection}
+use Rattle.refusal.specs.Outcome.{accepted}
 
 -- ---- demand 3
 
-module _ (file : List ℕ) (ok : readable file ≡ Done) where
-  parts : (sections_check file ≡ Done) × (columns_right (tree_in file) ≡ true) × (rest_right (tree_in file) ≡ true)
+module _ (file : List ℕ) (ok : readable file ≡ accepted) where
+  parts : (sections_check file ≡ accepted) × (columns_right (tree_in file) ≡ true) × (rest_right (tree_in file) ≡ true)
   parts =
       let (a, b) = both-done (sections_check file then ask (columns_right (tree_in file)) Tree) (ask (rest_right (tree_in file)) Section) ok in
       let (c, d) = both-done (sections_check file) (ask (columns_right (tree_in file)) Tree) a in

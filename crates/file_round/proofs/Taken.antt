@@ -15,7 +15,6 @@ use Rattle.slices.proofs.Sums.{sum-take, sum-whole}
 use Rattle.slices.proofs.Tests.{and_l, and_r, lt-or-le}
 use Rattle.slices.proofs.Counts.{here, there}
 use Rattle.refusal.specs.declared.Refusal.TheVariants.{Dims, Count, Tree, Section}
-use Rattle.refusal.specs.declared.Outcome.TheVariants.{Done}
 use Rattle.refusal.specs.Chain.{ask, ◌then◌}
 use Rattle.refusal.proofs.Chain.{both-done, asked}
 use Rattle.morton.specs.Keys.{axes_known, valid, level_of, code_of, deepest, ValidKey}
@@ -38,6 +37,7 @@ use Rattle.tree_file.specs.Trailer.{axes_in, trailer_fits, sections_good, tree_i
 use Rattle.tree_file.specs.Checks.{most_nodes, most_keys, counts_fit, columns_right, rest_right, writeable, readable}
 use Rattle.file_round.specs.Fits.{InBytes, Fits}
 use Rattle.file_round.proofs.Round.{same-tree, sections-good, trailer-fits, axes-read}
+use Rattle.refusal.specs.Outcome.{accepted}
 
 -- rows whose keys have room, one after the other
 joined : (f : ℕ → List ℕ) (ks : List ℕ) → ((k : ℕ) → Mem k ks → InBytes 8 (f k)) → InBytes 8 (concat_map f ks)
@@ -56,14 +56,14 @@ joined f (k ∷ ks) h i l = ⊎_elim (λ b. first b) (λ b. rest b (joined f ks 
         let e : i ≡ length (f k) + (i - length (f k)) = omega arith in
         subst (λ (x : ℕ). x < 256 ^ 8) (sym (ap (λ (j : ℕ). get_or (f k ++ concat_map f ks) j 0) e ∙ get_or-append-add (f k) (concat_map f ks) (i - length (f k)) 0)) r
 
-module _ (t : Contents) (done : writeable t ≡ Done) where
+module _ (t : Contents) (done : writeable t ≡ accepted) where
   abbrev d : ℕ
   d = t.axes
 
-  front : ask (axes_known d) Dims then ask (counts_fit t) Count then ask (columns_right t) Tree ≡ Done
+  front : ask (axes_known d) Dims then ask (counts_fit t) Count then ask (columns_right t) Tree ≡ accepted
   front = (both-done (ask (axes_known d) Dims then ask (counts_fit t) Count then ask (columns_right t) Tree) (ask (rest_right t) Section) done).0
 
-  first_two : ask (axes_known d) Dims then ask (counts_fit t) Count ≡ Done
+  first_two : ask (axes_known d) Dims then ask (counts_fit t) Count ≡ accepted
   first_two = (both-done (ask (axes_known d) Dims then ask (counts_fit t) Count) (ask (columns_right t) Tree) front).0
 
   known : axes_known d ≡ true
@@ -149,9 +149,9 @@ module _ (t : Contents) (done : writeable t ≡ Done) where
   good = sections-good t fits
 
   -- and it is refused by nothing but short slices
-  pub read_again : readable (file_of t) ≡ Done
+  pub read_again : readable (file_of t) ≡ accepted
   read_again = passed (trailer_fits (file_of t)) (axes_known (axes_in (file_of t))) (sections_good (file_of t)) (columns_right (tree_in (file_of t))) (rest_right (tree_in (file_of t)))
       (trailer-fits t fits) (ap axes_known (axes-read t fits) ∙ known) good (ap columns_right same ∙ well) (ap rest_right same ∙ rest)
     where
-      passed : (a b c e f : Bool) → a ≡ true → b ≡ true → c ≡ true → e ≡ true → f ≡ true → ask a Section then ask b Dims then ask c Section then ask e Tree then ask f Section ≡ Done
+      passed : (a b c e f : Bool) → a ≡ true → b ≡ true → c ≡ true → e ≡ true → f ≡ true → ask a Section then ask b Dims then ask c Section then ask e Tree then ask f Section ≡ accepted
       passed a b c e f p q r s u = rw (p, q, r, s, u)

@@ -12,20 +12,18 @@ use Rattle.morton.specs.Keys.{ValidKey}
 use Rattle.tree.specs.Nodes.{leaf, stored}
 use Rattle.tree.specs.Finding.{TreeKeys, FirstFrom, FoundNode}
 use Rattle.tree.specs.WellFormed.{most_sources, keys_ascend}
-use Rattle.tree.specs.declared.Found as F
-use Rattle.tree.specs.declared.Found.TheVariants as found
 use Rattle.tree.proofs.Leaves as L
 use Rattle.tree.proofs.Finding as S
 use Rattle.rows.specs.Lists.{in_u, in_v}
 use Rattle.places.specs.Places.{place_of, beside}
 use Rattle.list_rows.specs.declared.Row.{Row}
 use Rattle.list_rows.specs.declared.Spot.{Spot}
-use Rattle.list_rows.specs.declared.Spot.TheVariants.{At, Nothing}
 use Rattle.list_rows.specs.Entries.{Counted, Cell, Node, Sought, takes, rises_at}
 use Rattle.list_rows.specs.Rows.{too_many, RowPasses}
 use Rattle.list_rows.proofs.Entries as E
 use Rattle.list_rows.proofs.Rows as R
 use Rattle.file_rows.specs.Parts.{part}
+use Rattle.std.specs.Prelude.{None, Option, Some}
 
 -- ---- a part of a column
 
@@ -52,13 +50,13 @@ module _ (d : ℕ) (keys : List ℕ) where
   pub none_here : (k r : ℕ) → FirstFrom d keys k r → (h : ℕ) → h ≡ get_or keys r 0 → (h ≡ k → ⊥) → keys_ascend d keys ≡ true → stored keys k ≡ false
   none_here k r f h e n = S.none-stored d keys k r f (λ l q. n (e ∙ q))
 
-  pub sought-none : (own total : List ℕ) → Counted d keys own total → (k : ℕ) (a : F.Found) → FoundNode d keys k a → a ≡ found.Nothing → stored keys k ≡ false
+  pub sought-none : (own total : List ℕ) → Counted d keys own total → (k : ℕ) (a : Option ℕ) → FoundNode d keys k a → a ≡ None → stored keys k ≡ false
   sought-none own total c k a h e = E.found_none d keys own c.tree k a h e
 
-  pub sought-valid : (own total : List ℕ) → Counted d keys own total → (k : ℕ) (a : F.Found) → FoundNode d keys k a → (i : ℕ) → a ≡ found.At i → ValidKey d k
+  pub sought-valid : (own total : List ℕ) → Counted d keys own total → (k : ℕ) (a : Option ℕ) → FoundNode d keys k a → (i : ℕ) → a ≡ Some i → ValidKey d k
   sought-valid own total c k a h i e = let r = E.found_in d keys k a h i e in E.node-valid d keys own c.tree k (i, r.0, r.1)
 
-  pub sought-at : (k : ℕ) (a : F.Found) → FoundNode d keys k a → (i : ℕ) → a ≡ found.At i → (p : ℕ) → p ≡ place_of d k → Sought d keys k (At i p)
+  pub sought-at : (k : ℕ) (a : Option ℕ) → FoundNode d keys k a → (i : ℕ) → a ≡ Some i → (p : ℕ) → p ≡ place_of d k → Sought d keys k (Some (record { node = i; place = p }))
   sought-at k a h i e p q = let r = E.found_in d keys k a h i e in (r.0, r.1, q)
 
 -- ---- the tests of an entry
@@ -110,24 +108,24 @@ module _ (d : ℕ) (keys own total : List ℕ) (row : Row) (node place : ℕ) (p
 
 -- ---- the loop over a row
 
-module _ (d : ℕ) (keys own total : List ℕ) (far : Bool) (b : ℕ) (row : List ℕ) (i count : ℕ) (l : i < length row) (k : ℕ) (ek : k ≡ get_or row i 0) (a : Spot) (s : Sought d keys k a) where
+module _ (d : ℕ) (keys own total : List ℕ) (far : Bool) (b : ℕ) (row : List ℕ) (i count : ℕ) (l : i < length row) (k : ℕ) (ek : k ≡ get_or row i 0) (a : Option Spot) (s : Sought d keys k a) where
   here : Sought d keys (get_or row i 0) a
   here = subst (λ x. Sought d keys x a) ek s
 
-  pub lost : a ≡ Nothing → RowPasses d keys own far b row → ⊥
+  pub lost : a ≡ None → RowPasses d keys own far b row → ⊥
   lost = R.pass-lost d keys own total far b row i l a here
 
-  module _ (node place : ℕ) (e : a ≡ At node place) where
-    pub node_at : Node d keys node place
-    node_at = record { within = R.found_within d keys own total far b row i count l a here node place e; is = R.found-place d keys own total far b row i count l a here node place e }
+  module _ (spot : Spot) (e : a ≡ Some spot) where
+    pub node_at : Node d keys spot.node spot.place
+    node_at = record { within = R.found_within d keys own total far b row i count l a here spot e; is = R.found-place d keys own total far b row i count l a here spot e }
 
-    module _ (t : Bool) (q : t ≡ takes d keys own far b (get_or keys node 0)) where
+    module _ (t : Bool) (q : t ≡ takes d keys own far b (get_or keys spot.node 0)) where
       pub fails : t ≡ false → RowPasses d keys own far b row → ⊥
-      fails = R.pass-fails d keys own total far b row i count l a here node place e t q
+      fails = R.pass-fails d keys own total far b row i count l a here spot e t q
 
-      module _ (c : Counted d keys own total) (x : ℕ) (ex : x ≡ get_or total node 0) where
+      module _ (c : Counted d keys own total) (x : ℕ) (ex : x ≡ get_or total spot.node 0) where
         pub small : x ≤ most_sources
-        small = subst (λ y. y ≤ most_sources) (sym ex) (R.total-le d keys own total c node (R.found_within d keys own total far b row i count l a here node place e))
+        small = subst (λ y. y ≤ most_sources) (sym ex) (R.total-le d keys own total c spot.node (R.found_within d keys own total far b row i count l a here spot e))
 
         pub more : R.Passing d keys own total far b row i count → rises_at row i ≡ true → t ≡ true → (n : ℕ) → n ≡ min (count + x) too_many → R.Passing d keys own total far b row (i + 1) n
-        more p up ok n m = R.pass-more d keys own total far b row i count l a here node place e t q c p up ok n (m ∙ ap (λ (y : ℕ). min (count + y) too_many) ex)
+        more p up ok n m = R.pass-more d keys own total far b row i count l a here spot e t q c p up ok n (m ∙ ap (λ (y : ℕ). min (count + y) too_many) ex)

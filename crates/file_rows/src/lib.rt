@@ -15,7 +15,6 @@ ghost use Rattle.file_rows.specs.Parts.{part};
 use file_columns::{count_of, key_of, number_of};
 use file_sections::Sections;
 use list_rows::{Row, Spot};
-use tree::Found;
 
 // Whether a node is a leaf: by the next row.
 pub fn is_leaf(file: &[u8], s: Sections, node: usize) -> bool
@@ -56,33 +55,29 @@ fn first_from(file: &[u8], s: Sections, k: u64) -> usize
 }
 
 // The node with key k.
-fn find_node(file: &[u8], s: Sections, k: u64) -> Found
+fn find_node(file: &[u8], s: Sections, k: u64) -> Option<usize>
     requires { Sectioned file.now s }
     ensures { FoundNode s.axes (column_in file.now 1) k result }
 {
     let node = first_from(file, s, k);
     if count_of(file, s, 1) <= node {
-        return Found::Nothing;
+        return None;
     }
     let here = key_of(file, s, 1, node);
     if here != k {
-        return Found::Nothing;
+        return None;
     }
-    Found::At(node)
+    Some(node)
 }
 
 // The node with key k and its place.
-fn seek(file: &[u8], s: Sections, k: u64) -> Spot
+fn seek(file: &[u8], s: Sections, k: u64) -> Option<Spot>
     requires { Sectioned file.now s × Counted s.axes (column_in file.now 1) (column_in file.now 2) (column_in file.now 4) }
     ensures { Sought s.axes (column_in file.now 1) k result }
 {
-    let axes = s.axes;
-    let found = find_node(file, s, k);
-    let Found::At(node) = found else {
-        return Spot::Nothing;
-    };
-    let place = places::place_of(axes, k);
-    Spot::At(node, place)
+    let node = find_node(file, s, k)?;
+    let place = places::place_of(s.axes, k);
+    Some(Spot { node, place })
 }
 
 // Whether a node at a place stands in a cell's V row: on its level, beside its parent but not beside it, and sourced.
@@ -173,7 +168,7 @@ pub fn row_sources(
     code: usize,
     from: usize,
     to: usize,
-) -> Found
+) -> Option<usize>
     requires sectioned { Sectioned file.now s × (1 ≤ code) × (code ≤ 9) × (width_of code ≡ 8) }
     requires from_le_to { (from ≤ to) × (to ≤ length (column_in file.now code)) }
     requires counted { Counted s.axes (column_in file.now 1) (column_in file.now 2) (column_in file.now 4) × Cell s.axes (column_in file.now 1) row }
@@ -182,22 +177,17 @@ pub fn row_sources(
 {
     let n = to - from;
     let mut sum: usize = 0;
-    let mut i: usize = 0;
-    while i < n {
+    for i in 0..n {
         if !rises_at(file, s, code, from, to, i) {
-            return Found::Nothing;
+            return None;
         }
         let k = entry_at(file, s, code, from, to, i);
-        let spot = seek(file, s, k);
-        let Spot::At(node, place) = spot else {
-            return Found::Nothing;
-        };
-        if !is_taken(file, s, far, row, node, place) {
-            return Found::Nothing;
+        let spot = seek(file, s, k)?;
+        if !is_taken(file, s, far, row, spot.node, spot.place) {
+            return None;
         }
-        let total = number_of(file, s, 4, node);
+        let total = number_of(file, s, 4, spot.node);
         sum = list_rows::held(sum + total);
-        i += 1;
     }
-    Found::At(sum)
+    Some(sum)
 }

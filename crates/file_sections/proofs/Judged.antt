@@ -1,24 +1,23 @@
 -- Entries judged one by one.
-use mathlib.Core.Path.{◌≡◌, refl, sym, ap, ap₂, ◌∙◌, subst}
+use mathlib.Core.Path.{◌≡◌, refl, sym, ap, ◌∙◌}
 use mathlib.Core.Bool.{Bool, true, false, ◌&&◌, ◌||◌, cond}
-use mathlib.Core.List.{List, [], ◌∷◌}
+use mathlib.Core.List.{List}
 use mathlib.Core.Logic.{⊎_elim}
-use Prim.Native.Nat.{ℕ, zero, suc, ◌+◌, ◌*◌, ◌%◌, ◌≤◌, ◌<◌}
+use Prim.Native.Nat.{ℕ, suc, ◌+◌, ◌*◌, ◌%◌, ◌≤◌, ◌<◌}
 use native.Mathlib.Omega.{arith}
 use native.Mathlib.Numerals.{add-one}
 use lib.Dec.{leb, ltb, eqb}
 use lib.ListN.{length, get_or, set, replicate, length-set, get_or-replicate}
 use lib.Seq.{get_or-set_same, get_or-set_other}
-use borrow.Author.Tests.{leb-true, le-leb, lt-leb, lt-ltb, le-ltb, eq-eqb, ne_eqb, eqb-true, ltb-true}
+use borrow.Author.Tests.{leb-true, le-leb, lt-leb, lt-ltb, le-ltb, eq-eqb, ne_eqb}
 use Rattle.slices.specs.Every.{every}
 use Rattle.slices.proofs.Every.{every-none, every-next, every-at}
 use Rattle.slices.proofs.Tests.{and_l, and_r, both, clash, refute, same_or_not}
 use Rattle.survey.specs.Bytes.{u32_at}
-use Rattle.tree_file.specs.Trailer.{width_of, trailer, code_at, back_at, length_at, code_taken, is_inside, is_whole, is_new, entry_of, entry_good}
-use Rattle.file_sections.specs.Answers.{section_by, Entered}
+use Rattle.tree_file.specs.Trailer.{width_of, trailer, code_at, back_at, code_taken, is_inside, is_whole, is_new, entry_of, entry_good}
+use Rattle.file_sections.specs.Answers.{section_by, Found}
 use Rattle.file_sections.specs.declared.Section.{Section}
 use Rattle.file_sections.specs.declared.Section.TheVariants.{Known, Skipped, Bad}
-use Rattle.file_sections.specs.declared.Entries.{Entries}
 
 -- ---- one entry, by its three numbers
 
@@ -126,16 +125,13 @@ module _ (file : List ℕ) (n : ℕ) where
   unfolding entry_of
   judging-none = record { within = omega arith; good = every-none (entry_good file) 0 refl; size = refl; found = λ c h. get_or-replicate 32 c 0 0 h }
 
-  never : false ≡ true → (at : List ℕ) (c : ℕ) → c < 32 → get_or at c 0 ≡ entry_of file n c
-  never e at c h = absurd (clash e refl)
-
   module _ (at : List ℕ) (i : ℕ) (g : Judging file n at i) where
-    entry-off : i < n → entry_good file i ≡ false → false ≡ every n (entry_good file)
-    entry-off l q = sym (refute (λ e. clash (every-at (entry_good file) n e i l) q))
+    entry-off : i < n → entry_good file i ≡ false → every n (entry_good file) ≡ false
+    entry-off l q = refute (λ e. clash (every-at (entry_good file) n e i l) q)
 
     module _ (l : i < n) (r : Bool) (is : r ≡ (code_taken file i && (is_inside file i && is_whole file i))) where
-      pub judging-wrong : r ≡ false → Entered file n (record { good = false; at = at })
-      judging-wrong q = record { judged = entry-off l (off (code_taken file i) (is_new file i) (is_inside file i && is_whole file i) (sym is ∙ q)); size = g.size; found = λ e. never e at }
+      pub judging-wrong : r ≡ false → every n (entry_good file) ≡ false
+      judging-wrong q = entry-off l (off (code_taken file i) (is_new file i) (is_inside file i && is_whole file i) (sym is ∙ q))
         where
           off : (a b c : Bool) → (a && c) ≡ false → (a && (b && c)) ≡ false
           off true true c e = e
@@ -155,8 +151,8 @@ module _ (file : List ℕ) (n : ℕ) where
         seen : get_or at code 0 ≡ entry_of file i (code_at file i)
         seen = g.found code code_below ∙ ap (entry_of file i) code_is
 
-        pub judging-twice : (get_or at code 0 ≡ 0 → ⊥) → Entered file n (record { good = false; at = at })
-        judging-twice h = record { judged = entry-off l (off (code_taken file i) (is_new file i) (is_inside file i && is_whole file i) (ne_eqb (entry_of file i (code_at file i)) 0 (λ z. h (seen ∙ z)))); size = g.size; found = λ e. never e at }
+        pub judging-twice : (get_or at code 0 ≡ 0 → ⊥) → every n (entry_good file) ≡ false
+        judging-twice h = entry-off l (off (code_taken file i) (is_new file i) (is_inside file i && is_whole file i) (ne_eqb (entry_of file i (code_at file i)) 0 (λ z. h (seen ∙ z))))
           where
             off : (a b c : Bool) → b ≡ false → (a && (b && c)) ≡ false
             off true b c e = rw e
@@ -185,10 +181,10 @@ module _ (file : List ℕ) (n : ℕ) where
                 (λ q. get_or-set_other at code c (suc i) 0 (λ k. q (sym k)) ∙ g.found c h ∙ sym (more c false (ne_eqb (code_at file i) c (λ k. q (code_is ∙ k)))))
                 (same_or_not code c)
 
-    pub judging-done : n ≤ i → Entered file n (record { good = true; at = at })
+    pub judging-done : n ≤ i → Found file n at
     judging-done h =
         let e : i ≡ n = omega (arith, g.within) in
-        record { judged = sym (ap (λ (k : ℕ). every k (entry_good file)) (sym e) ∙ g.good); size = g.size; found = λ t c l. g.found c l ∙ ap (λ (k : ℕ). entry_of file k c) e }
+        record { good = ap (λ (k : ℕ). every k (entry_good file)) (sym e) ∙ g.good; size = g.size; found = λ c l. g.found c l ∙ ap (λ (k : ℕ). entry_of file k c) e }
 
 -- ---- none of 1 to 9 is missing
 
@@ -196,16 +192,16 @@ module _ (at : List ℕ) where
   abbrev present : ℕ → Bool
   present c = ltb 0 (get_or at (suc c) 0)
 
-  pub present-none : (0 ≤ 9) × (every 0 present ≡ true)
-  present-none = (omega arith, every-none present 0 refl)
+  pub present-none : every 0 present ≡ true
+  present-none = every-none present 0 refl
 
   pub present-off : (c : ℕ) → c < 9 → get_or at (c + 1) 0 ≡ 0 → false ≡ every 9 present
   present-off c l z = sym (refute (λ e. clash (every-at present 9 e c l) (le-ltb 0 (get_or at (suc c) 0) (omega (arith, ap (λ (k : ℕ). get_or at k 0) (add-one c))))))
 
-  pub present-more : (c : ℕ) → c < 9 → every c present ≡ true → (get_or at (c + 1) 0 ≡ 0 → ⊥) → (c + 1 ≤ 9) × (every (c + 1) present ≡ true)
-  present-more c l e z =
+  pub present-more : (c : ℕ) → every c present ≡ true → (get_or at (c + 1) 0 ≡ 0 → ⊥) → every (c + 1) present ≡ true
+  present-more c e z =
       let same = ap (λ (k : ℕ). get_or at k 0) (add-one c) in
-      (omega arith, every-next present (c + 1) c refl (lt-ltb 0 (get_or at (suc c) 0) (omega (arith, same, z))) ∙ e)
+      every-next present (c + 1) c refl (lt-ltb 0 (get_or at (suc c) 0) (omega (arith, same, z))) ∙ e
 
-  pub present-all : (c : ℕ) → c ≤ 9 → 9 ≤ c → every c present ≡ true → true ≡ every 9 present
-  present-all c a b e = let q : c ≡ 9 = omega arith in sym (ap (λ (k : ℕ). every k present) (sym q) ∙ e)
+  pub present-all : (c : ℕ) → c ≡ 9 → every c present ≡ true → true ≡ every 9 present
+  present-all c q e = sym (ap (λ (k : ℕ). every k present) (sym q) ∙ e)

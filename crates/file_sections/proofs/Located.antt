@@ -16,16 +16,15 @@ use Rattle.slices.proofs.Every.{every-at, every-same}
 use Rattle.slices.proofs.Lists.{length-range, get_or-range, get_d_map}
 use Rattle.slices.proofs.Tests.{and_l, and_r, both, same_or_not}
 use Rattle.refusal.specs.declared.Refusal.TheVariants.{Dims, Section}
-use Rattle.refusal.specs.declared.Outcome.{Outcome}
-use Rattle.refusal.specs.declared.Outcome.TheVariants.{Done}
 use Rattle.refusal.specs.Chain.{ask, ◌then◌}
 use Rattle.morton.specs.Keys.{axes_known}
 use Rattle.survey.specs.Bytes.{u32_at}
 use Rattle.tree_file.specs.Trailer.{width_of, axes_in, entries_in, trailer_bytes, trailer_fits, trailer, back_at, length_at, code_at, code_taken, is_new, is_inside, is_whole, entry_of, entry_good, sections_good, section_of, start_of, numbers_of}
 use Rattle.tree_file.specs.Checks.{sections_check}
-use Rattle.file_sections.specs.Answers.{Entered, Placed, located, refused_by, located_or, sections_in}
+use Rattle.file_sections.specs.Answers.{Found, Entered, Placed, located, sections_in}
 use Rattle.file_sections.specs.declared.Sections.{Sections}
-use Rattle.file_sections.specs.declared.Entries.{Entries}
+use Rattle.refusal.specs.Outcome.{Answer}
+use Rattle.std.specs.Prelude.{Option, None, Some, Err, Ok}
 
 -- ---- the width of a code
 
@@ -113,12 +112,12 @@ module _ (file : List ℕ) (tr axes : ℕ) (at : List ℕ) (g : Placed file tr a
     counts_are = stored (numbers_of file) counts c (bytes / w) (omega (arith, i.counts_size)) (count-is file tr axes at g c l back bytes eb el w ew) i.counts_are;
   }
 
-  pub locating-done : 9 ≤ c → record { outcome = Done; axes = axes; starts = starts; counts = counts } ≡ located file
+  pub locating-done : 9 ≤ c → record { axes = axes; starts = starts; counts = counts } ≡ located file
   locating-done h =
       ap (λ (a : ℕ). answer a starts counts) g.says ∙ ap₂ (answer (axes_in file)) (column (start_of file) starts i.starts_size (λ j k. i.starts_are j (omega arith))) (column (numbers_of file) counts i.counts_size (λ j k. i.counts_are j (omega arith)))
     where
       answer : ℕ → List ℕ → List ℕ → Sections
-      answer a s k = record { outcome = Done; axes = a; starts = s; counts = k }
+      answer a s k = record { axes = a; starts = s; counts = k }
 
       column : (f : ℕ → ℕ) (xs : List ℕ) → length xs ≡ 9 → ((j : ℕ) → j < 9 → get_or xs j 0 ≡ f (suc j)) → xs ≡ map f (range 1 9)
       column f xs n e = ext_get_or 0 xs (map f (range 1 9)) (n ∙ sym (length-map (range 1 9) f ∙ length-range 1 9)) (λ j h.
@@ -127,16 +126,23 @@ module _ (file : List ℕ) (tr axes : ℕ) (at : List ℕ) (g : Placed file tr a
 
 -- ---- the chain
 
-module _ (file : List ℕ) where
-  abbrev ending : Bool → Bool → Bool → Sections
-  ending f a s = located_or file (ask f Section then ask a Dims then ask s Section)
+-- the entries that were found, or that one is not good
+pub entries-found : (file : List ℕ) (n : ℕ) (r : Option (List ℕ)) (at : List ℕ) → Entered file n r → r ≡ Some at → Found file n at
+entries-found file n r at h e = subst (Entered file n) e h
 
-  pub too_short : (r : Sections) → length file < 8 → r ≡ refused_by Section → r ≡ sections_in file
-  too_short r h e = e ∙ sym (ap (λ (f : Bool). ending f (axes_known (axes_in file)) (sections_good file)) (ap (λ (b : Bool). b && leb (trailer_bytes file) (length file)) (lt-leb 8 (length file) h)))
+pub entries-bad : (file : List ℕ) (n : ℕ) (r : Option (List ℕ)) → Entered file n r → r ≡ None → every n (entry_good file) ≡ false
+entries-bad file n r h e = subst (Entered file n) e h
+
+module _ (file : List ℕ) where
+  abbrev by : Bool → Bool → Bool → Answer Sections
+  by f a s = ask f Section then ask a Dims then ask s Section then Ok (located file)
+
+  pub too_short : length file < 8 → Err Section ≡ sections_in file
+  too_short h = sym (ap (λ (f : Bool). by f (axes_known (axes_in file)) (sections_good file)) (ap (λ (b : Bool). b && leb (trailer_bytes file) (length file)) (lt-leb 8 (length file) h)))
 
   module _ (long : 8 ≤ length file) (n : ℕ) (en : n ≡ entries_in file) where
-    pub no-trailer : (r : Sections) → length file < 12 * n + 8 → r ≡ refused_by Section → r ≡ sections_in file
-    no-trailer r h e = e ∙ sym (ap (λ (f : Bool). ending f (axes_known (axes_in file)) (sections_good file)) (ap₂ ◌&&◌ (le-leb 8 (length file) long) (lt-leb (trailer_bytes file) (length file) (omega (arith, en)))))
+    pub no-trailer : length file < 12 * n + 8 → Err Section ≡ sections_in file
+    no-trailer h = sym (ap (λ (f : Bool). by f (axes_known (axes_in file)) (sections_good file)) (ap₂ ◌&&◌ (le-leb 8 (length file) long) (lt-leb (trailer_bytes file) (length file) (omega (arith, en)))))
 
     module _ (fits : 12 * n + 8 ≤ length file) where
       trailer-fits : trailer_fits file ≡ true
@@ -149,38 +155,38 @@ module _ (file : List ℕ) where
       trailer-room = omega arith
 
       module _ (axes : ℕ) (ea : axes ≡ axes_in file) (b : Bool) (known : b ≡ axes_known axes) where
-        pub not_known : (r : Sections) → b ≡ false → r ≡ refused_by Dims → r ≡ sections_in file
-        not_known r q e = e ∙ sym (ap₂ (λ (f a : Bool). ending f a (sections_good file)) trailer-fits (ap axes_known (sym ea) ∙ sym known ∙ q))
+        pub not_known : b ≡ false → Err Dims ≡ sections_in file
+        not_known q = sym (ap₂ (λ (f a : Bool). by f a (sections_good file)) trailer-fits (ap axes_known (sym ea) ∙ sym known ∙ q))
 
-        module _ (y : b ≡ true) (entries : Entries) (h : Entered file n entries) where
-          by-sections : (s : Bool) → sections_good file ≡ s → located_or file (ask s Section) ≡ sections_in file
-          by-sections s q = ap (λ (t : Bool). located_or file (ask t Section)) (sym q) ∙ sym (ap₂ (λ (f a : Bool). ending f a (sections_good file)) trailer-fits (ap axes_known (sym ea) ∙ sym known ∙ y))
-
-          judged : every (entries_in file) (entry_good file) ≡ entries.good
-          judged = sym (h.judged ∙ ap (λ (k : ℕ). every k (entry_good file)) en)
+        module _ (y : b ≡ true) where
+          by-sections : (s : Bool) → sections_good file ≡ s → (ask s Section then Ok (located file)) ≡ sections_in file
+          by-sections s q = ap (λ (t : Bool). ask t Section then Ok (located file)) (sym q) ∙ sym (ap₂ (λ (f a : Bool). by f a (sections_good file)) trailer-fits (ap axes_known (sym ea) ∙ sym known ∙ y))
 
           good-is : sections_good file ≡ (every (entries_in file) (entry_good file) && every 9 (λ c. ltb 0 (entry_of file (entries_in file) (suc c))))
           unfolding sections_good
           good-is = refl
 
-          pub not_good : (r : Sections) → entries.good ≡ false → r ≡ refused_by Section → r ≡ sections_in file
-          not_good r q e = e ∙ by-sections false (good-is ∙ ap (λ (t : Bool). t && every 9 (λ c. ltb 0 (entry_of file (entries_in file) (suc c)))) (judged ∙ q))
+          judged : every (entries_in file) (entry_good file) ≡ every n (entry_good file)
+          judged = ap (λ (k : ℕ). every k (entry_good file)) (sym en)
 
-          module _ (good : entries.good ≡ true) (p : Bool) (all : p ≡ every 9 (λ c. ltb 0 (get_or entries.at (suc c) 0))) where
-            found : (c : ℕ) → c < 9 → get_or entries.at (suc c) 0 ≡ entry_of file (entries_in file) (suc c)
-            found c l = h.found good (suc c) (omega arith) ∙ ap (λ (k : ℕ). entry_of file k (suc c)) en
+          pub not_good : every n (entry_good file) ≡ false → Err Section ≡ sections_in file
+          not_good q = by-sections false (good-is ∙ ap (λ (t : Bool). t && every 9 (λ c. ltb 0 (entry_of file (entries_in file) (suc c)))) (judged ∙ q))
+
+          module _ (at : List ℕ) (h : Found file n at) (p : Bool) (all : p ≡ every 9 (λ c. ltb 0 (get_or at (suc c) 0))) where
+            found : (c : ℕ) → c < 9 → get_or at (suc c) 0 ≡ entry_of file (entries_in file) (suc c)
+            found c l = h.found (suc c) (omega arith) ∙ ap (λ (k : ℕ). entry_of file k (suc c)) en
 
             present : p ≡ every 9 (λ c. ltb 0 (entry_of file (entries_in file) (suc c)))
-            present = all ∙ every-same (λ c. ltb 0 (get_or entries.at (suc c) 0)) (λ c. ltb 0 (entry_of file (entries_in file) (suc c))) 9 (λ c l. ap (ltb 0) (found c l))
+            present = all ∙ every-same (λ c. ltb 0 (get_or at (suc c) 0)) (λ c. ltb 0 (entry_of file (entries_in file) (suc c))) 9 (λ c l. ap (ltb 0) (found c l))
 
             sections-are : sections_good file ≡ p
-            sections-are = good-is ∙ ap₂ ◌&&◌ (judged ∙ good) (sym present)
+            sections-are = good-is ∙ ap₂ ◌&&◌ (judged ∙ h.good) (sym present)
 
-            pub not-present : (r : Sections) → p ≡ false → r ≡ refused_by Section → r ≡ sections_in file
-            not-present r q e = e ∙ by-sections false (sections-are ∙ q)
+            pub not-present : p ≡ false → Err Section ≡ sections_in file
+            not-present q = by-sections false (sections-are ∙ q)
 
             module _ (yes : p ≡ true) where
-              pub placed : Placed file (length file - (12 * n + 8)) axes entries.at
+              pub placed : Placed file (length file - (12 * n + 8)) axes at
               placed = record {
                 is = trailer-is;
                 says = ea;
@@ -188,7 +194,7 @@ module _ (file : List ℕ) where
                 size = h.size;
                 found = found;
                 present = λ c l. ltb-true 0 (entry_of file (entries_in file) (suc c)) (every-at (λ c. ltb 0 (entry_of file (entries_in file) (suc c))) 9 (sym present ∙ yes) c l);
-                inside = λ i l. inside_of i (every-at (entry_good file) (entries_in file) (judged ∙ good) i l);
+                inside = λ i l. inside_of i (every-at (entry_good file) (entries_in file) (judged ∙ h.good) i l);
               }
                 where
                   inside_of : (i : ℕ) → entry_good file i ≡ true → back_at file i ≤ trailer file
@@ -196,5 +202,5 @@ module _ (file : List ℕ) where
                       leb-true (back_at file i) (trailer file) (and_l (leb (back_at file i) (trailer file)) (leb (length_at file i) (back_at file i))
                       (and_l (is_inside file i) (is_whole file i) (and_r (is_new file i) (is_inside file i && is_whole file i) (and_r (code_taken file i) (is_new file i && (is_inside file i && is_whole file i)) e))))
 
-              pub all_found : (r : Sections) → r ≡ located file → r ≡ sections_in file
-              all_found r e = e ∙ by-sections true (sections-are ∙ yes)
+              pub all_found : (r : Sections) → r ≡ located file → Ok r ≡ sections_in file
+              all_found r e = ap Ok e ∙ by-sections true (sections-are ∙ yes)

@@ -4,9 +4,9 @@
 ghost use Rattle.std.specs.Prelude.{◌≡◌, true, ◌&&◌, cond, ℕ, suc, ◌+◌, ◌*◌, ◌%◌, ◌≤◌, ◌<◌, leb, ltb, eqb, length, get_or};
 ghost use Rattle.slices.specs.Every.{every};
 ghost use Rattle.tree_file.specs.Trailer.{width_of, axes_in, entries_in, trailer_fits, trailer as trailer_of, code_taken, is_inside, is_whole, sections_good};
-ghost use Rattle.file_sections.specs.Answers.{section_by, Entered, Placed, located, refused_by, sections_in};
+ghost use Rattle.file_sections.specs.Answers.{section_by, Entered, Placed, located, sections_in};
 
-use refusal::{Outcome, Refusal};
+use refusal::Refusal;
 
 // What a code is for: a section whose numbers are so wide; kept for later, and skipped; or no code.
 #[derive(Clone, Copy)]
@@ -16,21 +16,12 @@ pub enum Section {
     Bad,
 }
 
-// How the reading of a trailer ended, the axes, and for codes 1 to 9 in their order where the section starts and how many numbers it holds.
-// 0 throughout after a refusal.
+// The axes of a file, and for codes 1 to 9 in their order where the section starts and how many numbers it holds.
 #[derive(Clone, Copy)]
 pub struct Sections {
-    pub outcome: Outcome,
     pub axes: usize,
     pub starts: [usize; 9],
     pub counts: [usize; 9],
-}
-
-// Whether all entries are good, and then for each code the number of its entry, counted from 1; 0 where there is none.
-#[derive(Clone, Copy)]
-pub struct Entries {
-    pub good: bool,
-    pub at: [usize; 32],
 }
 
 // What a code is for.
@@ -86,25 +77,23 @@ fn entry_right(file: &[u8], trailer: usize, i: usize) -> bool
     }
 }
 
-// The entries of a trailer, one by one.
-fn find_entries(file: &[u8], trailer: usize, n: usize) -> Entries
+// The entries of a trailer, one by one. Where all are good: for each code the number of its entry, counted from 1; 0 where there is none.
+fn find_entries(file: &[u8], trailer: usize, n: usize) -> Option<[usize; 32]>
     requires { (trailer ≡ trailer_of file.now) × (trailer + 12 * n + 8 ≤ length file.now) }
     ensures { Entered file.now n result }
 {
     let mut at = [0usize; 32];
-    let mut i: usize = 0;
-    while i < n {
+    for i in 0..n {
         if !entry_right(file, trailer, i) {
-            return Entries { good: false, at };
+            return None;
         }
         let code = survey::u32_at(file, trailer + 12 * i) as usize;
         if at[code] != 0 {
-            return Entries { good: false, at };
+            return None;
         }
         at[code] = i + 1;
-        i += 1;
     }
-    Entries { good: true, at }
+    Some(at)
 }
 
 // Whether none of the codes 1 to 9 is missing.
@@ -112,12 +101,10 @@ fn all_present(at: [usize; 32]) -> bool
     requires { length at ≡ 32 }
     ensures { result ≡ every 9 (λ c. ltb 0 (get_or at (suc c) 0)) }
 {
-    let mut c: usize = 0;
-    while c < 9 {
+    for c in 0..9 {
         if at[c + 1] == 0 {
             return false;
         }
-        c += 1;
     }
     true
 }
@@ -145,58 +132,42 @@ fn locate(file: &[u8], trailer: usize, axes: usize, at: [usize; 32]) -> Sections
 {
     let mut starts = [0usize; 9];
     let mut counts = [0usize; 9];
-    let mut c: usize = 0;
-    while c < 9 {
+    for c in 0..9 {
         let entry = trailer + 12 * (at[c + 1] - 1);
         let back = survey::u32_at(file, entry + 4) as usize;
         let bytes = survey::u32_at(file, entry + 8) as usize;
         starts[c] = trailer - back;
         counts[c] = bytes / width_of(c + 1);
-        c += 1;
     }
     Sections {
-        outcome: Outcome::Done,
         axes,
         starts,
         counts,
     }
 }
 
-fn refused(refusal: Refusal) -> Sections
-    ensures { result ≡ refused_by refusal }
-{
-    Sections {
-        outcome: Outcome::Refused(refusal),
-        axes: 0,
-        starts: [0usize; 9],
-        counts: [0usize; 9],
-    }
-}
-
 // Where the sections of a tree file stand, or why it is refused.
-pub fn find_sections(file: &[u8]) -> Sections
+pub fn find_sections(file: &[u8]) -> Result<Sections, Refusal>
     ensures { result ≡ sections_in file.now }
 {
     let n = file.len();
     if n < 8 {
-        return refused(Refusal::Section);
+        return Err(Refusal::Section);
     }
     let entries = survey::u32_at(file, n - 4);
     if 12 * entries + 8 > n as u64 {
-        return refused(Refusal::Section);
+        return Err(Refusal::Section);
     }
     let axes = survey::u32_at(file, n - 8) as usize;
     if !axes::axes_known(axes) {
-        return refused(Refusal::Dims);
+        return Err(Refusal::Dims);
     }
     let trailer = n - (12 * entries + 8) as usize;
-    let found = find_entries(file, trailer, entries as usize);
-    if !found.good {
-        return refused(Refusal::Section);
-    }
-    let at = found.at;
+    let Some(at) = find_entries(file, trailer, entries as usize) else {
+        return Err(Refusal::Section);
+    };
     if !all_present(at) {
-        return refused(Refusal::Section);
+        return Err(Refusal::Section);
     }
-    locate(file, trailer, axes, at)
+    Ok(locate(file, trailer, axes, at))
 }

@@ -21,8 +21,7 @@ fn rows_right(file: &[u8], s: Sections) -> bool
     let axes = s.axes;
     let n = count_of(file, s, 1);
     let mut run = 0;
-    let mut i = 1;
-    while i < n {
+    for i in 1..n {
         let p = key_of(file, s, 1, i - 1);
         let k = key_of(file, s, 1, i);
         if !tree::may_follow(axes, p, k) {
@@ -41,7 +40,6 @@ fn rows_right(file: &[u8], s: Sections) -> bool
             return false;
         }
         run += count;
-        i += 1;
     }
     true
 }
@@ -52,9 +50,8 @@ fn totals_right(file: &[u8], s: Sections) -> bool
     ensures { result ≡ well_formed s.axes (column_in file.now 1) (column_in file.now 2) (column_in file.now 3) (column_in file.now 4) }
 {
     let mut waiting = [0usize; 18];
-    let mut i = count_of(file, s, 1);
-    while 0 < i {
-        i -= 1;
+    let n = count_of(file, s, 1);
+    for i in (0..n).rev() {
         let k = key_of(file, s, 1, i);
         let own = number_of(file, s, 2, i);
         let total = number_of(file, s, 4, i);

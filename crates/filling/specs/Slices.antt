@@ -1,8 +1,11 @@
 -- The slices lent to a build: as the growth leaves them, and at the build's end.
-use Rattle.std.specs.Prelude.{◌≡◌, List, ◌++◌, map, ℕ, ◌-◌, ◌%◌, ◌≤◌, length, take, replicate}
+use Rattle.std.specs.Prelude.{◌≡◌, List, ◌++◌, map, ℕ, ◌-◌, ◌%◌, ◌≤◌, length, take, replicate, Ok, Err}
 use Rattle.slices.specs.Lists.{sum}
 use Rattle.tree.specs.Order.{depth_of}
+use Rattle.refusal.specs.Outcome.{Answer}
+use Rattle.growth.specs.declared.Grown.{Grown}
 use Rattle.growth.specs.Columns.{begin_column}
+use Rattle.filling.specs.declared.Started.{Started}
 use Rattle.grow.specs.Rows.{own_marked, sum_marked}
 
 -- a word's last 20 bits are its source's index
@@ -32,8 +35,7 @@ pub record RowsPut (rows n : ℕ) (s : Slices) : Type 0 where
   pub few : sum (map own_marked (take n s.total)) ≤ 1048576
 
 -- what was put is spread out, with 0 in the unused places
-pub record Filled (rows n depth : ℕ) (s t : Slices) : Type 0 where
-  pub deep : depth ≡ depth_of (take n s.key)
+pub record Filled (rows n : ℕ) (s t : Slices) : Type 0 where
   pub worked : t.work ≡ replicate (length s.work) 0
   pub ordered : t.order ≡ indices (take rows s.work) ++ replicate (length s.order - rows) 0
   pub keyed : t.key ≡ take n s.key ++ replicate (length s.key - n) 0
@@ -49,3 +51,13 @@ pub record Cleared (s t : Slices) : Type 0 where
   pub owned : t.own ≡ replicate (length s.own) 0
   pub begun : t.begin ≡ replicate (length s.begin) 0
   pub summed : t.total ≡ replicate (length s.total) 0
+
+-- the number of nodes that are put and their depth, or the refusal
+abbrev pub grown_of : Answer Started → List ℕ → Answer Grown
+grown_of (Ok p) key = Ok (record { nodes = p.nodes; depth = depth_of (take p.nodes key) })
+grown_of (Err r) key = Err r
+
+-- the slices at the build's end
+abbrev pub Ended : Answer Started → Slices → Slices → Type 0
+Ended (Ok p) s t = Filled p.rows p.nodes s t
+Ended (Err r) s t = Cleared s t

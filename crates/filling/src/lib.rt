@@ -1,12 +1,22 @@
 #![tactic(auto)]
 
 // The slices lent to a build, at its end: filled from the words and the marks of the growth, or cleared.
-ghost use Rattle.std.specs.Prelude.{◌≡◌, true, false, ◌++◌, map, ◌-◌, ◌≤◌, length, take, replicate};
+ghost use Rattle.std.specs.Prelude.{◌≡◌, ◌++◌, map, ◌-◌, ◌≤◌, length, take, replicate, IfOk};
 ghost use Rattle.slices.specs.Lists.{sum};
 ghost use Rattle.tree.specs.Order.{depth_of};
 ghost use Rattle.growth.specs.Columns.{begin_column};
 ghost use Rattle.grow.specs.Rows.{own_marked, sum_marked};
-ghost use Rattle.filling.specs.Slices.{indices as indices_of, slices, RowsPut, Filled, Cleared};
+ghost use Rattle.filling.specs.Slices.{indices as indices_of, slices, RowsPut, grown_of, Ended};
+
+use growth::Grown;
+use refusal::Refusal;
+
+// How many sources and nodes are put: the sources' words stand in the work, and the nodes' marks in the column of the totals.
+#[derive(Clone, Copy)]
+pub struct Started {
+    pub rows: usize,
+    pub nodes: usize,
+}
 
 // Writes the order column from the words in the work, clears what is unused, and answers the depth of the first n nodes.
 fn finish(rows: usize, n: usize, work: &mut [u64], indices: &mut [usize], key: &mut [u64]) -> u64
@@ -48,41 +58,34 @@ pub fn clear_keys(work: &mut [u64], indices: &mut [usize], key: &mut [u64])
     slices::clear(key);
 }
 
-// Clears the columns beside the keys.
-pub fn clear_columns(own: &mut [usize], begin: &mut [usize], total: &mut [usize])
-    ensures own_after { own.new ≡ replicate (length own.old) 0 }
-    ensures begin_after { begin.new ≡ replicate (length begin.old) 0 }
-    ensures total_after { total.new ≡ replicate (length total.old) 0 }
-{
-    slices::clear_usize(own);
-    slices::clear_usize(begin);
-    slices::clear_usize(total);
-}
-
-// Fills the slices where all nodes are put, the first n rows, and else clears them. Answers the depth of the nodes, or 0.
+// Fills the slices where all nodes are put, and else clears them. Answers the number of nodes and their depth, or the refusal.
 pub fn fill_or_clear(
-    put: bool,
-    rows: usize,
-    n: usize,
+    started: Result<Started, Refusal>,
     work: &mut [u64],
     indices: &mut [usize],
     key: &mut [u64],
     own: &mut [usize],
     begin: &mut [usize],
     total: &mut [usize],
-) -> u64
-    requires { put ≡ true → RowsPut rows n (slices work.old indices.old key.old own.old begin.old total.old) }
-    ensures filled { put ≡ true → Filled rows n result (slices work.old indices.old key.old own.old begin.old total.old)
-        (slices work.new indices.new key.new own.new begin.new total.new) }
-    ensures cleared { put ≡ false → Cleared (slices work.old indices.old key.old own.old begin.old total.old)
+) -> Result<Grown, Refusal>
+    requires { IfOk started (λ s. RowsPut s.rows s.nodes (slices work.old indices.old key.old own.old begin.old total.old)) }
+    ensures value { result ≡ grown_of started key.old }
+    ensures slices_after { Ended started (slices work.old indices.old key.old own.old begin.old total.old)
         (slices work.new indices.new key.new own.new begin.new total.new) }
 {
-    if !put {
-        clear_keys(work, indices, key);
-        clear_columns(own, begin, total);
-        return 0;
+    match started {
+        Ok(s) => {
+            let depth = finish(s.rows, s.nodes, work, indices, key);
+            fill_columns(s.nodes, own, begin, total);
+            Ok(Grown {
+                nodes: s.nodes,
+                depth,
+            })
+        }
+        Err(refusal) => {
+            clear_keys(work, indices, key);
+            tree::clear_columns(own, begin, total);
+            Err(refusal)
+        }
     }
-    let depth = finish(rows, n, work, indices, key);
-    fill_columns(n, own, begin, total);
-    depth
 }

@@ -18,9 +18,8 @@ use Rattle.tree.proofs.Ranges.{distinct}
 use Rattle.tree.proofs.Rules.{ascend-facts}
 use Rattle.tree.specs.WellFormed.{keys_ascend}
 use Rattle.tree.specs.Finding.{FoundNode}
-use Rattle.tree.specs.declared.Found.{Found}
-use Rattle.tree.specs.declared.Found.TheVariants.{At, Nothing}
 use Rattle.first_rows.specs.First.{Fillable}
+use Rattle.std.specs.Prelude.{None, Option, Some}
 
 pub record From (key rows column out : List ℕ) (i : ℕ) : Type 0 where
   pub within : i ≤ length rows
@@ -109,9 +108,9 @@ from_all key rows column out i s h =
     (λ q l. s.filled q (omega (arith, s.placed)) ∙ ap (λ m. own_of (drop m rows) (drop m column) (get_or key q 0)) z ∙ sym (get_d_map (own_of rows column) key q (omega (arith, s.placed))))
 
 -- what a search found
-module _ (d : ℕ) (key : List ℕ) (k : ℕ) (found : Found) (h : FoundNode d key k found) where
-  pub found_at : (i : ℕ) → found ≡ At i → (i < length key) × (get_or key i 0 ≡ k)
+module _ (d : ℕ) (key : List ℕ) (k : ℕ) (found : Option ℕ) (h : FoundNode d key k found) where
+  pub found_at : (i : ℕ) → found ≡ Some i → (i < length key) × (get_or key i 0 ≡ k)
   found_at i e = subst (FoundNode d key k) e h
 
-  pub found_none : found ≡ Nothing → keys_ascend d key ≡ true → stored key k ≡ false
+  pub found_none : found ≡ None → keys_ascend d key ≡ true → stored key k ≡ false
   found_none e = subst (FoundNode d key k) e h

@@ -6,23 +6,15 @@ ghost use Rattle.salvaged.specs.Columns.{first_of};
 ghost use Rattle.slices.specs.Lists.{range};
 ghost use Rattle.first_rows.specs.First.{Fillable, Numberable};
 
-use tree::Found;
-
 // For each node what the column has in the first row with its key, 0 if no row has it: from the last row back, so that the first stays.
 pub fn take_first(axes: usize, key: &[u64], rows: &[u64], column: &[usize], out: &mut [usize])
     requires { Fillable axes key.now rows.now column.now out.old }
     ensures { out.new ≡ map (first_of rows.now column.now) key.now }
 {
     slices::clear_usize(out);
-    let mut i = rows.len();
-    while 0 < i {
-        i -= 1;
-        let found = tree::find_node(axes, key, rows[i]);
-        match found {
-            Found::At(node) => {
-                out[node] = column[i];
-            }
-            Found::Nothing => {}
+    for i in (0..rows.len()).rev() {
+        if let Some(node) = tree::find_node(axes, key, rows[i]) {
+            out[node] = column[i];
         }
     }
 }
@@ -33,16 +25,9 @@ pub fn number_first(axes: usize, key: &[u64], rows: &[u64], out: &mut [usize])
     ensures { out.new ≡ map (first_of rows.now (range 1 (length rows.now))) key.now }
 {
     slices::clear_usize(out);
-    let mut i = rows.len();
-    while 0 < i {
-        let number = i;
-        i -= 1;
-        let found = tree::find_node(axes, key, rows[i]);
-        match found {
-            Found::At(node) => {
-                out[node] = number;
-            }
-            Found::Nothing => {}
+    for i in (0..rows.len()).rev() {
+        if let Some(node) = tree::find_node(axes, key, rows[i]) {
+            out[node] = i + 1;
         }
     }
 }

@@ -25,13 +25,9 @@ pub fn is_full(axes: usize, key: &[u64]) -> bool
     ensures { Tells (Full axes key.now) result }
 {
     let mut split: usize = 0;
-    let mut node: usize = 0;
-    while node < key.len() {
+    for node in 0..key.len() {
         if has_children(axes, key, node) {
             split += 1;
-            node += 1;
-        } else {
-            node += 1;
         }
     }
     let fan = axes::children_of(axes);

@@ -34,14 +34,12 @@ pub fn gap_level(axes: usize, key: &[u64], code: u64) -> u64
     requires { TreeKeys axes key.now × (code < 2 ^ (axes * 16)) × (code < 281474976710656) }
     ensures { GapLevel axes key.now code result }
 {
-    let mut level: u64 = 1;
-    while level < 16 {
+    for level in 1..16 {
         let cell = cell_at(axes, level, code);
         let node = tree::first_from(axes, key, cell);
         if !is_inner(axes, key, node, cell) {
             return level;
         }
-        level += 1;
     }
     16
 }

@@ -2,7 +2,7 @@
 use mathlib.Core.Path.{◌≡◌, refl, sym, ap, ◌∙◌, subst}
 use mathlib.Core.List.{List}
 use mathlib.Core.Logic.{◌⊎◌, inl, inr}
-use Prim.Native.Nat.{ℕ, zero, suc, ◌+◌, ◌-◌, ◌≤◌, ◌<◌}
+use Prim.Native.Nat.{ℕ, suc, ◌+◌, ◌-◌, ◌≤◌, ◌<◌}
 use native.Mathlib.Omega.{arith}
 use native.Mathlib.Nat.{eq-or-lt_of_le}
 use native.Mathlib.Numerals.{add-one}
@@ -12,7 +12,7 @@ use Rattle.slices.specs.Lists.{Mem}
 use Rattle.morton.specs.Keys.{level_of, ValidKey, ancestors}
 use Rattle.morton.proofs.Cells.{at_self, parent-at, level_begins}
 use Rattle.tree.specs.Nodes.{cell_at}
-use Rattle.gathering.specs.Links.{Linked, Below, Absent, Walkable, Roomy, Stepped, PutAll}
+use Rattle.gathering.specs.Links.{Linked, Below, Walkable, Roomy, Stepped, PutAll}
 use Rattle.gathering.proofs.Cells.{root-cell, cell-up}
 
 -- n nodes, of which those from `nodes` on were put on the way; node p is the cell of level l

@@ -1,8 +1,8 @@
 -- The walk along a node's children, and one node more.
 use mathlib.Core.Path.{◌≡◌, refl, sym, ap, ◌∙◌, subst}
 use mathlib.Core.List.{List}
-use mathlib.Core.Logic.{◌⊎◌, inl, inr, ◌≢◌}
-use Prim.Native.Nat.{ℕ, zero, suc, ◌+◌, ◌-◌, ◌≤◌, ◌<◌}
+use mathlib.Core.Logic.{◌⊎◌, inl, inr}
+use Prim.Native.Nat.{ℕ, zero, suc, ◌≤◌, ◌<◌}
 use native.Mathlib.Omega.{arith}
 use native.Mathlib.Nat.{eq-or-lt_of_le}
 use native.Mathlib.Decide.{dec_lt}
@@ -10,7 +10,7 @@ use lib.ListN.{length, get_or, set, length-set}
 use lib.Seq.{get_or-set_same, get_or-set_other}
 use Rattle.morton.specs.Keys.{level_of, parent}
 use Rattle.morton.proofs.Cells.{level-parent}
-use Rattle.gathering.specs.Links.{Linked, Below, Absent, Walkable, Searched, OneMore, Stepped}
+use Rattle.gathering.specs.Links.{Linked, Below, Absent, Searched, OneMore, Stepped}
 
 -- at node j of the walk: it is a child of p, and k is not past it
 pub record At (d n : ℕ) (key : List ℕ) (p k j : ℕ) : Type 0 where

@@ -1,5 +1,5 @@
 -- Keys gathered one by one, none twice, with links from a node to its children.
-use Rattle.std.specs.Prelude.{◌≡◌, List, ◌⊎◌, ℕ, suc, ◌+◌, ◌≤◌, ◌<◌, length, get_or, take}
+use Rattle.std.specs.Prelude.{◌≡◌, List, ℕ, suc, ◌≤◌, ◌<◌, length, get_or}
 use Rattle.slices.specs.Lists.{Mem}
 use Rattle.morton.specs.Keys.{level_of, parent, ancestors}
 

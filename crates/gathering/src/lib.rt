@@ -81,8 +81,7 @@ pub fn put_key(
     let level = k % 32768;
     let mut n = nodes;
     let mut p = 0;
-    let mut l = 0;
-    while l < level {
+    for l in 0..level {
         let c = cell_of_level(axes, l + 1, k);
         p = step_down(key, child, next, room, n, p, c);
         if p == n {
@@ -90,9 +89,6 @@ pub fn put_key(
                 return room + 1;
             }
             n += 1;
-            l += 1;
-        } else {
-            l += 1;
         }
     }
     n

@@ -10,11 +10,11 @@ use Rattle.slices.specs.Lists.{range}
 use Rattle.morton.specs.Anchors.{anchor}
 use Rattle.space.specs.declared.Frame.{Frame}
 use Rattle.space.specs.Cells.{frame_of}
+use Rattle.std.specs.Prelude.{None}
 use Rattle.grids.specs.declared.Grid.{Grid}
-use Rattle.grids.specs.declared.Exit.TheVariants.{Stays, Leaves}
 use Rattle.grids.specs.Grids.{coordinate, product, index_on, grid_known}
 use Rattle.grids.specs.Ranges.{first_from, grid_count}
-use Rattle.grids.specs.Exits.{first_of, last_of, grid_exit}
+use Rattle.grids.specs.Exits.{first_of, last_of, leaves, grid_exit}
 
 abbrev four : Float
 four = fin false 1 (pos 2)
@@ -33,22 +33,22 @@ abbrev one : Float
 one = fin false 1 (pos 0)
 
 -- eight points fit and the ninth does not
-pub along : (grid_exit (frame 1) (grid nought one 8 0) ≡ Stays) × (grid_exit (frame 1) (grid nought one 9 0) ≡ Leaves 8 0)
+pub along : (grid_exit (frame 1) (grid nought one 8 0) ≡ None) × (grid_exit (frame 1) (grid nought one 9 0) ≡ leaves 8 0)
 unfolding first_from first_of last_of product add sub mul div of_int
 along = (refl, refl)
 
 -- of two axes the last leaves first, unless it stays
-pub across : (grid_exit (frame 2) (grid nought one 9 9) ≡ Leaves 8 1) × (grid_exit (frame 2) (grid nought one 9 2) ≡ Leaves 16 0)
+pub across : (grid_exit (frame 2) (grid nought one 9 9) ≡ leaves 8 1) × (grid_exit (frame 2) (grid nought one 9 2) ≡ leaves 16 0)
 unfolding first_from first_of last_of product add sub mul div of_int
 across = (refl, refl)
 
 -- origins 8 and -1
-pub at_once : (grid_exit (frame 1) (grid (fin false 1 (pos 3)) one 2 0) ≡ Leaves 0 0) × (grid_exit (frame 2) (grid (fin true 1 (pos 0)) one 2 2) ≡ Leaves 0 0)
+pub at_once : (grid_exit (frame 1) (grid (fin false 1 (pos 3)) one 2 0) ≡ leaves 0 0) × (grid_exit (frame 2) (grid (fin true 1 (pos 0)) one 2 2) ≡ leaves 0 0)
 unfolding first_from first_of last_of product add sub mul div of_int
 at_once = (refl, refl)
 
 -- a spacing that overflows at the second index, and the smallest spacing, which leaves all points in one cell
-pub extremes : (grid_exit (frame 1) (grid nought (of_bits binary64 0x7fef_ffff_ffff_ffff) 3 0) ≡ Leaves 1 0) × (grid_count (frame 1) (grid one (of_bits binary64 1) 5 0) 16 8192 ≡ 5)
+pub extremes : (grid_exit (frame 1) (grid nought (of_bits binary64 0x7fef_ffff_ffff_ffff) 3 0) ≡ leaves 1 0) × (grid_count (frame 1) (grid one (of_bits binary64 1) 5 0) 16 8192 ≡ 5)
 unfolding first_from first_of last_of product anchor add sub mul div of_int of_bits
 extremes = (refl, refl)
 

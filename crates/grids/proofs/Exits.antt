@@ -13,23 +13,21 @@ use Rattle.space.specs.declared.Frame.{Frame}
 use Rattle.space.specs.Cells.{cell16, is_at, inside}
 use Rattle.space.specs.Rows.{inside_rows}
 use Rattle.grids.specs.declared.Grid.{Grid}
-use Rattle.grids.specs.declared.Found.{Found}
-use Rattle.grids.specs.declared.Found.TheVariants.{At as at, Nowhere as nowhere}
 use Rattle.grids.specs.declared.Exit.{Exit}
-use Rattle.grids.specs.declared.Exit.TheVariants.{Stays as stays, Leaves as leaves}
 use Rattle.grids.specs.Grids.{shape_on, product, points_of, stride_on, index_on, listed}
 use Rattle.grids.specs.Ranges.{first_from}
-use Rattle.grids.specs.Exits.{starts_out, ends_out, or_else, first_of, last_of, exit_by, grid_exit}
+use Rattle.grids.specs.Exits.{starts_out, ends_out, or_else, first_of, last_of, exit_by, leaves, grid_exit}
 use Rattle.grids.proofs.Products.{product-pos, stride-pos, later}
 use Rattle.grids.proofs.Coordinates.{Axis, Framed, before, from}
 use Rattle.grids.proofs.Halving.{first-le}
 use Rattle.grids.proofs.Listing.{point, step-cell, step-outside, inside-axis, axes-inside, first-outside}
+use Rattle.std.specs.Prelude.{None, Option, Some}
 
 -- ---- the first and the last number that pass
-at_same : (i j : ℕ) → at i ≡ at j → i ≡ j
+at_same : (i j : ℕ) → Some i ≡ Some j → i ≡ j
 at_same i j e = cc
 
-not_found : (i : ℕ) → nowhere ≡ at i → ⊥
+not_found : (i : ℕ) → None ≡ Some i → ⊥
 not_found i e = let z : ◌≡◌ {A = ℕ} 0 1 = cc in omega arith
 
 pub record First (p : ℕ → Bool) (n i : ℕ) : Type 0 where
@@ -44,53 +42,53 @@ last-or-less j n h = go (lt-or-le j n)
     go (inl l) = inl l
     go (inr l) = inr (omega arith)
 
-first-none : (p : ℕ → Bool) (n : ℕ) → first_of p n ≡ nowhere → (j : ℕ) → j < n → p j ≡ false
+first-none : (p : ℕ → Bool) (n : ℕ) → first_of p n ≡ None → (j : ℕ) → j < n → p j ≡ false
 unfolding first_of
 first-none p zero e j h = absurd (omega arith)
 first-none p (suc n) e j h = go (first_of p n) refl (p n) refl e (last-or-less j n h) (first-none p n)
   where
-    go : (y : Found) → first_of p n ≡ y → (t : Bool) → p n ≡ t → or_else y (cond t (at n) nowhere) ≡ nowhere → (j < n) ⊎ (j ≡ n) → (first_of p n ≡ nowhere → (j : ℕ) → j < n → p j ≡ false) → p j ≡ false
-    go (at i) q t r e l more = absurd (not_found i (sym e))
-    go nowhere q true r e l more = absurd (not_found n (sym e))
-    go nowhere q false r e (inl l) more = more q j l
-    go nowhere q false r e (inr l) more = ap p l ∙ r
+    go : (y : Option ℕ) → first_of p n ≡ y → (t : Bool) → p n ≡ t → or_else y (cond t (Some n) None) ≡ None → (j < n) ⊎ (j ≡ n) → (first_of p n ≡ None → (j : ℕ) → j < n → p j ≡ false) → p j ≡ false
+    go (Some i) q t r e l more = absurd (not_found i (sym e))
+    go None q true r e l more = absurd (not_found n (sym e))
+    go None q false r e (inl l) more = more q j l
+    go None q false r e (inr l) more = ap p l ∙ r
 
-first-at : (p : ℕ → Bool) (n i : ℕ) → first_of p n ≡ at i → First p n i
+first-at : (p : ℕ → Bool) (n i : ℕ) → first_of p n ≡ Some i → First p n i
 unfolding first_of
 first-at p zero i e = absurd (not_found i e)
 first-at p (suc n) i e = go (first_of p n) refl (p n) refl e (first-at p n)
   where
-    go : (y : Found) → first_of p n ≡ y → (t : Bool) → p n ≡ t → or_else y (cond t (at n) nowhere) ≡ at i → ((k : ℕ) → first_of p n ≡ at k → First p n k) → First p (suc n) i
-    go (at k) q t r e more =
+    go : (y : Option ℕ) → first_of p n ≡ y → (t : Bool) → p n ≡ t → or_else y (cond t (Some n) None) ≡ Some i → ((k : ℕ) → first_of p n ≡ Some k → First p n k) → First p (suc n) i
+    go (Some k) q t r e more =
         let f = more k q in
         let s : k ≡ i = at_same k i e in
         subst (λ (j : ℕ). First p (suc n) j) s (record { within = omega (arith, f.within); passes = f.passes; rest = f.rest })
-    go nowhere q true r e more =
+    go None q true r e more =
         let s : n ≡ i = at_same n i e in
         subst (λ (j : ℕ). First p (suc n) j) s (record { within = omega arith; passes = r; rest = λ j l. first-none p n q j l })
-    go nowhere q false r e more = absurd (not_found i e)
+    go None q false r e more = absurd (not_found i e)
 
 pub record Last (p : ℕ → Bool) (n i : ℕ) : Type 0 where
   pub within : i < n
   pub passes : p i ≡ true
   pub rest : (j : ℕ) → i < j → j < n → p j ≡ false
 
-last_none : (p : ℕ → Bool) (n : ℕ) → last_of p n ≡ nowhere → (j : ℕ) → j < n → p j ≡ false
+last_none : (p : ℕ → Bool) (n : ℕ) → last_of p n ≡ None → (j : ℕ) → j < n → p j ≡ false
 unfolding last_of
 last_none p zero e j h = absurd (omega arith)
 last_none p (suc n) e j h = go (p n) refl e (last-or-less j n h) (last_none p n)
   where
-    go : (t : Bool) → p n ≡ t → cond t (at n) (last_of p n) ≡ nowhere → (j < n) ⊎ (j ≡ n) → (last_of p n ≡ nowhere → (j : ℕ) → j < n → p j ≡ false) → p j ≡ false
+    go : (t : Bool) → p n ≡ t → cond t (Some n) (last_of p n) ≡ None → (j < n) ⊎ (j ≡ n) → (last_of p n ≡ None → (j : ℕ) → j < n → p j ≡ false) → p j ≡ false
     go true r e l more = absurd (not_found n (sym e))
     go false r e (inl l) more = more e j l
     go false r e (inr l) more = ap p l ∙ r
 
-last-at : (p : ℕ → Bool) (n i : ℕ) → last_of p n ≡ at i → Last p n i
+last-at : (p : ℕ → Bool) (n i : ℕ) → last_of p n ≡ Some i → Last p n i
 unfolding last_of
 last-at p zero i e = absurd (not_found i e)
 last-at p (suc n) i e = go (p n) refl e (last-at p n i)
   where
-    go : (t : Bool) → p n ≡ t → cond t (at n) (last_of p n) ≡ at i → (last_of p n ≡ at i → Last p n i) → Last p (suc n) i
+    go : (t : Bool) → p n ≡ t → cond t (Some n) (last_of p n) ≡ Some i → (last_of p n ≡ Some i → Last p n i) → Last p (suc n) i
     go true r e more =
         let s : n ≡ i = at_same n i e in
         subst (λ (j : ℕ). Last p (suc n) j) s (record { within = omega arith; passes = r; rest = λ j l m. absurd (omega arith) })
@@ -110,9 +108,9 @@ pub record Leaves (f : Frame) (g : Grid) (r a : ℕ) : Type 0 where
   pub fails : is_at (cell16 f (drop (r * f.axes) (listed f.axes g)) a) ≡ false
   pub rest : (j : ℕ) → j < a → is_at (cell16 f (drop (r * f.axes) (listed f.axes g)) j) ≡ true
 
-abbrev pub Exits : Frame → Grid → Exit → Type 0
-Exits f g stays = inside_rows (points_of f.axes g) f (listed f.axes g) ≡ points_of f.axes g
-Exits f g (leaves r a) = Leaves f g r a
+abbrev pub Exits : Frame → Grid → Option Exit → Type 0
+Exits f g None = inside_rows (points_of f.axes g) f (listed f.axes g) ≡ points_of f.axes g
+Exits f g (Some x) = Leaves f g x.row x.axis
 
 module _ (f : Frame) (g : Grid) (most : f.axes ≤ 3) (framed : (a : ℕ) → a < f.axes → Framed f a) (known : (a : ℕ) → a < f.axes → Axis g a) where
   abbrev d : ℕ
@@ -265,16 +263,16 @@ module _ (f : Frame) (g : Grid) (most : f.axes ≤ 3) (framed : (a : ℕ) → a 
           through x y z h k = omega arith
 
   -- where no row is outside each axis begins and ends inside
-  pub stays-whole : grid_exit f g ≡ stays → (a : ℕ) → a < d → (first_from f g a 0 ≡ 0) × (first_from f g a 65536 ≡ shape_on g a)
+  pub stays-whole : grid_exit f g ≡ None → (a : ℕ) → a < d → (first_from f g a 0 ≡ 0) × (first_from f g a 65536 ≡ shape_on g a)
   stays-whole e a h = go (first_of (starts_out f g) d) refl (last_of (ends_out f g) d) refl e
     where
-      never : (r b : ℕ) → leaves r b ≡ stays → ⊥
+      never : (r b : ℕ) → leaves r b ≡ None → ⊥
       never r b q = let z : ◌≡◌ {A = ℕ} 0 1 = cc in omega arith
 
-      go : (x : Found) → first_of (starts_out f g) d ≡ x → (y : Found) → last_of (ends_out f g) d ≡ y → exit_by f g x y ≡ stays → (first_from f g a 0 ≡ 0) × (first_from f g a 65536 ≡ shape_on g a)
-      go (at b) p y q e = absurd (never 0 b e)
-      go nowhere p (at b) q e = absurd (never (hi b * stride_on d g b) b e)
-      go nowhere p nowhere q e =
+      go : (x : Option ℕ) → first_of (starts_out f g) d ≡ x → (y : Option ℕ) → last_of (ends_out f g) d ≡ y → exit_by f g x y ≡ None → (first_from f g a 0 ≡ 0) × (first_from f g a 65536 ≡ shape_on g a)
+      go (Some b) p y q e = absurd (never 0 b e)
+      go None p (Some b) q e = absurd (never (hi b * stride_on d g b) b e)
+      go None p None q e =
           let i = starts-in a (first-none (starts_out f g) d p a h) in
           let j = ltb-false (hi a) (s a) (last_none (ends_out f g) d q a h) in
           (omega (arith, i.0), omega (arith, j, first-le f g a 65536))
@@ -282,7 +280,7 @@ module _ (f : Frame) (g : Grid) (most : f.axes ≤ 3) (framed : (a : ℕ) → a 
   pub exits : Exits f g (grid_exit f g)
   exits = go (first_of (starts_out f g) d) refl (last_of (ends_out f g) d) refl
     where
-      go : (x : Found) → first_of (starts_out f g) d ≡ x → (y : Found) → last_of (ends_out f g) d ≡ y → Exits f g (exit_by f g x y)
-      go (at a) p y q = leaves-first a (first-at (starts_out f g) d a p)
-      go nowhere p (at a) q = leaves_later (first-none (starts_out f g) d p) a (last-at (ends_out f g) d a q)
-      go nowhere p nowhere q = all_stay (first-none (starts_out f g) d p) (last_none (ends_out f g) d q)
+      go : (x : Option ℕ) → first_of (starts_out f g) d ≡ x → (y : Option ℕ) → last_of (ends_out f g) d ≡ y → Exits f g (exit_by f g x y)
+      go (Some a) p y q = leaves-first a (first-at (starts_out f g) d a p)
+      go None p (Some a) q = leaves_later (first-none (starts_out f g) d p) a (last-at (ends_out f g) d a q)
+      go None p None q = all_stay (first-none (starts_out f g) d p) (last_none (ends_out f g) d q)

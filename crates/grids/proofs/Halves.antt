@@ -14,7 +14,6 @@ use Rattle.morton.specs.Anchors.{anchor}
 use Rattle.morton.proofs.Cells.{key-level, key-code}
 use Rattle.refine.specs.Counts.{targets_in}
 use Rattle.space.specs.declared.Frame.{Frame}
-use Rattle.space.specs.declared.Rows.TheVariants.{Inside}
 use Rattle.space.specs.Rows.{first_outside}
 use Rattle.grids.specs.declared.Grid.{Grid}
 use Rattle.grids.specs.declared.spans.Span.{Span}
@@ -27,13 +26,14 @@ use Rattle.grids.proofs.Sized.{shapes}
 use Rattle.grids.proofs.Middles.{half-wide}
 use Rattle.grids.proofs.Ranged.{ends-rise, range-le, products-le}
 use Rattle.grids.proofs.Totals.{grid-counted, ends-of-whole}
+use Rattle.space.specs.Inside.{all_inside}
 
 -- ---- the root has all indices
 root-anchor : (f : Frame) (a : ℕ) → anchor_on f 0 a ≡ 0
 unfolding anchor
 root-anchor f a = refl
 
-pub whole-spanned : (f : Frame) (g : Grid) → Fitting f g → first_outside (points_of f.axes g) f (listed f.axes g) ≡ Inside → (s : Span) → Whole g s → Spanned f g 0 s
+pub whole-spanned : (f : Frame) (g : Grid) → Fitting f g → first_outside (points_of f.axes g) f (listed f.axes g) ≡ all_inside → (s : Span) → Whole g s → Spanned f g 0 s
 whole-spanned f g F e s w = record {
   each = λ a h.
       let i = ends-of-whole f g F e a h in
@@ -132,7 +132,7 @@ module _ (f : Frame) (g : Grid) (F : Fitting f g) (k : ℕ) (s : Span) (S : Span
         (le_trans (earlier (shape_on g) f.axes (shapes f g F) n h) F.few);
   }
 
-  pub span-targets : first_outside (points_of f.axes g) f (listed f.axes g) ≡ Inside → ValidKey f.axes k → product (length_on s) 0 f.axes ≡ targets_in f.axes (grid_codes f g) k
+  pub span-targets : first_outside (points_of f.axes g) f (listed f.axes g) ≡ all_inside → ValidKey f.axes k → product (length_on s) 0 f.axes ≡ targets_in f.axes (grid_codes f g) k
   span-targets e v =
       product-same (length_on s) (λ a. range_in f g a (level_of k) (anchor_on f k a)) 0 f.axes (λ a h. ap₂ (λ (m n : ℕ). m - n) (ends_at a h) (starts_at a h))
       ∙ sym (grid-counted f g F e (level_of k) (code_of k) v.level v.code)

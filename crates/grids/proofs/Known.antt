@@ -11,10 +11,11 @@ use lib.Ieee.Fits.{up_pos}
 use lib.Ieee.Positive.{positive}
 use lib.ListN.{get_or}
 use borrow.Author.Tests.{ltb-true, ltb-false, lt-ltb, le-ltb, lt-leb, le-leb}
-use Rattle.slices.proofs.Every.{every-fails, every-next, every-none}
+use Rattle.slices.proofs.Every.{every-next, every-none}
 use Rattle.slices.proofs.Tests.{lt-or-le}
 use Rattle.space.specs.Floats.{nought, is_finite}
 use Rattle.space.proofs.Literals.{zero_is}
+use Rattle.space.proofs.Boxes.{every-false}
 use Rattle.grids.specs.declared.Grid.{Grid}
 use Rattle.grids.specs.Grids.{shape_on, axis_known, grid_known}
 
@@ -65,15 +66,15 @@ module _ (g : Grid) (a : ℕ) where
       go false = refl
 
 -- ---- all axes
-module _ (g : Grid) (n m : ℕ) (r : Bool) (e : n ≡ m + 1) (is : r ≡ axis_known g m) where
-  pub known-fails : r ≡ false → false ≡ grid_known n g
+module _ (g : Grid) (m : ℕ) (r : Bool) (is : r ≡ axis_known g m) where
+  pub known-fails : (n : ℕ) → m < n → r ≡ false → false ≡ grid_known n g
   unfolding grid_known
-  known-fails h = sym (every-fails (axis_known g) n m e (sym is ∙ h))
+  known-fails n l h = sym (every-false (axis_known g) n m l (sym is ∙ h))
 
-  pub known_next : r ≡ true → grid_known m g ≡ grid_known n g
+  pub known_next : grid_known m g ≡ true → r ≡ true → grid_known (m + 1) g ≡ true
   unfolding grid_known
-  known_next h = sym (every-next (axis_known g) n m e (sym is ∙ h))
+  known_next before h = every-next (axis_known g) (m + 1) m refl (sym is ∙ h) ∙ before
 
-pub known-none : (g : Grid) (n : ℕ) → n ≡ 0 → true ≡ grid_known n g
+pub known-none : (g : Grid) → grid_known 0 g ≡ true
 unfolding grid_known
-known-none g n e = sym (every-none (axis_known g) n e)
+known-none g = every-none (axis_known g) 0 refl

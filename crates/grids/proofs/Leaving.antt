@@ -8,15 +8,13 @@ use lib.Dec.{eqb}
 use borrow.Author.Tests.{lt-ltb, le-ltb}
 use Rattle.space.specs.declared.Frame.{Frame}
 use Rattle.grids.specs.declared.Grid.{Grid}
-use Rattle.grids.specs.declared.Found.{Found}
-use Rattle.grids.specs.declared.Found.TheVariants.{At, Nowhere}
 use Rattle.grids.specs.declared.Exit.{Exit}
-use Rattle.grids.specs.declared.Exit.TheVariants.{Stays, Leaves}
 use Rattle.grids.specs.Grids.{shape_on, product, stride_on}
 use Rattle.grids.specs.Ranges.{first_from, Fitting}
-use Rattle.grids.specs.Exits.{starts_out, ends_out, or_else, first_of, last_of, exit_by, grid_exit}
+use Rattle.grids.specs.Exits.{starts_out, ends_out, or_else, first_of, last_of, exit_by, leaves, grid_exit}
 use Rattle.grids.proofs.Products.{from-axis, product-none}
 use Rattle.grids.proofs.Sized.{shapes, tail-few}
+use Rattle.std.specs.Prelude.{None, Option, Some}
 
 -- ---- one axis
 module _ (f : Frame) (g : Grid) (a : ℕ) where
@@ -28,24 +26,24 @@ module _ (f : Frame) (g : Grid) (a : ℕ) where
 
 -- ---- the first that passes
 module _ (p : ℕ → Bool) where
-  pub first-start : first_of p 0 ≡ Nowhere
+  pub first-start : first_of p 0 ≡ None
   unfolding first_of
   first-start = refl
 
-  pub first_next : (n m : ℕ) → m ≡ n + 1 → first_of p n ≡ Nowhere → p n ≡ false → first_of p m ≡ Nowhere
+  pub first_next : (n m : ℕ) → m ≡ n + 1 → first_of p n ≡ None → p n ≡ false → first_of p m ≡ None
   unfolding first_of
   first_next n m e h k = let i : n + 1 ≡ suc n = omega arith in ap (first_of p) (e ∙ i) ∙ rw (h, k)
 
-  here : (n : ℕ) → first_of p n ≡ Nowhere → p n ≡ true → first_of p (suc n) ≡ At n
+  here : (n : ℕ) → first_of p n ≡ None → p n ≡ true → first_of p (suc n) ≡ Some n
   unfolding first_of
   here n h k = rw (h, k)
 
-  kept : (n i k : ℕ) → first_of p n ≡ At i → first_of p (n + k) ≡ At i
+  kept : (n i k : ℕ) → first_of p n ≡ Some i → first_of p (n + k) ≡ Some i
   unfolding first_of
   kept n i zero h = ap (first_of p) (native.Mathlib.Nat.add-zero n) ∙ h
-  kept n i (suc k) h = ap (first_of p) (native.Mathlib.Nat.add-suc n k) ∙ ap (λ y. or_else y (cond (p (n + k)) (At (n + k)) Nowhere)) (kept n i k h)
+  kept n i (suc k) h = ap (first_of p) (native.Mathlib.Nat.add-suc n k) ∙ ap (λ y. or_else y (cond (p (n + k)) (Some (n + k)) None)) (kept n i k h)
 
-  pub first_found : (n d : ℕ) → n < d → first_of p n ≡ Nowhere → p n ≡ true → At n ≡ first_of p d
+  pub first_found : (n d : ℕ) → n < d → first_of p n ≡ None → p n ≡ true → Some n ≡ first_of p d
   first_found n d l h k = let e : suc n + (d - suc n) ≡ d = omega arith in sym (ap (first_of p) (sym e) ∙ kept (suc n) n (d - suc n) (here n h k))
 
 -- ---- the last
@@ -60,9 +58,9 @@ module _ (f : Frame) (g : Grid) (F : Fitting f g) where
       let e : f.axes - f.axes ≡ 0 = omega arith in
       record { within = le_of_eq refl; is = sym (ap (product (shape_on g) f.axes) e ∙ product-none (shape_on g) f.axes); same = refl }
 
-  pub seeking-none : (a stride : ℕ) → Seeking f g a stride → a ≤ 0 → Stays ≡ exit_by f g Nowhere (last_of (ends_out f g) f.axes)
+  pub seeking-none : (a stride : ℕ) → Seeking f g a stride → a ≤ 0 → None ≡ exit_by f g None (last_of (ends_out f g) f.axes)
   unfolding last_of
-  seeking-none a stride s h = let e : a ≡ 0 = omega arith in ap (exit_by f g Nowhere) (sym (ap (last_of (ends_out f g)) e) ∙ s.same)
+  seeking-none a stride s h = let e : a ≡ 0 = omega arith in ap (exit_by f g None) (sym (ap (last_of (ends_out f g)) e) ∙ s.same)
 
   module _ (a b stride to : ℕ) (s : Seeking f g a stride) (e : a ≡ b + 1) (T : to ≡ first_from f g b 65536) where
     inside : b < f.axes
@@ -86,11 +84,11 @@ module _ (f : Frame) (g : Grid) (F : Fitting f g) where
         less : (x y : ℕ) → x < y → x ≤ y
         less x y h = omega arith
 
-    pub seeking-found : to < shape_on g b → Leaves (to * stride) b ≡ exit_by f g Nowhere (last_of (ends_out f g) f.axes)
+    pub seeking-found : to < shape_on g b → leaves (to * stride) b ≡ exit_by f g None (last_of (ends_out f g) f.axes)
     unfolding last_of
     seeking-found h =
         let p : ends_out f g b ≡ true = lt-ltb (first_from f g b 65536) (shape_on g b) (subst (λ (n : ℕ). n < shape_on g b) T h) in
-        ap₂ (λ (x y : ℕ). Leaves (x * y) b) T stride-is ∙ ap (λ t. exit_by f g Nowhere (cond t (At b) (last_of (ends_out f g) b))) (sym p) ∙ ap (exit_by f g Nowhere) last-is
+        ap₂ (λ (x y : ℕ). leaves (x * y) b) T stride-is ∙ ap (λ t. exit_by f g None (cond t (Some b) (last_of (ends_out f g) b))) (sym p) ∙ ap (exit_by f g None) last-is
 
     pub seeking-more : shape_on g b ≤ to → Seeking f g b (stride * shape_on g b)
     unfolding last_of
@@ -99,12 +97,12 @@ module _ (f : Frame) (g : Grid) (F : Fitting f g) where
         record {
           within = omega (arith, inside);
           is = ap (λ (n : ℕ). n * shape_on g b) stride-is ∙ mul_comm (stride_on f.axes g b) (shape_on g b) ∙ sym (from-axis (shape_on g) f.axes (shapes f g F) b inside);
-          same = ap (λ t. cond t (At b) (last_of (ends_out f g) b)) (sym p) ∙ last-is;
+          same = ap (λ t. cond t (Some b) (last_of (ends_out f g) b)) (sym p) ∙ last-is;
         }
 
 -- ---- both
-pub exit-first : (f : Frame) (g : Grid) (x : Found) (a : ℕ) → x ≡ first_of (starts_out f g) f.axes → x ≡ At a → Leaves 0 a ≡ grid_exit f g
+pub exit-first : (f : Frame) (g : Grid) (x : Option ℕ) (a : ℕ) → x ≡ first_of (starts_out f g) f.axes → x ≡ Some a → leaves 0 a ≡ grid_exit f g
 exit-first f g x a p q = ap (λ y. exit_by f g y (last_of (ends_out f g) f.axes)) (sym q ∙ p)
 
-pub exit-later : (f : Frame) (g : Grid) (x : Found) (r : Exit) → x ≡ first_of (starts_out f g) f.axes → x ≡ Nowhere → r ≡ exit_by f g Nowhere (last_of (ends_out f g) f.axes) → r ≡ grid_exit f g
+pub exit-later : (f : Frame) (g : Grid) (x : Option ℕ) (r : Option Exit) → x ≡ first_of (starts_out f g) f.axes → x ≡ None → r ≡ exit_by f g None (last_of (ends_out f g) f.axes) → r ≡ grid_exit f g
 exit-later f g x r p q e = e ∙ ap (λ y. exit_by f g y (last_of (ends_out f g) f.axes)) (sym q ∙ p)

@@ -16,7 +16,6 @@ use Rattle.space.specs.declared.Box.{Box}
 use Rattle.space.specs.declared.Frame.{Frame}
 use Rattle.space.specs.declared.Place.TheVariants.{At}
 use Rattle.space.specs.Floats.{floor}
-use Rattle.space.specs.declared.Cell.{Cell}
 use Rattle.space.specs.Cells.{quotient, cell_number, cell16, is_at, number_in, inside}
 use Rattle.space.specs.Rows.{inside_rows, rows_of}
 use Rattle.space.proofs.Points.{cell-past, number_read, at-number, at_none}
@@ -25,6 +24,7 @@ use Rattle.grids.specs.declared.Grid.{Grid}
 use Rattle.grids.specs.Grids.{coordinate, points_of, index_on, row_of, flat, listed}
 use Rattle.grids.specs.Ranges.{step_of, step_on}
 use Rattle.grids.proofs.Steps.{stepped}
+use Rattle.std.specs.Prelude.{Option}
 
 -- ---- a row
 mapped : (f : ℕ → Float) (b d a : ℕ) → a < d → get_or (map f (range b d)) a nan ≡ f (b + a)
@@ -84,7 +84,7 @@ module _ (f : Frame) (g : Grid) (r : ℕ) (R : r < points_of f.axes g) where
   point-cell : (a : ℕ) → a < f.axes → number_in (cell16 f point a) ≡ cell_number 65536 (floor (quotient_on a))
   point-cell a h =
       let d = f.axes in
-      let number : Float → Cell = λ x. cell_number 65536 (floor (quotient x (get_or f.displacement a nan) f.side)) in
+      let number : Float → Option ℕ = λ x. cell_number 65536 (floor (quotient x (get_or f.displacement a nan) f.side)) in
       sym (number_read f (listed d g) (r * d) a (number (get_or (listed d g) (r * d + a) nan)) h refl) ∙ ap number (listed_at a h)
 
   step_is : (a : ℕ) → step_on f g a (index_on f.axes g a r) ≡ step_of (quotient_on a)

@@ -1,6 +1,6 @@
 -- The loops over the axes: the coordinates of a row, the middles of a span, its half and its count.
 use mathlib.Core.Path.{◌≡◌, refl, sym, ap, ap₂, ◌∙◌, subst}
-use mathlib.Core.Bool.{Bool, true, false, cond}
+use mathlib.Core.Bool.{Bool, true, cond}
 use mathlib.Core.List.{List}
 use mathlib.Core.Logic.{◌⊎◌, inl, inr}
 use Prim.Native.Nat.{ℕ, suc, ◌+◌, ◌-◌, ◌*◌, ◌/◌, ◌%◌, ◌^◌, ◌≤◌, ◌<◌}
@@ -9,7 +9,6 @@ use native.Mathlib.Omega.{arith}
 use lib.Dec.{eqb}
 use lib.Ieee.{Float, nan}
 use lib.ListN.{length, get_or, set, length-set}
-use lib.Pow.{shr-shr}
 use lib.Seq.{get_or-set_same, get_or-set_other}
 use borrow.Author.Tests.{eq-eqb, ne_eqb}
 use Rattle.slices.proofs.Tests.{lt-or-le}
@@ -23,7 +22,7 @@ use Rattle.grids.specs.declared.Grid.{Grid}
 use Rattle.grids.specs.declared.spans.Span.{Span}
 use Rattle.grids.specs.Grids.{coordinate, shape_on, product, index_on, grid_known}
 use Rattle.grids.specs.Ranges.{first_from, Searched, Fitting}
-use Rattle.grids.specs.Spans.{from_on, middle_on, to_on, length_on, OnAxis, anchor_on, Spanned, Parted, HalfTaken, Counts}
+use Rattle.grids.specs.Spans.{from_on, to_on, length_on, OnAxis, anchor_on, Spanned, Parted, Counts}
 use Rattle.grids.proofs.Products.{from-axis, product-more, product-none}
 use Rattle.grids.proofs.Sized.{some-points, searched}
 
@@ -134,33 +133,28 @@ module _ (f : Frame) (g : Grid) (k : ℕ) (most : f.axes ≤ 3) where
 abbrev lower_or : ℕ → ℕ → ℕ → ℕ → ℕ
 lower_or c a x y = cond (eqb (c / 2 ^ a % 2) 0) x y
 
-pub record Taking (d : ℕ) (from₀ middle to₀ : List ℕ) (c : ℕ) (from to : List ℕ) (rest a : ℕ) : Type 0 where
+pub record Taking (d : ℕ) (from₀ middle to₀ : List ℕ) (c : ℕ) (from to : List ℕ) (a : ℕ) : Type 0 where
   pub within : a ≤ d
   pub long_from : length from ≡ 3
   pub long_to : length to ≡ 3
-  pub rest_is : rest ≡ c / 2 ^ a
   pub from_done : (b : ℕ) → b < a → get_or from b 0 ≡ cond (eqb (c / 2 ^ b % 2) 0) (get_or from₀ b 0) (get_or middle b 0)
   pub to_done : (b : ℕ) → b < a → get_or to b 0 ≡ cond (eqb (c / 2 ^ b % 2) 0) (get_or middle b 0) (get_or to₀ b 0)
   pub from_rest : (b : ℕ) → a ≤ b → get_or from b 0 ≡ get_or from₀ b 0
   pub to_rest : (b : ℕ) → a ≤ b → get_or to b 0 ≡ get_or to₀ b 0
 
 module _ (d : ℕ) (most : d ≤ 3) (from₀ middle to₀ : List ℕ) (c : ℕ) where
-  pub taking-start : length from₀ ≡ 3 → length to₀ ≡ 3 → Taking d from₀ middle to₀ c from₀ to₀ c 0
+  pub taking-start : length from₀ ≡ 3 → length to₀ ≡ 3 → Taking d from₀ middle to₀ c from₀ to₀ 0
   taking-start p q = record {
     within = omega arith;
     long_from = p;
     long_to = q;
-    rest_is = sym (div-one c);
     from_done = λ b h. absurd (omega arith);
     to_done = λ b h. absurd (omega arith);
     from_rest = λ b h. refl;
     to_rest = λ b h. refl;
   }
 
-  module _ (from to : List ℕ) (rest a : ℕ) (r : Taking d from₀ middle to₀ c from to rest a) (h : a < d) where
-    rest-next : rest / 2 ≡ c / 2 ^ (a + 1)
-    rest-next = ap (λ (n : ℕ). n / 2) r.rest_is ∙ shr-shr c a 1
-
+  module _ (from to : List ℕ) (a : ℕ) (r : Taking d from₀ middle to₀ c from to a) (h : a < d) where
     -- one entry more, which is set or stays
     set-or-kept : (P : ℕ → ℕ) (xs : List ℕ) (m : ℕ) → length xs ≡ 3 → ((b : ℕ) → b < a → get_or xs b 0 ≡ P b) → m ≡ P a → (b : ℕ) → b < a + 1 → get_or (set xs a m) b 0 ≡ P b
     set-or-kept P xs m long before is b l = go (lt-or-le b a)
@@ -176,29 +170,26 @@ module _ (d : ℕ) (most : d ≤ 3) (from₀ middle to₀ : List ℕ) (c : ℕ) 
         go (inl i) = before b i
         go (inr i) = let q : a ≡ b = omega arith in subst (λ (j : ℕ). get_or xs j 0 ≡ P j) q is
 
-    pub taking-lower : rest % 2 ≡ 0 → Taking d from₀ middle to₀ c from (set to a (get_or middle a 0)) (rest / 2) (a + 1)
+    pub taking-lower : c / 2 ^ a % 2 ≡ 0 → Taking d from₀ middle to₀ c from (set to a (get_or middle a 0)) (a + 1)
     taking-lower z =
-        let bit : c / 2 ^ a % 2 ≡ 0 = ap (λ (n : ℕ). n % 2) (sym r.rest_is) ∙ z in
-        let yes = eq-eqb (c / 2 ^ a % 2) 0 bit in
+        let yes = eq-eqb (c / 2 ^ a % 2) 0 z in
         record {
           within = omega arith;
           long_from = r.long_from;
           long_to = length-set to a (get_or middle a 0) ∙ r.long_to;
-          rest_is = rest-next;
           from_done = one_more (λ b. lower_or c b (get_or from₀ b 0) (get_or middle b 0)) from r.from_done (r.from_rest a (le_of_eq refl) ∙ ap (λ (t : Bool). cond t (get_or from₀ a 0) (get_or middle a 0)) (sym yes));
           to_done = set-or-kept (λ b. lower_or c b (get_or middle b 0) (get_or to₀ b 0)) to (get_or middle a 0) r.long_to r.to_done (ap (λ (t : Bool). cond t (get_or middle a 0) (get_or to₀ a 0)) (sym yes));
           from_rest = λ b l. r.from_rest b (omega arith);
           to_rest = λ b l. get_or-set_other to a b (get_or middle a 0) 0 (λ q. omega (arith, q)) ∙ r.to_rest b (omega arith);
         }
 
-    pub taking-upper : (rest % 2 ≡ 0 → ⊥) → Taking d from₀ middle to₀ c (set from a (get_or middle a 0)) to (rest / 2) (a + 1)
+    pub taking-upper : (c / 2 ^ a % 2 ≡ 0 → ⊥) → Taking d from₀ middle to₀ c (set from a (get_or middle a 0)) to (a + 1)
     taking-upper n =
-        let no = ne_eqb (c / 2 ^ a % 2) 0 (λ e. n (ap (λ (n : ℕ). n % 2) r.rest_is ∙ e)) in
+        let no = ne_eqb (c / 2 ^ a % 2) 0 n in
         record {
           within = omega arith;
           long_from = length-set from a (get_or middle a 0) ∙ r.long_from;
           long_to = r.long_to;
-          rest_is = rest-next;
           from_done = set-or-kept (λ b. lower_or c b (get_or from₀ b 0) (get_or middle b 0)) from (get_or middle a 0) r.long_from r.from_done (ap (λ (t : Bool). cond t (get_or from₀ a 0) (get_or middle a 0)) (sym no));
           to_done = one_more (λ b. lower_or c b (get_or middle b 0) (get_or to₀ b 0)) to r.to_done (r.to_rest a (le_of_eq refl) ∙ ap (λ (t : Bool). cond t (get_or middle a 0) (get_or to₀ a 0)) (sym no));
           from_rest = λ b l. get_or-set_other from a b (get_or middle a 0) 0 (λ q. omega (arith, q)) ∙ r.from_rest b (omega arith);

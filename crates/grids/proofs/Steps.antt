@@ -14,13 +14,13 @@ use lib.Ieee.Fits.{down_pos}
 use lib.Ieee.Nearest.{div_mono}
 use borrow.Author.Tests.{ltb-true, ltb-false, lt-ltb, leb-true, le-leb, lt-leb, eqb-true}
 use Rattle.space.specs.Floats.{whole, floor, floor_ratio}
-use Rattle.space.specs.Cells.{code_or, cell_number}
-use Rattle.space.specs.declared.Cell.TheVariants.{Number, Outside}
+use Rattle.space.specs.Cells.{kept, cell_number}
 use Rattle.space.proofs.Rounding.{ceil-zero as ceil-of-zero, ceil-back}
 use Rattle.rounding.proofs.Order.{no_size}
 use Rattle.slices.proofs.Tests.{and_l, and_r, same_test}
 use Rattle.grids.specs.Ranges.{step_at, step_of}
 use Rattle.grids.proofs.Compare.{Le, compared, compared-to}
+use Rattle.std.specs.Prelude.{None, Some}
 
 -- ---- floors of both signs
 step-least : (k : ℕ) → 1 ≤ step_at (pos k)
@@ -81,14 +81,14 @@ steps-rise (fin s m e) (fin t n d) h = floor-steps s t (m * up e) (down e) (n * 
 
 -- ---- the cell of a step
 pub record Stepped (q : Float) : Type 0 where
-  pub inside : (k : ℕ) → cell_number 65536 (floor q) ≡ Number k → (step_of q ≡ suc k) × (k < 65536)
-  pub named : (k : ℕ) → step_of q ≡ suc k → k < 65536 → cell_number 65536 (floor q) ≡ Number k
-  pub outside : (step_of q ≡ 0) ⊎ (65536 < step_of q) → cell_number 65536 (floor q) ≡ Outside
+  pub inside : (k : ℕ) → cell_number 65536 (floor q) ≡ Some k → (step_of q ≡ suc k) × (k < 65536)
+  pub named : (k : ℕ) → step_of q ≡ suc k → k < 65536 → cell_number 65536 (floor q) ≡ Some k
+  pub outside : (step_of q ≡ 0) ⊎ (65536 < step_of q) → cell_number 65536 (floor q) ≡ None
 
-never : (k : ℕ) → Outside ≡ Number k → ⊥
+never : (k : ℕ) → None ≡ Some k → ⊥
 never k e = let z : ◌≡◌ {A = ℕ} 0 1 = cc in omega arith
 
-out : (q : Float) → cell_number 65536 (floor q) ≡ Outside → (step_of q ≡ 0) ⊎ (step_of q ≡ 65537) → Stepped q
+out : (q : Float) → cell_number 65536 (floor q) ≡ None → (step_of q ≡ 0) ⊎ (step_of q ≡ 65537) → Stepped q
 out q e o = record {
   inside = λ k h. absurd (never k (sym e ∙ h));
   named = λ k h l. absurd (go k o h l);
@@ -99,14 +99,14 @@ out q e o = record {
     go k (inl a) b l = omega arith
     go k (inr a) b l = omega arith
 
-at : (n : ℕ) (q : Float) → n < 65536 → cell_number 65536 (floor q) ≡ Number n → step_of q ≡ suc n → Stepped q
+at : (n : ℕ) (q : Float) → n < 65536 → cell_number 65536 (floor q) ≡ Some n → step_of q ≡ suc n → Stepped q
 at n q l e o = record {
   inside = λ k h. let i : n ≡ k = same n k (sym e ∙ h) in (o ∙ ap suc i, subst (λ (j : ℕ). j < 65536) i l);
-  named = λ k h g. let i : n ≡ k = omega arith in e ∙ ap Number i;
+  named = λ k h g. let i : n ≡ k = omega arith in e ∙ ap Some i;
   outside = λ h. absurd (go h);
 }
   where
-    same : (n k : ℕ) → Number n ≡ Number k → n ≡ k
+    same : (n k : ℕ) → Some n ≡ Some k → n ≡ k
     same n k e = cc
 
     go : (step_of q ≡ 0) ⊎ (65536 < step_of q) → ⊥
@@ -118,8 +118,8 @@ whole-stepped q (negsuc k) e o = out q (ap (cell_number 65536) e) (inl o)
 whole-stepped q (pos k) e o = go (ltb k 65536) refl
   where
     go : (t : Bool) → ltb k 65536 ≡ t → Stepped q
-    go true h = let l = ltb-true k 65536 h in at k q l (ap (cell_number 65536) e ∙ ap (λ (t : Bool). code_or t k) h) (omega arith)
-    go false h = let l = ltb-false k 65536 h in out q (ap (cell_number 65536) e ∙ ap (λ (t : Bool). code_or t k) h) (inr (omega arith))
+    go true h = let l = ltb-true k 65536 h in at k q l (ap (cell_number 65536) e ∙ ap (λ (t : Bool). kept t k) h) (omega arith)
+    go false h = let l = ltb-false k 65536 h in out q (ap (cell_number 65536) e ∙ ap (λ (t : Bool). kept t k) h) (inr (omega arith))
 
 pub stepped : (q : Float) → Stepped q
 unfolding floor step_of

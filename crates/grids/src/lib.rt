@@ -3,7 +3,7 @@
 // A regular grid of points: which grids are known, how many points they have, and the first that is outside. No call walks the points.
 pub mod spans; // spans.rt: the indices of a cell, and how many points it has
 
-ghost use Rattle.std.specs.Prelude.{◌≡◌, ℕ, ◌≤◌, ◌<◌, true, leb, get_or};
+ghost use Rattle.std.specs.Prelude.{◌≡◌, ℕ, ◌≤◌, ◌<◌, true, leb, get_or, None};
 ghost use Rattle.std.specs.Float.{nan};
 ghost use Rattle.std.specs.Float.Ieee.Positive.{positive};
 ghost use Rattle.space.specs.Rows.{first_outside};
@@ -11,7 +11,8 @@ ghost use Rattle.grids.specs.Grids.{coordinate as coordinate_of, points_of, inde
 ghost use Rattle.grids.specs.Ranges.{step_on, first_from, Searched, Sought, Fitting};
 ghost use Rattle.grids.specs.Exits.{starts_out, ends_out, first_of, last_of, exit_by, grid_exit};
 
-use space::{Frame, Rows};
+use refusal::Wall;
+use space::Frame;
 
 // On each axis a first coordinate, a distance between neighbours and a number of points. Entries past the axes are not read.
 #[derive(Clone, Copy)]
@@ -44,8 +45,7 @@ fn reached(n: usize, reach: usize) -> usize
     requires { 0 < n }
     ensures { result < n }
 {
-    let half = n >> 1;
-    if half < reach { half } else { reach }
+    (n >> 1).min(reach)
 }
 
 // How many of n indices stand before the one that is k from the upper end, or from the lower.
@@ -131,10 +131,8 @@ pub fn grid_known(axes: usize, g: Grid) -> bool
     requires { axes ≤ 3 }
     ensures { result ≡ grid_known axes g }
 {
-    let mut n: usize = axes;
-    while 0 < n {
-        n -= 1;
-        if !axis_known(g, n) {
+    for a in 0..axes {
+        if !axis_known(g, a) {
             return false;
         }
     }
@@ -147,23 +145,14 @@ pub fn few_points(axes: usize, g: Grid) -> bool
     ensures { result ≡ few_points axes g }
 {
     let mut n: usize = 1;
-    let mut a: usize = 0;
-    while a < axes {
+    for a in 0..axes {
         let s = g.shape[a];
         if s > 1048576 / n {
             return false;
         }
         n *= s;
-        a += 1;
     }
     true
-}
-
-// An axis, or none.
-#[derive(Clone, Copy)]
-pub enum Found {
-    At(usize),
-    Nowhere,
 }
 
 // Whether index 0 of axis a is outside.
@@ -178,56 +167,53 @@ fn starts_out(f: Frame, g: Grid, a: usize) -> bool
 }
 
 // The first axis on which row 0 is outside.
-fn first_out(f: Frame, g: Grid) -> Found
+fn first_out(f: Frame, g: Grid) -> Option<usize>
     requires { Fitting f g }
     ensures { result ≡ first_of (starts_out f g) f.axes }
 {
-    let axes = f.axes;
-    let mut a: usize = 0;
-    while a < axes {
+    for a in 0..f.axes {
         if starts_out(f, g, a) {
-            return Found::At(a);
+            return Some(a);
         }
-        a += 1;
     }
-    Found::Nowhere
+    None
 }
 
-// The first row that is outside, and the first axis on which it is.
+// A row that is outside, and the first axis on which it is.
 #[derive(Clone, Copy)]
-pub enum Exit {
-    Stays,
-    Leaves(usize, usize),
+pub struct Exit {
+    pub row: usize,
+    pub axis: usize,
 }
 
 // The row at which the last axis that ends outside first does, where row 0 is inside.
-fn last_out(f: Frame, g: Grid) -> Exit
+fn last_out(f: Frame, g: Grid) -> Option<Exit>
     requires { Fitting f g }
-    ensures { result ≡ exit_by f g Found.Nowhere (last_of (ends_out f g) f.axes) }
+    ensures { result ≡ exit_by f g None (last_of (ends_out f g) f.axes) }
 {
-    let mut a: usize = f.axes;
     let mut stride: usize = 1;
-    while 0 < a {
-        a -= 1;
+    for a in (0..f.axes).rev() {
         let to = first_from(f, g, a, 65536);
         let s = g.shape[a];
         if to < s {
-            return Exit::Leaves(to * stride, a);
+            return Some(Exit {
+                row: to * stride,
+                axis: a,
+            });
         }
         stride *= s;
     }
-    Exit::Stays
+    None
 }
 
 // The first row that is outside, if one is.
-fn grid_exit(f: Frame, g: Grid) -> Exit
+fn grid_exit(f: Frame, g: Grid) -> Option<Exit>
     requires { Fitting f g }
     ensures { result ≡ grid_exit f g }
 {
-    let start = first_out(f, g);
-    match start {
-        Found::At(a) => Exit::Leaves(0, a),
-        Found::Nowhere => last_out(f, g),
+    match first_out(f, g) {
+        Some(axis) => Some(Exit { row: 0, axis }),
+        None => last_out(f, g),
     }
 }
 
@@ -238,9 +224,7 @@ fn row_point(axes: usize, g: Grid, row: usize) -> [f64; 3]
 {
     let mut point = [0.0, 0.0, 0.0];
     let mut rest = row;
-    let mut a = axes;
-    while 0 < a {
-        a -= 1;
+    for a in (0..axes).rev() {
         let s = g.shape[a];
         point[a] = coordinate(g, a, rest % s);
         rest = rest / s;
@@ -249,16 +233,13 @@ fn row_point(axes: usize, g: Grid, row: usize) -> [f64; 3]
 }
 
 // The wall of the first point that is outside, if one is: the anchor leaf tells it at that point.
-pub fn first_outside(f: Frame, g: Grid) -> Rows
+pub fn first_outside(f: Frame, g: Grid) -> Result<(), Wall>
     requires { Fitting f g }
     ensures { result ≡ first_outside (points_of f.axes g) f (listed f.axes g) }
 {
-    let exit = grid_exit(f, g);
-    match exit {
-        Exit::Stays => Rows::Inside,
-        Exit::Leaves(row, _) => {
-            let point = row_point(f.axes, g, row);
-            Rows::Outside(space::wall_of(f, &point, 0, row))
-        }
-    }
+    let Some(exit) = grid_exit(f, g) else {
+        return Ok(());
+    };
+    let point = row_point(f.axes, g, exit.row);
+    Err(space::wall_of(f, &point, 0, exit.row))
 }

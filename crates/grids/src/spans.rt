@@ -48,10 +48,8 @@ pub fn parted(f: Frame, g: Grid, key: u64, s: Span) -> Span
     let from = s.from;
     let to = s.to;
     let mut middle = [0usize; 3];
-    let mut a: usize = 0;
-    while a < axes {
+    for a in 0..axes {
         middle[a] = middle_on(f, g, a, level, anchor[a], from[a], to[a]);
-        a += 1;
     }
     Span { from, middle, to }
 }
@@ -64,17 +62,11 @@ pub fn half_of(axes: usize, s: Span, c: u64) -> Span
     let middle = s.middle;
     let mut from = s.from;
     let mut to = s.to;
-    let mut rest = c;
-    let mut a: usize = 0;
-    while a < axes {
-        if rest % 2 == 0 {
+    for a in 0..axes {
+        if (c >> a) % 2 == 0 {
             to[a] = middle[a];
-            rest = rest / 2;
-            a += 1;
         } else {
             from[a] = middle[a];
-            rest = rest / 2;
-            a += 1;
         }
     }
     Span { from, middle, to }
@@ -93,10 +85,8 @@ pub fn count(axes: usize, s: Span) -> usize
     ensures { result ≡ product (length_on s) 0 axes }
 {
     let mut n: usize = 1;
-    let mut a: usize = 0;
-    while a < axes {
+    for a in 0..axes {
         n = times(n, s.to[a] - s.from[a]);
-        a += 1;
     }
     n
 }

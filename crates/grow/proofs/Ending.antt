@@ -2,15 +2,14 @@
 use mathlib.Core.Path.{◌≡◌, refl, sym, ap, ap₂, ◌∙◌, subst}
 use mathlib.Core.Bool.{Bool, true, false, not, cond}
 use mathlib.Core.List.{List, [], ◌∷◌, ◌++◌, map, append-nil}
-use Prim.Native.Nat.{ℕ, zero, suc, ◌+◌, ◌*◌, ◌-◌, ◌%◌, ◌^◌, ◌≤◌, ◌<◌, min}
+use Prim.Native.Nat.{ℕ, ◌+◌, ◌*◌, ◌%◌, ◌≤◌, ◌<◌}
 use native.Mathlib.Omega.{arith}
-use lib.ListN.{length, get_or, set, take, drop, length-set, length-append}
+use lib.ListN.{length, get_or, set, take, drop, length-set}
 use lib.Pow.{low}
-use lib.Seq.{slice, take-suc, take-suc-set, drop-set-lt}
+use lib.Seq.{take-suc, take-suc-set, drop-set-lt}
 use native.Mathlib.Numerals.{add-one}
-use Rattle.slices.specs.Lists.{filter, concat_map, sum, Mem}
+use Rattle.slices.specs.Lists.{filter, sum, Mem}
 use Rattle.slices.proofs.Counts.{here, there}
-use Rattle.morton.specs.Keys.{axes_known}
 use Rattle.tree.specs.Nodes.{leaf}
 use Rattle.tree.specs.Totals.{total_in, total_column}
 use Rattle.growth.specs.declared.Rule.{Rule}

@@ -2,11 +2,11 @@
 use mathlib.Core.Path.{◌≡◌, refl, sym, ap, ap₂, subst, ◌∙◌}
 use mathlib.Core.Bool.{Bool, true, false, cond}
 use mathlib.Core.List.{List, [], ◌∷◌, ◌++◌, map}
-use Prim.Native.Nat.{ℕ, zero, suc, ◌+◌, ◌≤◌, ◌<◌, min}
+use Prim.Native.Nat.{ℕ, suc, ◌+◌, ◌≤◌, ◌<◌, min}
 use native.Mathlib.Omega.{arith}
-use lib.ListN.{length, get_or, set, take, length-append, length-set, length-map}
+use lib.ListN.{length, set, take, length-append, length-set}
 use lib.Seq.{take-suc-set, take-append-le, take_at}
-use Rattle.slices.specs.Lists.{sum, range, concat_map, Mem}
+use Rattle.slices.specs.Lists.{sum, range, Mem}
 use Rattle.slices.proofs.Counts.{here, there}
 use Rattle.slices.proofs.Lists.{concat_map-append}
 use Rattle.slices.proofs.Members.{mem-range}

@@ -1,6 +1,6 @@
 -- The nodes looked at one after the other.
-use mathlib.Core.Path.{◌≡◌, sym, ap, ◌∙◌, subst}
-use mathlib.Core.Bool.{Bool, true, false, ◌&&◌, ◌||◌, not}
+use mathlib.Core.Path.{◌≡◌, refl, sym, ap, ◌∙◌, subst}
+use mathlib.Core.Bool.{Bool, true, false, ◌&&◌, ◌||◌, not, beq}
 use mathlib.Core.List.{List}
 use mathlib.Core.Logic.{⊎_elim}
 use Prim.Native.Nat.{ℕ, ◌+◌, ◌≤◌, ◌<◌}
@@ -61,13 +61,18 @@ module _ (g : Rule) (n : ℕ) where
   pub splits-deepest : (k : ℕ) → 16 ≤ level_of k → false ≡ splits_by g k n
   splits-deepest k h = sym (ap (λ (b : Bool). b && ltb g.limit n) (le-ltb (level_of k) 16 h))
 
-pub agree_on : (a b : Bool) → a ≡ true → Tells (a ≡ b) b
-agree_on a true e = e
-agree_on a false e = λ h. clash e h
+-- two answers compared
+pub apart : (a b : Bool) → not (beq a b) ≡ true → a ≡ b → ⊥
+apart true true h e = clash h refl
+apart true false h e = clash refl e
+apart false true h e = clash e refl
+apart false false h e = clash h refl
 
-pub agree-off : (a b : Bool) → a ≡ false → Tells (a ≡ b) (not b)
-agree-off a true e = λ h. clash h e
-agree-off a false e = e
+pub alike : (a b : Bool) → not (beq a b) ≡ false → a ≡ b
+alike true true h = refl
+alike true false h = absurd (clash refl h)
+alike false true h = absurd (clash refl h)
+alike false false h = refl
 
 -- ---- all of it
 module _ (g : Rule) (keys total : List ℕ) (w : TreeKeys g.axes keys) where

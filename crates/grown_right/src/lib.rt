@@ -28,32 +28,19 @@ fn does_split(g: Rule, k: u64, n: usize) -> bool
     false
 }
 
-// Whether two tests have the same answer.
-fn agree(a: bool, b: bool) -> bool
-    ensures { Tells (a ≡ b) result }
-{
-    if a {
-        return b;
-    }
-    !b
-}
-
 // Whether each node other than the root is stored and split as the rule says.
 fn nodes_right(g: Rule, key: &[u64], total: &[usize]) -> bool
     requires { TreeKeys g.axes key.now × (length total.now ≡ length key.now) }
     ensures { Tells (Inner g key.now total.now) result }
 {
-    let mut node: usize = 1;
-    while node < key.len() {
+    for node in 1..key.len() {
         let n = total[node];
         if !is_kept(g, n) {
             return false;
         }
-        let split = does_split(g, key[node], n);
-        if !agree(full::has_children(g.axes, key, node), split) {
+        if full::has_children(g.axes, key, node) != does_split(g, key[node], n) {
             return false;
         }
-        node += 1;
     }
     true
 }
@@ -64,7 +51,7 @@ pub fn is_grown(g: Rule, key: &[u64], total: &[usize]) -> bool
     ensures { Tells (Grown g key.now total.now) result }
 {
     let kept = is_kept(g, total[0]);
-    if !agree(full::has_children(g.axes, key, 0), kept) {
+    if full::has_children(g.axes, key, 0) != kept {
         return false;
     }
     if !nodes_right(g, key, total) {

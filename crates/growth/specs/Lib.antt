@@ -1,3 +1,4 @@
 pub mod Nodes
+pub mod Grown
 pub mod Columns
 pub mod ByLevel

@@ -10,3 +10,10 @@ pub struct Rule {
     pub order: usize,
     pub keep: bool,
 }
+
+// A tree that was grown: how many nodes it has, and its depth.
+#[derive(Clone, Copy)]
+pub struct Grown {
+    pub nodes: usize,
+    pub depth: u64,
+}

@@ -36,6 +36,9 @@ const NODES_A_POINT_IN_BLOCKS: usize = 5;
 // Blocks that leave less room than this are the last ones.
 const LITTLE_ROOM: usize = 768;
 
+// Blocks lie no deeper in each other than this: the plan has room for ten numbers of 6 bits.
+const DEEPEST: u64 = 10;
+
 // So many codes at most are looked up to see how close the table leads.
 pub const PROBES: usize = 64;
 
@@ -137,14 +140,6 @@ fn word_of(part: Part, end: usize) -> Word {
     }
 }
 
-// The number before, or 0.
-fn number_before(node: usize) -> u64 {
-    if node < 1 {
-        return 0;
-    }
-    node as u64 - 1
-}
-
 // How far past a code a node begins.
 fn far_past(axes: usize, k: u64, start: u64) -> u64
     requires { axes ≤ 3 }
@@ -199,12 +194,11 @@ fn word_from(axes: usize, key: &[u64], from: usize, start: u64, runs: Runs) -> W
     requires { (axes ≤ 3) × (runs.low < 61) }
 {
     let mut part = Part {
-        begin: rounded(number_before(from), runs.mask),
+        begin: rounded((from as u64).saturating_sub(1), runs.mask),
         counts: 0,
         run: 0,
     };
-    let mut node = from;
-    while node < key.len() {
+    for node in from..key.len() {
         let far = far_past(axes, key[node], start);
         if 8 <= far >> runs.low {
             return word_of(part, node);
@@ -216,9 +210,8 @@ fn word_from(axes: usize, key: &[u64], from: usize, start: u64, runs: Runs) -> W
                 end: run_end(axes, key, node, start, runs.low),
             };
         }
-        node += 1;
     }
-    word_of(part, node)
+    word_of(part, key.len())
 }
 
 // ---- the table
@@ -238,13 +231,11 @@ fn fill(
 {
     let mut node = from;
     let mut code = start;
-    let mut at = 0;
-    while at < size {
+    for place in words[base..base + size].iter_mut() {
         let word = word_from(axes, key, node, code, runs);
-        words[base + at] = word.word;
+        *place = word.word;
         node = word.end;
         code = std::num::wrapping_add_u64(code, 8 << runs.low);
-        at += 1;
     }
 }
 
@@ -310,18 +301,14 @@ fn part_words(
 {
     let size = size_of(bits);
     let mut used = end;
-    let mut at = begin;
-    while at < end {
+    for at in begin..end {
         let word = words[at];
-        if word < CROWDED {
-            at += 1;
-        } else {
+        if CROWDED <= word {
             if WORDS - size < used {
                 return used;
             }
             words[at] = fill_block(axes, key, words, word, used, size, bits, runs);
             used += size;
-            at += 1;
         }
     }
     used
@@ -354,14 +341,10 @@ fn leave_crowded(
 {
     let few = MOST_NODES;
     let runs = Runs { low, few, mask };
-    let mut at = begin;
-    while at < end {
+    for at in begin..end {
         let word = words[at];
-        if word < CROWDED {
-            at += 1;
-        } else {
+        if CROWDED <= word {
             words[at] = plain_word(axes, key, word, runs);
-            at += 1;
         }
     }
 }
@@ -417,13 +400,9 @@ fn count_crowded(words: &[u64; WORDS], begin: usize, end: usize) -> usize
     requires { end ≤ 12288 }
 {
     let mut count = 0;
-    let mut at = begin;
-    while at < end {
+    for at in begin..end {
         if CROWDED <= words[at] {
             count += 1;
-            at += 1;
-        } else {
-            at += 1;
         }
     }
     count
@@ -447,28 +426,12 @@ fn bits_for(crowded: usize, room: usize, low: u64) -> u64
     if crowded < 1 {
         return 0;
     }
-    let mut bits = smaller(low, 8);
-    while 0 < bits {
+    for bits in (1..=low.min(8)).rev() {
         if crowded <= share_of(room, bits) / size_of(bits) {
             return bits;
         }
-        bits -= 1;
     }
-    bits
-}
-
-fn smaller(a: u64, b: u64) -> u64
-    ensures { (result ≤ a) × (result ≤ b) }
-{
-    if a < b { a } else { b }
-}
-
-// The room that is left after so many words.
-fn rest_of_room(room: usize, words: usize) -> usize {
-    if room < words {
-        return 0;
-    }
-    room - words
+    0
 }
 
 // A table with blocks so deep. How many steps of halving come after it stays open.
@@ -498,8 +461,7 @@ fn fill_table(
     let mut begin = 0;
     let mut end = tops(axes);
     let mut plan = 0;
-    let mut deep = 0;
-    while deep < 10 {
+    for deep in 0..DEEPEST {
         let crowded = count_crowded(words, begin, end);
         let room = WORDS - end;
         let bits = bits_for(crowded, room, low);
@@ -508,15 +470,14 @@ fn fill_table(
             return read_by(plan, deep, unit);
         }
         low = low - bits;
-        let few = few_at(rest_of_room(room, crowded << bits));
+        let few = few_at(room.saturating_sub(crowded << bits));
         let used = part_words(axes, key, words, begin, end, bits, Runs { low, few, mask });
         plan = plan | low << (6 * deep);
-        deep += 1;
         begin = end;
         end = used;
     }
     leave_crowded(axes, key, words, begin, end, low, mask);
-    read_by(plan, deep, unit)
+    read_by(plan, DEEPEST, unit)
 }
 
 // Whether a table is worth while for a look-up of so many points, and numbers are small enough for it.
@@ -571,8 +532,7 @@ fn number_at(axes: usize, words: &[u64; WORDS], blocks: Blocks, code: u64) -> us
     let mut low = top_low(axes);
     let mut word = words[((code >> low) / 8 % 8192) as usize];
     let mut plan = blocks.plan;
-    let mut left = blocks.deep;
-    while 0 < left {
+    for _ in 0..blocks.deep {
         let inner = plan % 64;
         let at = std::num::wrapping_add_u64(word, (code >> inner) / 8) % BLOCK_ROOM + 4096;
         let next = words[at as usize];
@@ -580,9 +540,6 @@ fn number_at(axes: usize, words: &[u64; WORDS], blocks: Blocks, code: u64) -> us
         if BLOCK <= word {
             word = next;
             low = inner;
-            left -= 1;
-        } else {
-            left -= 1;
         }
     }
     let eighth = (code >> low) % 8;
@@ -597,13 +554,6 @@ fn begins_by(axes: usize, k: u64, code: u64) -> u64
     std::num::wrapping_sub_u64(code, first_of(axes, k)) >> 63 ^ 1
 }
 
-// A node's number, or the last one's.
-fn at_most(node: usize, last: usize) -> usize
-    ensures { result ≤ last }
-{
-    if node < last { node } else { last }
-}
-
 // The last node that begins by a code, where it is less than 2 to so many steps past `from`: by halving.
 fn close_to(axes: usize, key: &[u64], from: usize, steps: u64, code: u64) -> usize
     requires { axes ≤ 3 }
@@ -613,14 +563,12 @@ fn close_to(axes: usize, key: &[u64], from: usize, steps: u64, code: u64) -> usi
     }
     let last = key.len() - 1;
     let mut at = from;
-    let mut left = steps % 32;
-    while 0 < left {
-        left -= 1;
-        let next = at_most(std::num::wrapping_add_usize(at, 1 << left), last);
+    for left in (0..steps % 32).rev() {
+        let next = std::num::wrapping_add_usize(at, 1 << left).min(last);
         let more = begins_by(axes, key[next], code) << left;
         at = std::num::wrapping_add_usize(at, more as usize);
     }
-    at_most(at, last)
+    at.min(last)
 }
 
 // A number that is mostly the leaf's that holds a code.
@@ -637,20 +585,12 @@ fn wide(x: u32) -> u64 {
     x as u64
 }
 
-// a less b, or 0.
-fn rest_of(a: u64, b: u64) -> u64 {
-    if a < b {
-        return 0;
-    }
-    a - b
-}
-
 // The steps from one number to another: as many as their difference has bits.
 fn steps_between(from: usize, to: usize) -> u64 {
     if to < from {
         return 0;
     }
-    rest_of(64, wide(u64::leading_zeros((to - from) as u64)))
+    64u64.saturating_sub(wide(u64::leading_zeros((to - from) as u64)))
 }
 
 // Counts for each number of steps the codes that take so many from the table's number, of some of the first n; answers of how many.
@@ -683,15 +623,13 @@ fn count_steps(
 // The fewest steps, 23 at most, that all but a twelfth of the codes do with.
 fn fewest_steps(counts: &[usize; 64], probes: usize) -> u64 {
     let mut more: usize = 0;
-    let mut steps: u64 = 23;
-    while 0 < steps {
-        more = std::num::wrapping_add_usize(more, counts[steps as usize]);
+    for steps in (1..=23).rev() {
+        more = std::num::wrapping_add_usize(more, counts[steps]);
         if probes / 12 < more {
-            return steps;
+            return steps as u64;
         }
-        steps -= 1;
     }
-    steps
+    0
 }
 
 // Fills the table for a look-up of so many points, of which the first n codes are some, and says how to read it: with the fewest

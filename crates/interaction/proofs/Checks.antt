@@ -9,46 +9,47 @@ use lib.ListN.{length}
 use borrow.Author.Tests.{ltb-true, lt-ltb, le-ltb}
 use Rattle.refusal.specs.declared.Refusal.{Refusal}
 use Rattle.refusal.specs.declared.Refusal.TheVariants.{Room}
-use Rattle.refusal.specs.declared.Outcome.{Outcome}
-use Rattle.refusal.specs.declared.Outcome.TheVariants.{Done, Refused}
 use Rattle.refusal.specs.Chain.{ask, ◌then◌}
-use Rattle.refusal.proofs.Chain.{asked, both-done}
+use Rattle.refusal.proofs.Chain.{asked, both-done, answered-done, answered-refused}
 use Rattle.tree.specs.Columns.{columns}
 use Rattle.rows.specs.Lists.{u_row, v_row}
 use Rattle.sourced.specs.Answers.{tree_check}
 use Rattle.tree.specs.WellFormed.{SoundTree}
 use Rattle.sourced.proofs.Checks.{passed}
 use Rattle.rows.specs.Written.{keys_room}
-use Rattle.interaction.specs.declared.ListsAnswer.TheVariants as lists
-use Rattle.interaction.specs.Answers.{keys_of, starts_check, lists_check, lists_or, lists_answer}
+use Rattle.node_rows.specs.declared.Sizes.{Sizes}
+use Rattle.lists.specs.Halves.{both_sizes}
+use Rattle.interaction.specs.Answers.{keys_of, starts_check, lists_check, lists_answer}
+use Rattle.std.specs.Prelude.{Err, Ok}
+use Rattle.refusal.specs.Outcome.{Answer, Outcome, accepted}
 
 -- ---- the tree and the starts
 module _ (d : ℕ) (keys own begin total : List ℕ) (us vs : ℕ) where
-  pub not-tree : (r : Refusal) → tree_check d (columns keys own begin total) ≡ Refused r → Refused r ≡ starts_check d (columns keys own begin total) us vs
+  pub not-tree : (r : Refusal) → tree_check d (columns keys own begin total) ≡ Err r → Err r ≡ starts_check d (columns keys own begin total) us vs
   not-tree r h = sym (ap (λ o. o then ask (ltb (length keys) us) (Room 4) then ask (ltb (length keys) vs) (Room 5)) h)
 
-  module _ (h : tree_check d (columns keys own begin total) ≡ Done) where
+  module _ (h : tree_check d (columns keys own begin total) ≡ accepted) where
     after-tree : (s t : Bool) → ltb (length keys) us ≡ s → ltb (length keys) vs ≡ t → ask s (Room 4) then ask t (Room 5) ≡ starts_check d (columns keys own begin total) us vs
     after-tree s t a b =
         sym (ap (λ o. o then ask (ltb (length keys) us) (Room 4) then ask (ltb (length keys) vs) (Room 5)) h ∙ ap₂ (λ s t. ask s (Room 4) then ask t (Room 5)) a b)
 
-    pub short-u : us ≤ length keys → Refused (Room 4) ≡ starts_check d (columns keys own begin total) us vs
+    pub short-u : us ≤ length keys → Err (Room 4) ≡ starts_check d (columns keys own begin total) us vs
     short-u l = after-tree false _ (le-ltb (length keys) us l) refl
 
-    pub short-v : length keys < us → vs ≤ length keys → Refused (Room 5) ≡ starts_check d (columns keys own begin total) us vs
+    pub short-v : length keys < us → vs ≤ length keys → Err (Room 5) ≡ starts_check d (columns keys own begin total) us vs
     short-v g l = after-tree true false (lt-ltb (length keys) us g) (le-ltb (length keys) vs l)
 
-    pub both-have : length keys < us → length keys < vs → Done ≡ starts_check d (columns keys own begin total) us vs
+    pub both-have : length keys < us → length keys < vs → accepted ≡ starts_check d (columns keys own begin total) us vs
     both-have g l = after-tree true true (lt-ltb (length keys) us g) (lt-ltb (length keys) vs l)
 
   -- what has passed
   pub record Ready : Type 0 where
-    pub tree : tree_check d (columns keys own begin total) ≡ Done
+    pub tree : tree_check d (columns keys own begin total) ≡ accepted
     pub sound : SoundTree d keys own
     pub u : length keys < us
     pub v : length keys < vs
 
-  pub ready : starts_check d (columns keys own begin total) us vs ≡ Done → Ready
+  pub ready : starts_check d (columns keys own begin total) us vs ≡ accepted → Ready
   ready h =
       let (front, v) = both-done (tree_check d (columns keys own begin total) then ask (ltb (length keys) us) (Room 4)) (ask (ltb (length keys) vs) (Room 5)) h in
       let (tree, u) = both-done (tree_check d (columns keys own begin total)) (ask (ltb (length keys) us) (Room 4)) front in
@@ -70,41 +71,33 @@ module _ (d : ℕ) (keys own begin total : List ℕ) (us uk vs vk : ℕ) where
   abbrev told : Outcome → (s t : Bool) → Outcome
   told o s t = o then ask s (Room 6) then ask t (Room 7)
 
-  pub early : (r : Refusal) → starts_check d (columns keys own begin total) us vs ≡ Refused r → lists.Refused r ≡ lists_answer d (columns keys own begin total) us uk vs vk
-  early r h = sym (ap (λ o. lists_or (told o u_fits v_fits) (keys_of (u_row d keys own) keys) (keys_of (v_row d keys own) keys)) h)
+  abbrev sizes : Answer Sizes
+  sizes = Ok (both_sizes (u_row d keys own) (v_row d keys own) keys)
 
-  module _ (h : starts_check d (columns keys own begin total) us vs ≡ Done) where
-    late : (s t : Bool) → s ≡ u_fits → t ≡ v_fits → lists_or (ask s (Room 6) then ask t (Room 7)) (keys_of (u_row d keys own) keys) (keys_of (v_row d keys own) keys) ≡ lists_answer d (columns keys own begin total) us uk vs vk
-    late s t a b =
-        ap₂ (λ s t. lists_or (ask s (Room 6) then ask t (Room 7)) (keys_of (u_row d keys own) keys) (keys_of (v_row d keys own) keys)) a b
-        ∙ sym (ap (λ o. lists_or (told o u_fits v_fits) (keys_of (u_row d keys own) keys) (keys_of (v_row d keys own) keys)) h)
+  pub early : (r : Refusal) → starts_check d (columns keys own begin total) us vs ≡ Err r → Err r ≡ lists_answer d (columns keys own begin total) us uk vs vk
+  early r h = sym (ap (λ o. told o u_fits v_fits then sizes) h)
 
-    pub over-u : (s : Bool) → s ≡ u_fits → s ≡ false → lists.Refused (Room 6) ≡ lists_answer d (columns keys own begin total) us uk vs vk
+  module _ (h : starts_check d (columns keys own begin total) us vs ≡ accepted) where
+    late : (s t : Bool) → s ≡ u_fits → t ≡ v_fits → ask s (Room 6) then ask t (Room 7) then sizes ≡ lists_answer d (columns keys own begin total) us uk vs vk
+    late s t a b = ap₂ (λ s t. ask s (Room 6) then ask t (Room 7) then sizes) a b ∙ sym (ap (λ o. told o u_fits v_fits then sizes) h)
+
+    pub over-u : (s : Bool) → s ≡ u_fits → s ≡ false → Err (Room 6) ≡ lists_answer d (columns keys own begin total) us uk vs vk
     over-u s a e = late false v_fits (sym e ∙ a) refl
 
-    pub over-v : (s t : Bool) → s ≡ u_fits → s ≡ true → t ≡ v_fits → t ≡ false → lists.Refused (Room 7) ≡ lists_answer d (columns keys own begin total) us uk vs vk
+    pub over-v : (s t : Bool) → s ≡ u_fits → s ≡ true → t ≡ v_fits → t ≡ false → Err (Room 7) ≡ lists_answer d (columns keys own begin total) us uk vs vk
     over-v s t a e b f = late true false (sym e ∙ a) (sym f ∙ b)
 
-    pub in_room : (s t : Bool) → s ≡ u_fits → s ≡ true → t ≡ v_fits → t ≡ true → (u v : ℕ) → u ≡ keys_of (u_row d keys own) keys → v ≡ keys_of (v_row d keys own) keys
-        → lists.Listed u v ≡ lists_answer d (columns keys own begin total) us uk vs vk
-    in_room s t a e b f u v p q = ap₂ lists.Listed p q ∙ late true true (sym e ∙ a) (sym f ∙ b)
+    pub in_room : (s t : Bool) → s ≡ u_fits → s ≡ true → t ≡ v_fits → t ≡ true → sizes ≡ lists_answer d (columns keys own begin total) us uk vs vk
+    in_room s t a e b f = late true true (sym e ∙ a) (sym f ∙ b)
 
   -- what an answer tells of the checks
-  done-of : (o : Outcome) (u v a b : ℕ) → lists.Listed a b ≡ lists_or o u v → o ≡ Done
-  done-of Done u v a b e = refl
-  done-of (Refused r) u v a b e = let z : ◌≡◌ {A = ℕ} 0 1 = cc in absurd (omega arith)
+  pub told-listed : (s : Sizes) → Ok s ≡ lists_answer d (columns keys own begin total) us uk vs vk → lists_check d (columns keys own begin total) us uk vs vk ≡ accepted
+  told-listed s e = answered-done _ _ _ e
 
-  refused-of : (o : Outcome) (u v : ℕ) (r : Refusal) → lists.Refused r ≡ lists_or o u v → o ≡ Refused r
-  refused-of Done u v r e = let z : ◌≡◌ {A = ℕ} 0 1 = cc in absurd (omega arith)
-  refused-of (Refused s) u v r e = cc
+  pub told-refused : (r : Refusal) → Err r ≡ lists_answer d (columns keys own begin total) us uk vs vk → lists_check d (columns keys own begin total) us uk vs vk ≡ Err r
+  told-refused r e = answered-refused _ _ _ e
 
-  pub told-listed : (a b : ℕ) → lists.Listed a b ≡ lists_answer d (columns keys own begin total) us uk vs vk → lists_check d (columns keys own begin total) us uk vs vk ≡ Done
-  told-listed a b e = done-of (lists_check d (columns keys own begin total) us uk vs vk) (keys_of (u_row d keys own) keys) (keys_of (v_row d keys own) keys) a b e
-
-  pub told-refused : (r : Refusal) → lists.Refused r ≡ lists_answer d (columns keys own begin total) us uk vs vk → lists_check d (columns keys own begin total) us uk vs vk ≡ Refused r
-  told-refused r e = refused-of (lists_check d (columns keys own begin total) us uk vs vk) (keys_of (u_row d keys own) keys) (keys_of (v_row d keys own) keys) r e
-
-  pub listed-tree : (a b : ℕ) → lists.Listed a b ≡ lists_answer d (columns keys own begin total) us uk vs vk → tree_check d (columns keys own begin total) ≡ Done
-  listed-tree a b e =
-      let p = (both-done (starts_check d (columns keys own begin total) us vs then ask u_fits (Room 6)) (ask v_fits (Room 7)) (told-listed a b e)).0 in
+  pub listed-tree : (s : Sizes) → Ok s ≡ lists_answer d (columns keys own begin total) us uk vs vk → tree_check d (columns keys own begin total) ≡ accepted
+  listed-tree s e =
+      let p = (both-done (starts_check d (columns keys own begin total) us vs then ask u_fits (Room 6)) (ask v_fits (Room 7)) (told-listed s e)).0 in
       (ready d keys own begin total us vs (both-done (starts_check d (columns keys own begin total) us vs) (ask u_fits (Room 6)) p).0).tree

@@ -16,20 +16,20 @@ use Rattle.tree.specs.WellFormed.{well_formed}
 use Rattle.tree.proofs.Examples.{keys₁, own₁, begin₁, total₁}
 use Rattle.rows.specs.Lists.{in_u, in_v, u_row, v_row}
 use Rattle.rows.specs.Written.{starts_from}
-use Rattle.interaction.specs.declared.ListsAnswer.TheVariants as lists
+use Rattle.std.specs.Prelude.{Err, Ok}
 use Rattle.interaction.specs.Answers.{lists_answer, u_starts_left, u_keys_left, v_starts_left, v_keys_left}
 
 -- exactly enough room, and one entry less in each slice: the lowest short one is named
-pub room : (lists_answer 1 (columns keys₁ own₁ begin₁ total₁) 10 8 10 2 ≡ lists.Listed 8 2)
-    × (lists_answer 1 (columns keys₁ own₁ begin₁ total₁) 9 7 9 1 ≡ lists.Refused (Room 4))
-    × (lists_answer 1 (columns keys₁ own₁ begin₁ total₁) 10 7 9 1 ≡ lists.Refused (Room 5))
-    × (lists_answer 1 (columns keys₁ own₁ begin₁ total₁) 10 7 10 1 ≡ lists.Refused (Room 6))
-    × (lists_answer 1 (columns keys₁ own₁ begin₁ total₁) 10 8 10 1 ≡ lists.Refused (Room 7))
+pub room : (lists_answer 1 (columns keys₁ own₁ begin₁ total₁) 10 8 10 2 ≡ Ok (record { u = 8; v = 2 }))
+    × (lists_answer 1 (columns keys₁ own₁ begin₁ total₁) 9 7 9 1 ≡ Err (Room 4))
+    × (lists_answer 1 (columns keys₁ own₁ begin₁ total₁) 10 7 9 1 ≡ Err (Room 5))
+    × (lists_answer 1 (columns keys₁ own₁ begin₁ total₁) 10 7 10 1 ≡ Err (Room 6))
+    × (lists_answer 1 (columns keys₁ own₁ begin₁ total₁) 10 8 10 1 ≡ Err (Room 7))
 unfolding well_formed in_order total_in sum concat_map u_row v_row in_u in_v leaf sourced own_of any ascending filter near every upwards
 room = (refl, refl, refl, refl, refl)
 
 -- the number of axes and the tree come before the room
-pub before-room : (lists_answer 4 (columns keys₁ own₁ begin₁ total₁) 0 0 0 0 ≡ lists.Refused Dims) × (lists_answer 1 (columns keys₁ own₁ own₁ total₁) 0 0 0 0 ≡ lists.Refused Tree)
+pub before-room : (lists_answer 4 (columns keys₁ own₁ begin₁ total₁) 0 0 0 0 ≡ Err Dims) × (lists_answer 1 (columns keys₁ own₁ own₁ total₁) 0 0 0 0 ≡ Err Tree)
 unfolding well_formed in_order total_in sum concat_map u_row v_row in_u in_v leaf sourced own_of any ascending filter near every upwards
 before-room = (refl, refl)
 

@@ -1,18 +1,17 @@
 -- The rows gone through one by one.
 use mathlib.Core.Path.{◌≡◌, refl, sym, ap, ◌∙◌, subst}
-use mathlib.Core.Bool.{Bool, true, false}
+use mathlib.Core.Bool.{true, false}
 use mathlib.Core.List.{List, ◌∷◌}
 use mathlib.Core.Logic.{◌⊎◌, inl, inr}
 use Prim.Native.Nat.{ℕ, zero, suc, ◌+◌, ◌≤◌, ◌<◌}
 use native.Mathlib.Omega.{arith}
-use native.Mathlib.Nat.{eq-or-lt_of_le, not-suc-le-zero}
 use native.Mathlib.Decide.{dec_lt}
 use lib.ListN.{length, get_or, take}
 use lib.Seq.{get_or-take, length-take-le}
 use Rattle.slices.specs.Lists.{Mem, Distinct}
 use Rattle.slices.proofs.Tests.{clash}
 use Rattle.slices.proofs.Members.{mem-cases, distinct_cons}
-use Rattle.morton.specs.Keys.{axes_known, level_of, ValidKey, valid, parent, ancestors}
+use Rattle.morton.specs.Keys.{axes_known, level_of, valid, parent, ancestors}
 use Rattle.tree.proofs.Ranges.{distinct}
 use Rattle.salvaged.specs.Nodes.{kept_keys}
 use Rattle.salvaged.proofs.Kept.{Kept, kept-mem, mem-kept, kept-ascending, up-within}

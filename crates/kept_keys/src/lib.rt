@@ -46,17 +46,12 @@ fn gather(
 {
     put_root(key, child, next);
     let mut n = 1;
-    let mut i = 0;
-    while i < rows.len() {
-        let k = rows[i];
+    for &k in rows {
         if is_valid(axes, k) {
             n = gathering::put_key(axes, k, key, child, next, room, n);
             if room < n {
                 return n;
             }
-            i += 1;
-        } else {
-            i += 1;
         }
     }
     n

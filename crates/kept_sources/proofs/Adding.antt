@@ -11,7 +11,6 @@ use lib.ListN.{length, get_or, take, drop, length-map, drop_of_length-le}
 use lib.Seq.{drop-cons, take_all}
 use borrow.Author.Tests.{lt-ltb, le-ltb, le-leb, lt-leb, eq-eqb, ne_eqb, not-true}
 use Rattle.refusal.specs.declared.Refusal.TheVariants.{Tree, Room}
-use Rattle.refusal.specs.declared.Outcome.TheVariants.{Done, Refused}
 use Rattle.slices.specs.Lists.{any, sum, range}
 use Rattle.slices.proofs.Lists.{length-range, get_or-range, get_d_map}
 use Rattle.slices.proofs.Sums.{sum-take, sum-whole}
@@ -24,6 +23,8 @@ use Rattle.salvaged.specs.Columns.{new_sources}
 use Rattle.salvaged.specs.Changes.{key_at, valid_row, first_row}
 use Rattle.kept_sources.specs.Rows.{below, below_row, lowest, row_fits, may_count, counts, row_count, rows_sum, sources_check, Readable}
 use Rattle.kept_sources.proofs.Rows.{sources-rows, sources-most}
+use Rattle.refusal.specs.Outcome.{accepted}
+use Rattle.std.specs.Prelude.{Err}
 
 -- ---- a cell below another
 
@@ -136,22 +137,22 @@ module _ (i : Input) (exact : Bool) where
 -- ---- the verdict
 
 module _ (i : Input) (ok : Readable i) (places s : ℕ) where
-  pub settled : s ≡ min (rows_sum i false) 1048577 → s ≤ 1048576 → s ≤ places → Done ≡ sources_check i places
+  pub settled : s ≡ min (rows_sum i false) 1048577 → s ≤ 1048576 → s ≤ places → accepted ≡ sources_check i places
   unfolding sources_check
   settled e a b =
       let m = sources-most i ok in
       rw (le-leb (new_sources i) 1048576 (omega arith), le-leb (new_sources i) places (omega arith))
 
   module _ (e : s ≡ min (rows_sum i true) 1048577) where
-    pub too_many : 1048576 < s → Refused Tree ≡ sources_check i places
+    pub too_many : 1048576 < s → Err Tree ≡ sources_check i places
     unfolding sources_check
     too_many h = rw (lt-leb (new_sources i) 1048576 (omega (arith, sources-rows i ok)))
 
     module _ (a : s ≤ 1048576) where
-      pub no-places : places < s → Refused (Room 2) ≡ sources_check i places
+      pub no-places : places < s → Err (Room 2) ≡ sources_check i places
       unfolding sources_check
       no-places h = rw (le-leb (new_sources i) 1048576 (omega (arith, sources-rows i ok)), lt-leb (new_sources i) places (omega (arith, sources-rows i ok)))
 
-      pub all_placed : s ≤ places → Done ≡ sources_check i places
+      pub all_placed : s ≤ places → accepted ≡ sources_check i places
       unfolding sources_check
       all_placed h = rw (le-leb (new_sources i) 1048576 (omega (arith, sources-rows i ok)), le-leb (new_sources i) places (omega (arith, sources-rows i ok)))

@@ -1,7 +1,6 @@
 -- How many sources a salvage keeps, counted row by row.
 use Rattle.std.specs.Prelude.{◌≡◌, Bool, true, ◌&&◌, not, cond, List, map, ℕ, ◌+◌, ◌-◌, ◌≤◌, ◌<◌, leb, ltb, eqb, length, get_or}
 use Rattle.refusal.specs.declared.Refusal.TheVariants.{Tree, Room}
-use Rattle.refusal.specs.declared.Outcome.{Outcome}
 use Rattle.refusal.specs.Chain.{ask, ◌then◌}
 use Rattle.slices.specs.Lists.{any, sum, range}
 use Rattle.morton.specs.Keys.{axes_known, level_of, code_of, above, valid}
@@ -9,6 +8,7 @@ use Rattle.tree.specs.WellFormed.{most_sources}
 use Rattle.salvaged.specs.Nodes.{Input}
 use Rattle.salvaged.specs.Columns.{new_sources}
 use Rattle.salvaged.specs.Changes.{key_at, valid_row, first_row}
+use Rattle.refusal.specs.Outcome.{Outcome}
 
 -- cell j lies in cell k and is not k
 abbrev pub below : ℕ → ℕ → ℕ → Bool

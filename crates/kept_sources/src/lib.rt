@@ -7,7 +7,7 @@ ghost use Rattle.tree.specs.Nodes.{node_number};
 ghost use Rattle.salvaged.specs.Nodes.{input};
 ghost use Rattle.kept_sources.specs.Rows.{below, lowest, row_count, rows_sum, sources_check, Readable};
 
-use refusal::{Outcome, Refusal};
+use refusal::Refusal;
 
 pub const MOST_SOURCES: usize = 1048576;
 
@@ -17,12 +17,10 @@ fn is_first(key: &[u64], row: usize) -> bool
     ensures { result ≡ eqb (node_number key.now (get_or key.now row 0)) row }
 {
     let k = key[row];
-    let mut j = 0;
-    while j < row {
+    for j in 0..row {
         if key[j] == k {
             return false;
         }
-        j += 1;
     }
     true
 }
@@ -46,16 +44,9 @@ fn is_lowest(axes: usize, key: &[u64], k: u64) -> bool
     requires { axes_known axes ≡ true }
     ensures { result ≡ lowest axes key.now k }
 {
-    let mut j = 0;
-    while j < key.len() {
-        let x = key[j];
-        if kept_keys::is_valid(axes, x) {
-            if is_below(axes, k, x) {
-                return false;
-            }
-            j += 1;
-        } else {
-            j += 1;
+    for &x in key {
+        if kept_keys::is_valid(axes, x) && is_below(axes, k, x) {
+            return false;
         }
     }
     true
@@ -109,14 +100,12 @@ fn sum_rows(
     ensures { result ≡ min (rows_sum (input axes key.now own.now begin.now order.now) exact) 1048577 }
 {
     let mut sum = 0;
-    let mut row = 0;
-    while row < key.len() {
+    for row in 0..key.len() {
         let n = row_count(exact, axes, key, own, begin, order, row);
         if MOST_SOURCES - sum < n {
             return MOST_SOURCES + 1;
         }
         sum += n;
-        row += 1;
     }
     sum
 }
@@ -129,22 +118,22 @@ pub fn sources_outcome(
     begin: &[usize],
     order: &[usize],
     places: usize,
-) -> Outcome
+) -> Result<(), Refusal>
     requires { Readable (input axes key.now own.now begin.now order.now) }
     ensures { result ≡ sources_check (input axes key.now own.now begin.now order.now) places }
 {
     let most = sum_rows(false, axes, key, own, begin, order);
     if most <= MOST_SOURCES {
         if most <= places {
-            return Outcome::Done;
+            return Ok(());
         }
     }
     let sum = sum_rows(true, axes, key, own, begin, order);
     if MOST_SOURCES < sum {
-        return Outcome::Refused(Refusal::Tree);
+        return Err(Refusal::Tree);
     }
     if places < sum {
-        return Outcome::Refused(Refusal::Room(2));
+        return Err(Refusal::Room(2));
     }
-    Outcome::Done
+    Ok(())
 }

@@ -1,6 +1,6 @@
 // A line: a call's word, its arguments, `=` and the answer that was recorded.
 use crate::{calls, text};
-use calls::{Answer, Call};
+use calls::{Answer, Call, Refused};
 
 #[derive(Clone, Copy)]
 pub enum Verdict {
@@ -9,84 +9,55 @@ pub enum Verdict {
     Differs,
 }
 
-fn call_of(word: &[u8]) -> Call {
-    if check::same(word, b"level") {
-        return Call::Level;
+fn call_of(word: &[u8]) -> Option<Call> {
+    match word {
+        b"level" => Some(Call::Level),
+        b"parent" => Some(Call::Parent),
+        b"index" => Some(Call::Index),
+        b"children" => Some(Call::Children),
+        b"siblings" => Some(Call::Siblings),
+        b"ancestors" => Some(Call::Ancestors),
+        b"neighbours" => Some(Call::Neighbours),
+        b"decode" => Some(Call::Decode),
+        b"encode" => Some(Call::Encode),
+        b"touching" => Some(Call::Touching),
+        _ => None,
     }
-    if check::same(word, b"parent") {
-        return Call::Parent;
-    }
-    if check::same(word, b"index") {
-        return Call::Index;
-    }
-    if check::same(word, b"children") {
-        return Call::Children;
-    }
-    if check::same(word, b"siblings") {
-        return Call::Siblings;
-    }
-    if check::same(word, b"ancestors") {
-        return Call::Ancestors;
-    }
-    if check::same(word, b"neighbours") {
-        return Call::Neighbours;
-    }
-    if check::same(word, b"decode") {
-        return Call::Decode;
-    }
-    if check::same(word, b"encode") {
-        return Call::Encode;
-    }
-    if check::same(word, b"touching") {
-        return Call::Touching;
-    }
-    Call::Unknown
 }
 
-// The answer to a call that is written as its word and its arguments.
-fn made(s: &[u8]) -> Answer {
+// The answer to a call that is written as its word and its arguments; none where they cannot be read.
+fn made(s: &[u8]) -> Option<Answer> {
     let blank = text::find(s, 0, b' ');
-    let call = call_of(&s[0..blank]);
-    let given = text::read_numbers(&s[blank..]);
-    if !given.good {
-        return calls::no_answer();
-    }
-    let values = given.values;
-    calls::answer_of(call, values, given.len)
+    let call = call_of(&s[0..blank])?;
+    let given = text::read_numbers(&s[blank..])?;
+    calls::answer_of(call, given)
 }
 
 // ` ! NUMBER VALUE`, without its first two bytes.
-fn recorded_refusal(s: &[u8]) -> Answer {
-    let read = text::read_numbers(s);
-    if !read.good {
-        return calls::no_answer();
-    }
+fn recorded_refusal(s: &[u8]) -> Option<Answer> {
+    let read = text::read_numbers(s)?;
     if read.len != 2 {
-        return calls::no_answer();
+        return None;
     }
     let values = read.values;
     if values[0] < 1 {
-        return calls::no_answer();
+        return None;
     }
-    calls::refused(values[0], values[1])
+    Some(Err(Refused {
+        number: values[0],
+        value: values[1],
+    }))
 }
 
-// The recorded answer, as it stands after the `=`.
-fn recorded(s: &[u8]) -> Answer {
+// The recorded answer, as it stands after the `=`; none where it cannot be read.
+fn recorded(s: &[u8]) -> Option<Answer> {
     if 2 < s.len() {
         if check::same(&s[0..2], b" !") {
             return recorded_refusal(&s[2..]);
         }
     }
-    let read = text::read_numbers(s);
-    let numbers = read.values;
-    Answer {
-        good: read.good,
-        number: 0,
-        value: 0,
-        len: read.len,
-        numbers,
-    }
+    let numbers = text::read_numbers(s)?;
+    Some(Ok(numbers))
 }
 
 // Whether the call gives the recorded answer; a line that cannot be read differs.

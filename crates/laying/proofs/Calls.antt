@@ -10,7 +10,6 @@ use lib.ListN.{length}
 use borrow.Author.Tests.{eq-eqb, ne_eqb, le-leb, lt-leb, leb-true}
 use Rattle.refusal.specs.declared.Refusal.{Refusal}
 use Rattle.refusal.specs.declared.Refusal.TheVariants.{Shape, Count, Order}
-use Rattle.refusal.specs.declared.Outcome.TheVariants.{Done, Refused}
 use Rattle.refusal.specs.Chain.{ask}
 use Rattle.refusal.proofs.Chain.{asked, both-done}
 use Rattle.slices.proofs.Tests.{and_r, or-not}
@@ -19,29 +18,31 @@ use Rattle.space.specs.Domain.{box_outcome}
 use Rattle.space.proofs.Refusals.{Fine, fine}
 use Rattle.space.specs.Rows.{rows_of, most_points}
 use Rattle.laying.specs.Outcomes.{order_fits, asked_outcome}
+use Rattle.std.specs.Prelude.{Err}
+use Rattle.refusal.specs.Outcome.{accepted}
 
 module _ (b : Box) (s t : List Float) (order : ℕ) where
-  pub box-refused : (r : Refusal) → box_outcome b ≡ Refused r → Refused r ≡ asked_outcome b s t order
+  pub box-refused : (r : Refusal) → box_outcome b ≡ Err r → Err r ≡ asked_outcome b s t order
   unfolding asked_outcome
   box-refused r e = rw e
 
-  module _ (o : box_outcome b ≡ Done) where
-    pub sources-ragged : (length s % b.axes ≡ 0 → ⊥) → Refused Shape ≡ asked_outcome b s t order
+  module _ (o : box_outcome b ≡ accepted) where
+    pub sources-ragged : (length s % b.axes ≡ 0 → ⊥) → Err Shape ≡ asked_outcome b s t order
     unfolding asked_outcome
     sources-ragged n = rw (o, ne_eqb (length s % b.axes) 0 n)
 
     module _ (whole : length s % b.axes ≡ 0) where
-      pub targets-ragged : (length t % b.axes ≡ 0 → ⊥) → Refused Shape ≡ asked_outcome b s t order
+      pub targets-ragged : (length t % b.axes ≡ 0 → ⊥) → Err Shape ≡ asked_outcome b s t order
       unfolding asked_outcome
       targets-ragged n = rw (o, eq-eqb (length s % b.axes) 0 whole, ne_eqb (length t % b.axes) 0 n)
 
       module _ (rows : length t % b.axes ≡ 0) where
-        pub sources-many : most_points < rows_of b s → Refused Count ≡ asked_outcome b s t order
+        pub sources-many : most_points < rows_of b s → Err Count ≡ asked_outcome b s t order
         unfolding asked_outcome
         sources-many n = rw (o, eq-eqb (length s % b.axes) 0 whole, eq-eqb (length t % b.axes) 0 rows, lt-leb (rows_of b s) most_points n)
 
         module _ (few : rows_of b s ≤ most_points) where
-          pub targets-many : most_points < rows_of b t → Refused Count ≡ asked_outcome b s t order
+          pub targets-many : most_points < rows_of b t → Err Count ≡ asked_outcome b s t order
           unfolding asked_outcome
           targets-many n = rw (o, eq-eqb (length s % b.axes) 0 whole, eq-eqb (length t % b.axes) 0 rows, le-leb (rows_of b s) most_points few, lt-leb (rows_of b t) most_points n)
 
@@ -50,18 +51,18 @@ module _ (b : Box) (s t : List Float) (order : ℕ) where
             unfolding asked_outcome
             last = rw (o, eq-eqb (length s % b.axes) 0 whole, eq-eqb (length t % b.axes) 0 rows, le-leb (rows_of b s) most_points few, le-leb (rows_of b t) most_points fewer)
 
-            pub no_targets : length t ≡ 0 → Done ≡ asked_outcome b s t order
+            pub no_targets : length t ≡ 0 → accepted ≡ asked_outcome b s t order
             no_targets e = rw (last, eq-eqb (length t) 0 e)
 
             module _ (some : length t ≡ 0 → ⊥) where
-              pub order-none : order < 1 → Refused Order ≡ asked_outcome b s t order
+              pub order-none : order < 1 → Err Order ≡ asked_outcome b s t order
               order-none h = rw (last, ne_eqb (length t) 0 some, lt-leb 1 order h)
 
               module _ (one : 1 ≤ order) where
-                pub order-large : 64 < order → Refused Order ≡ asked_outcome b s t order
+                pub order-large : 64 < order → Err Order ≡ asked_outcome b s t order
                 order-large h = rw (last, ne_eqb (length t) 0 some, le-leb 1 order one, lt-leb order 64 h)
 
-                pub order-known : order ≤ 64 → Done ≡ asked_outcome b s t order
+                pub order-known : order ≤ 64 → accepted ≡ asked_outcome b s t order
                 order-known h = rw (last, ne_eqb (length t) 0 some, le-leb 1 order one, le-leb order 64 h)
 
   pub record Called : Type 0 where
@@ -70,7 +71,7 @@ module _ (b : Box) (s t : List Float) (order : ℕ) where
     pub fewer : rows_of b t ≤ most_points
     pub fits : 0 < length t → order ≤ 64
 
-  pub checked : asked_outcome b s t order ≡ Done → Called
+  pub checked : asked_outcome b s t order ≡ accepted → Called
   unfolding asked_outcome
   checked h =
       let sixth = both-done _ (ask (order_fits order t) Order) h in

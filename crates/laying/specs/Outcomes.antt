@@ -2,11 +2,11 @@
 -- sources before targets in 3 and 4.
 use Rattle.std.specs.Prelude.{Bool, ◌&&◌, ◌||◌, List, ℕ, ◌+◌, ◌%◌, leb, eqb, Float, length}
 use Rattle.refusal.specs.declared.Refusal.TheVariants.{Shape, Count, Order, Source, Point, Room}
-use Rattle.refusal.specs.declared.Outcome.{Outcome}
 use Rattle.refusal.specs.Chain.{ask, ◌then◌}
 use Rattle.space.specs.declared.Box.{Box}
 use Rattle.space.specs.Domain.{box_outcome}
 use Rattle.space.specs.Rows.{most_points, rows_of, rows_inside, wall_of}
+use Rattle.refusal.specs.Outcome.{Outcome}
 
 -- from 1 to 64, where targets are used
 abbrev pub order_fits : ℕ → List Float → Bool

@@ -10,13 +10,13 @@ use Rattle.tree.specs.Nodes.{node_number, leaf}
 use Rattle.tree.specs.Order.{size, first, depth_of}
 use Rattle.tree.specs.Leaves.{cell_of, climbed, found_if, leaf_of}
 use Rattle.tree.specs.Finding.{TreeKeys}
-use Rattle.tree.specs.declared.Found.TheVariants.{At, Nothing}
 use Rattle.tree.proofs.Rules.{Tree}
 use Rattle.tree.proofs.Members.{stored-mem}
 use Rattle.tree.proofs.Ranges.{level-le, level-pos, distinct, first-mono, within-under}
 use Rattle.tree.proofs.Follow.{root-no-leaf}
 use Rattle.tree.proofs.Leaves.{tree_of, leaf-alone, place_is, level-greatest, depth_le}
 use Rattle.leaf_search.specs.Search.{LastNode, leaf_holds}
+use Rattle.std.specs.Prelude.{None, Some}
 
 -- a cell that holds the code begins by it and ends after it
 holds-span : (d k code : ℕ) → above d (16 - level_of k) code ≡ code_of k → (first d k ≤ code) × (code < first d k + size d k)
@@ -84,16 +84,16 @@ module _ (d : ℕ) (keys : List ℕ) (t : Tree d keys) (code : ℕ) where
       go (no n) = let z : i ≡ 0 = omega arith in absurd (clash lf (ap (λ x. leaf d keys (get_or keys x 0)) z ∙ root-no-leaf d keys [] t))
 
   module _ (r : ℕ) (s : LastNode d keys code r) where
-    none_is : ((i : ℕ) → i < length keys → leaf d keys (get_or keys i 0) ≡ true → above d (16 - level_of (get_or keys i 0)) code ≡ code_of (get_or keys i 0) → ⊥) → Nothing ≡ leaf_of d keys code
+    none_is : ((i : ℕ) → i < length keys → leaf d keys (get_or keys i 0) ≡ true → above d (16 - level_of (get_or keys i 0)) code ≡ code_of (get_or keys i 0) → ⊥) → None ≡ leaf_of d keys code
     none_is n = sym (ap (λ l. found_if (ltb 0 l) (node_number keys (cell_of d l code))) (climb-none (depth_of keys) (depth_le d keys t) n))
 
-    not-leaf : leaf d keys (get_or keys r 0) ≡ false → Nothing ≡ leaf_of d keys code
+    not-leaf : leaf d keys (get_or keys r 0) ≡ false → None ≡ leaf_of d keys code
     not-leaf f = none_is (λ i li lf e. clash (ap (λ x. leaf d keys (get_or keys x 0)) (sym (leaf_last r i s li lf e)) ∙ lf) f)
 
-    not-held : (above d (16 - level_of (get_or keys r 0)) code ≡ code_of (get_or keys r 0) → ⊥) → Nothing ≡ leaf_of d keys code
+    not-held : (above d (16 - level_of (get_or keys r 0)) code ≡ code_of (get_or keys r 0) → ⊥) → None ≡ leaf_of d keys code
     not-held f = none_is (λ i li lf e. f (subst (λ x. above d (16 - level_of (get_or keys x 0)) code ≡ code_of (get_or keys x 0)) (leaf_last r i s li lf e) e))
 
-    is_held : leaf d keys (get_or keys r 0) ≡ true → above d (16 - level_of (get_or keys r 0)) code ≡ code_of (get_or keys r 0) → At r ≡ leaf_of d keys code
+    is_held : leaf d keys (get_or keys r 0) ≡ true → above d (16 - level_of (get_or keys r 0)) code ≡ code_of (get_or keys r 0) → Some r ≡ leaf_of d keys code
     is_held lf e =
         let p = leaf-level r s.within lf in
         let c = climb-leaf r r (depth_of keys) s s.within lf e (depth_le d keys t) (omega (arith, level-greatest keys r s.within)) p in
@@ -129,13 +129,13 @@ module _ (d : ℕ) (keys : List ℕ) (k : TreeKeys d keys) (code : ℕ) where
     is_leaf h = and_r (holds d (get_or keys i 0) code) _ h
 
     -- the answer, wherever the number came from
-    pub leaf-told : i < length keys → leaf_holds d keys code i ≡ true → At i ≡ leaf_of d keys code
+    pub leaf-told : i < length keys → leaf_holds d keys code i ≡ true → Some i ≡ leaf_of d keys code
     leaf-told l h = is_held d keys tree code i (leaf-is-last i l (is_leaf h) (holds-it h)) (is_leaf h) (holds-it h)
 
     -- where the last node that begins by the code is no such leaf, there is none
-    pub none_told : LastNode d keys code i → leaf_holds d keys code i ≡ false → Nothing ≡ leaf_of d keys code
+    pub none_told : LastNode d keys code i → leaf_holds d keys code i ≡ false → None ≡ leaf_of d keys code
     none_told s h = go (holds d (get_or keys i 0) code) refl
       where
-        go : (b : Bool) → holds d (get_or keys i 0) code ≡ b → Nothing ≡ leaf_of d keys code
+        go : (b : Bool) → holds d (get_or keys i 0) code ≡ b → None ≡ leaf_of d keys code
         go false e = not-held d keys tree code i s (eqb-false (above d (16 - level_of (get_or keys i 0)) code) (code_of (get_or keys i 0)) e)
         go true e = not-leaf d keys tree code i s (sym (ap (λ b. b && leaf d keys (get_or keys i 0)) e) ∙ h)

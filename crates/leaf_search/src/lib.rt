@@ -1,15 +1,12 @@
 #![tactic(auto)]
 
 // The leaf that holds a code, from a node's number: that node, if it is the leaf; else by a search, from there where that may be.
-ghost use Rattle.std.specs.Prelude.{◌≡◌, ◌-◌, ◌<◌, ◌≤◌, true, length, nat_le, slice_index};
+ghost use Rattle.std.specs.Prelude.{◌≡◌, ◌-◌, ◌<◌, ◌≤◌, true, length, nat_le, slice_index, Some};
 ghost use Rattle.morton.specs.Keys.{axes_known, level_of, above};
 ghost use Rattle.tree.specs.Order.{first};
-ghost use Rattle.tree.specs.declared.Found.TheVariants.{At};
 ghost use Rattle.tree.specs.Leaves.{leaf_of};
 ghost use Rattle.tree.specs.Finding.{TreeKeys};
 ghost use Rattle.leaf_search.specs.Search.{leaf_holds, LastNode, Between};
-
-use tree::Found;
 
 // The cell of a level-16 code at the level of node k, as a code.
 fn up_to(axes: usize, k: u64, code: u64) -> u64
@@ -103,7 +100,7 @@ fn leaf_holds(axes: usize, key: &[u64], node: usize, code: u64) -> bool
 // Whether there is such a node and it is a leaf that holds a code.
 fn is_leaf_of(axes: usize, key: &[u64], node: usize, code: u64) -> bool
     requires { TreeKeys axes key.now }
-    ensures { result ≡ true → At node ≡ leaf_of axes key.now code }
+    ensures { result ≡ true → Some node ≡ leaf_of axes key.now code }
 {
     if key.len() <= node {
         return false;
@@ -112,28 +109,28 @@ fn is_leaf_of(axes: usize, key: &[u64], node: usize, code: u64) -> bool
 }
 
 // The leaf that holds a code, by a search from any number.
-pub fn leaf_by_search(axes: usize, key: &[u64], hint: usize, code: u64) -> Found
+pub fn leaf_by_search(axes: usize, key: &[u64], hint: usize, code: u64) -> Option<usize>
     requires { TreeKeys axes key.now }
     ensures { result ≡ leaf_of axes key.now code }
 {
     let node = last_from(axes, key, hint, code);
     if leaf_holds(axes, key, node, code) {
-        return Found::At(node);
+        return Some(node);
     }
-    Found::Nothing
+    None
 }
 
 // The same; soonest if it is the node of that number, or the next.
-pub fn leaf_from(axes: usize, key: &[u64], hint: usize, code: u64) -> Found
+pub fn leaf_from(axes: usize, key: &[u64], hint: usize, code: u64) -> Option<usize>
     requires { TreeKeys axes key.now }
     ensures { result ≡ leaf_of axes key.now code }
 {
     if is_leaf_of(axes, key, hint, code) {
-        return Found::At(hint);
+        return Some(hint);
     }
     let next = std::num::wrapping_add_usize(hint, 1);
     if is_leaf_of(axes, key, next, code) {
-        return Found::At(next);
+        return Some(next);
     }
     leaf_by_search(axes, key, hint, code)
 }

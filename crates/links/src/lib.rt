@@ -34,6 +34,7 @@ fn find_next(key: &[u64], total: &[usize], links: &[usize], i: usize) -> usize
 {
     let level = key[i] % 32768;
     let mut j = i + 1;
+    // Kept as a while: a link hops past many nodes, and the place where it stops is the answer.
     while j < key.len() {
         if stops(level, key[j], total[j]) {
             return j;
@@ -52,9 +53,7 @@ pub fn link_nodes(key: &[u64], total: &[usize], links: &mut [usize])
     requires { Linked key.now total.now × (length key.now ≤ length links.old) }
     ensures { Links key.now total.now links.old links.new }
 {
-    let mut i = key.len();
-    while 0 < i {
-        i -= 1;
+    for i in (0..key.len()).rev() {
         if has_children(key, i) {
             let next = find_next(key, total, links, i);
             links[i] = next;
@@ -68,6 +67,7 @@ fn past_leaf(axes: usize, key: &[u64], total: &[usize], links: &[usize], i: usiz
     ensures { result ≡ next_of key.now total.now i }
 {
     let mut j = i + 1;
+    // Kept as a while: a link hops past many nodes, and the place where it stops is the answer.
     while j < key.len() {
         if 0 < total[j] {
             return j;

@@ -1,12 +1,10 @@
 -- The whole judgement, and the call's answer.
-use mathlib.Core.Path.{◌≡◌, refl, sym, ap, ◌∙◌}
+use mathlib.Core.Path.{◌≡◌, sym, ap, ◌∙◌}
 use mathlib.Core.Bool.{Bool, true, false}
 use mathlib.Core.List.{List}
 use Prim.Native.Nat.{ℕ}
 use Rattle.slices.proofs.Tests.{refute}
-use Rattle.refusal.specs.declared.Refusal.{Refusal}
-use Rattle.refusal.specs.declared.Outcome.{Outcome}
-use Rattle.refusal.specs.declared.Outcome.TheVariants.{Done, Refused}
+use Rattle.refusal.specs.Chain.{◌then◌}
 use Rattle.tree.specs.Columns.{columns}
 use Rattle.rows.specs.Written.{row_of}
 use Rattle.sourced.specs.Answers.{tree_check}
@@ -15,8 +13,9 @@ use Rattle.sums.specs.Tells.{Tells}
 use Rattle.sums.specs.Right.{StartsRight, ListsRight, lists_are}
 use Rattle.sums.proofs.Flat.{flat-right, right-flat, lists-are}
 use Rattle.list_rows.specs.Entries.{Counted}
-use Rattle.list_check.specs.Answers.{right_or, right_answer}
-use Rattle.list_check.specs.declared.RightAnswer.TheVariants as right
+use Rattle.list_check.specs.Answers.{right_answer}
+use Rattle.std.specs.Prelude.{Ok}
+use Rattle.refusal.specs.Outcome.{Outcome, accepted}
 
 module _ (d : ℕ) (keys own total us uk vs vk : List ℕ) (c : Counted d keys own total) where
   pub not-u : (StartsRight keys us uk → ⊥) → false ≡ lists_are d keys own us uk vs vk
@@ -30,11 +29,8 @@ module _ (d : ℕ) (keys own total us uk vs vk : List ℕ) (c : Counted d keys o
   judged su sv false h = sym (refute (λ e. h (right-flat d keys own c.tree.begin c.tree.sound us uk vs vk ((lists-are d keys own c.tree.begin c.tree.sound us uk vs vk).0 e)).2))
 
 module _ (d : ℕ) (keys own begin total us uk vs vk : List ℕ) where
-  pub refused : (r : Refusal) → tree_check d (columns keys own begin total) ≡ Refused r → right.Refused r ≡ right_answer d (columns keys own begin total) us uk vs vk
-  refused r e = sym (ap (λ o. right_or o (lists_are d keys own us uk vs vk)) e)
-
-  pub counted : tree_check d (columns keys own begin total) ≡ Done → Counted d keys own total
+  pub counted : tree_check d (columns keys own begin total) ≡ accepted → Counted d keys own total
   counted e = record { tree = passed d keys own begin total e; totals = passed-totals d keys own begin total e }
 
-  pub answered : tree_check d (columns keys own begin total) ≡ Done → (r : Bool) → r ≡ lists_are d keys own us uk vs vk → right.Right r ≡ right_answer d (columns keys own begin total) us uk vs vk
-  answered e r h = sym (ap (λ o. right_or o (lists_are d keys own us uk vs vk)) e ∙ ap right.Right (sym h))
+  pub answered : tree_check d (columns keys own begin total) ≡ accepted → (r : Bool) → r ≡ lists_are d keys own us uk vs vk → Ok r ≡ right_answer d (columns keys own begin total) us uk vs vk
+  answered e r h = sym (ap (λ (o : Outcome). o then Ok (lists_are d keys own us uk vs vk)) e ∙ ap Ok (sym h))

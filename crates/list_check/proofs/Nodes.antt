@@ -1,32 +1,29 @@
 -- The two rows of one node.
 use mathlib.Core.Path.{◌≡◌, refl, sym, ap, ◌∙◌, subst}
 use mathlib.Core.Bool.{Bool, true, false}
-use mathlib.Core.List.{List, []}
+use mathlib.Core.List.{List}
 use mathlib.Core.Logic.{⊎_elim}
-use Prim.Native.Nat.{ℕ, suc, ◌+◌, ◌-◌, ◌≤◌, ◌<◌, min}
+use Prim.Native.Nat.{ℕ, ◌+◌, ◌-◌, ◌≤◌, ◌<◌, min}
 use native.Mathlib.Omega.{arith}
 use lib.Dec.{leb, eqb}
 use lib.ListN.{length, get_or, take, drop}
 use borrow.Author.Tests.{le-leb, lt-leb, eqb-true, eq-eqb}
-use Rattle.slices.specs.Lists.{Mem}
 use Rattle.slices.proofs.Tests.{clash, lt-or-le}
 use Rattle.morton.specs.Keys.{level_of, parent, ValidKey}
 use Rattle.tree.specs.Nodes.{leaf}
 use Rattle.tree.specs.WellFormed.{SoundTree}
-use Rattle.tree.specs.declared.Found as F
-use Rattle.tree.specs.declared.Found.TheVariants.{At, Nothing}
 use Rattle.tree.proofs.Rules.{facts}
 use Rattle.tree.proofs.Ranges.{level-pos}
 use Rattle.rows.specs.Written.{row_at}
 use Rattle.sums.specs.Tells.{Tells}
 use Rattle.sums.specs.Right.{StartsRight}
 use Rattle.places.specs.Places.{place_of}
-use Rattle.list_rows.specs.Entries.{Counted, Cell}
-use Rattle.list_rows.specs.Rows.{too_many, RowPasses, row_total, Brings}
-use Rattle.list_rows.specs.declared.Row.{Row}
+use Rattle.list_rows.specs.Entries.{Cell}
+use Rattle.list_rows.specs.Rows.{too_many, Brings}
 use Rattle.list_rows.proofs.Entries.{node-valid}
-use Rattle.list_check.specs.Checks.{met_here, FarSays, NearRight, NodeRight, NodeSays, Below}
+use Rattle.list_check.specs.Checks.{FarSays, NearRight, NodeRight, NodeSays, Below}
 use Rattle.list_check.proofs.Starts.{part-is, row-empty, empty-row}
+use Rattle.std.specs.Prelude.{None, Some, Option}
 
 -- ---- the node
 module _ (d : ℕ) (keys own : List ℕ) (t : SoundTree d keys own) (i : ℕ) (b : Below keys i) where
@@ -40,22 +37,22 @@ module _ (d : ℕ) (keys own : List ℕ) (t : SoundTree d keys own) (i : ℕ) (b
   cell p q e h = record { node = (i, b.within, refl); deep = deep; place = e; above = h }
 
 -- ---- V
-module _ (d : ℕ) (keys own total starts flat : List ℕ) (i above : ℕ) (s : StartsRight keys starts flat) (l : i < length keys) (k : ℕ) (is : k ≡ get_or keys i 0) (a : F.Found)
+module _ (d : ℕ) (keys own total starts flat : List ℕ) (i above : ℕ) (s : StartsRight keys starts flat) (l : i < length keys) (k : ℕ) (is : k ≡ get_or keys i 0) (a : Option ℕ)
     (h : Brings d keys own total true k (take (get_or starts (i + 1) 0 - get_or starts i 0) (drop (get_or starts i 0) flat)) a) where
   brings : Brings d keys own total true (get_or keys i 0) (row_at starts flat i) a
   brings = subst (λ x. Brings d keys own total true x (row_at starts flat i) a) is (subst (λ r. Brings d keys own total true k r a) (part-is keys starts flat s i l) h)
 
-  pub far-lost : a ≡ Nothing → FarSays d keys own total starts flat i above Nothing
+  pub far-lost : a ≡ None → FarSays d keys own total starts flat i above None
   far-lost e = subst (Brings d keys own total true (get_or keys i 0) (row_at starts flat i)) e brings
 
-  module _ (count : ℕ) (e : a ≡ At count) where
-    found : Brings d keys own total true (get_or keys i 0) (row_at starts flat i) (At count)
+  module _ (count : ℕ) (e : a ≡ Some count) where
+    found : Brings d keys own total true (get_or keys i 0) (row_at starts flat i) (Some count)
     found = subst (Brings d keys own total true (get_or keys i 0) (row_at starts flat i)) e brings
 
     pub far-small : count ≤ too_many
     far-small = omega (arith, found.1)
 
-    pub far-says : (n : ℕ) → n ≡ min (above + count) too_many → FarSays d keys own total starts flat i above (At n)
+    pub far-says : (n : ℕ) → n ≡ min (above + count) too_many → FarSays d keys own total starts flat i above (Some n)
     far-says n q = (found.0, q ∙ ap (λ x. min (above + x) too_many) found.1)
 
 -- ---- U
@@ -67,16 +64,16 @@ module _ (d : ℕ) (keys own total starts flat : List ℕ) (i met : ℕ) (s : St
       (record { none = λ _. row-empty keys starts flat s i l h; passes = λ y. absurd (clash y q); meets = λ y. absurd (clash y q) }))
       (lt-or-le (get_or starts i 0) (get_or starts (i + 1) 0))
 
-  module _ (lf : leaf d keys (get_or keys i 0) ≡ true) (k : ℕ) (is : k ≡ get_or keys i 0) (a : F.Found)
+  module _ (lf : leaf d keys (get_or keys i 0) ≡ true) (k : ℕ) (is : k ≡ get_or keys i 0) (a : Option ℕ)
       (h : Brings d keys own total false k (take (get_or starts (i + 1) 0 - get_or starts i 0) (drop (get_or starts i 0) flat)) a) where
     brought : Brings d keys own total false (get_or keys i 0) (row_at starts flat i) a
     brought = subst (λ x. Brings d keys own total false x (row_at starts flat i) a) is (subst (λ r. Brings d keys own total false k r a) (part-is keys starts flat s i l) h)
 
-    pub near-lost : a ≡ Nothing → NearRight d keys own total starts flat i met → ⊥
+    pub near-lost : a ≡ None → NearRight d keys own total starts flat i met → ⊥
     near-lost e r = subst (Brings d keys own total false (get_or keys i 0) (row_at starts flat i)) e brought (r.passes lf)
 
-    module _ (count : ℕ) (e : a ≡ At count) where
-      has : Brings d keys own total false (get_or keys i 0) (row_at starts flat i) (At count)
+    module _ (count : ℕ) (e : a ≡ Some count) where
+      has : Brings d keys own total false (get_or keys i 0) (row_at starts flat i) (Some count)
       has = subst (Brings d keys own total false (get_or keys i 0) (row_at starts flat i)) e brought
 
       pub near-small : count ≤ too_many
@@ -90,19 +87,19 @@ module _ (d : ℕ) (keys own total starts flat : List ℕ) (i met : ℕ) (s : St
           go false q = λ r. clash (eq-eqb (count + met) (get_or total 0 0) (ap (◌+ met) has.1 ∙ r.meets lf)) q
 
 -- ---- both
-module _ (d : ℕ) (keys own total us uk vs vk : List ℕ) (i above : ℕ) (a : F.Found) (h : FarSays d keys own total vs vk i above a) where
-  pub node-lost : a ≡ Nothing → NodeRight d keys own total us uk vs vk i above → ⊥
+module _ (d : ℕ) (keys own total us uk vs vk : List ℕ) (i above : ℕ) (a : Option ℕ) (h : FarSays d keys own total vs vk i above a) where
+  pub node-lost : a ≡ None → NodeRight d keys own total us uk vs vk i above → ⊥
   node-lost e r = subst (FarSays d keys own total vs vk i above) e h r.far
 
-  module _ (met : ℕ) (e : a ≡ At met) where
-    far-is : FarSays d keys own total vs vk i above (At met)
+  module _ (met : ℕ) (e : a ≡ Some met) where
+    far-is : FarSays d keys own total vs vk i above (Some met)
     far-is = subst (FarSays d keys own total vs vk i above) e h
 
     pub met-small : met ≤ too_many
     met-small = omega (arith, far-is.1)
 
-    pub node-says : NearRight d keys own total us uk i met → NodeSays d keys own total us uk vs vk i above (At met)
+    pub node-says : NearRight d keys own total us uk i met → NodeSays d keys own total us uk vs vk i above (Some met)
     node-says n = (record { far = far-is.0; near = subst (NearRight d keys own total us uk i) far-is.1 n }, far-is.1)
 
-    pub node-fails : (NearRight d keys own total us uk i met → ⊥) → NodeSays d keys own total us uk vs vk i above Nothing
+    pub node-fails : (NearRight d keys own total us uk i met → ⊥) → NodeSays d keys own total us uk vs vk i above None
     node-fails n r = n (subst (NearRight d keys own total us uk i) (sym far-is.1) r.near)

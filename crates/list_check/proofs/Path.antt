@@ -1,11 +1,10 @@
 -- The pass over the nodes: what is met on the path from the root to the node before, and which nodes were right.
 use mathlib.Core.Path.{◌≡◌, refl, sym, ap, ap₂, ◌∙◌, subst}
 use mathlib.Core.Bool.{Bool, true, false}
-use mathlib.Core.List.{List, [], ◌∷◌, map}
-use mathlib.Core.Logic.{⊎_elim, ◌⊎◌, inl, inr}
-use Prim.Native.Nat.{ℕ, zero, suc, ◌+◌, ◌-◌, ◌≤◌, ◌<◌, min}
+use mathlib.Core.List.{List, [], map}
+use mathlib.Core.Logic.{⊎_elim}
+use Prim.Native.Nat.{ℕ, suc, ◌+◌, ◌-◌, ◌≤◌, ◌<◌, min}
 use native.Mathlib.Omega.{arith}
-use native.Mathlib.Numerals.{add-one}
 use lib.ListN.{length, get_or, set, replicate}
 use Rattle.slices.specs.Lists.{sum, Mem}
 use Rattle.slices.proofs.Tests.{clash, lt-or-le}
@@ -14,19 +13,15 @@ use Rattle.morton.specs.Keys.{level_of, parent, upwards, ancestors}
 use Rattle.morton.proofs.Cells.{level-parent}
 use Rattle.tree.specs.Nodes.{leaf, own_of}
 use Rattle.tree.specs.Totals.{total_in}
-use Rattle.tree.specs.WellFormed.{most_sources}
-use Rattle.tree.specs.declared.Found as F
-use Rattle.tree.specs.declared.Found.TheVariants.{At, Nothing}
 use Rattle.tree.proofs.Rules as Rules
 use Rattle.tree.proofs.Rules.{facts, rows_of}
 use Rattle.tree.proofs.Leaves.{place_is}
 use Rattle.tree.proofs.Members.{root-no-leaf}
 use Rattle.tree.proofs.Totals.{root-total}
 use Rattle.tree.proofs.Verdict.{total-at}
-use Rattle.rows.specs.Lists.{in_u, in_v}
 use Rattle.rows.specs.Written.{row_at, row_of}
 use Rattle.rows.proofs.RowTests.{u-leaf, v-facts}
-use Rattle.sums.specs.Right.{Strict, sources_met, StartsRight, ListsPass, ListsRight}
+use Rattle.sums.specs.Right.{sources_met, ListsPass, ListsRight}
 use Rattle.sums.proofs.Facts.{Tree, tree-facts}
 use Rattle.sums.proofs.Parts.{empty}
 use Rattle.sums.proofs.Lines.{ancestor-mem}
@@ -34,9 +29,10 @@ use Rattle.sums.proofs.Counts.{leaf-total}
 use Rattle.list_rows.specs.Entries.{Counted, takes}
 use Rattle.list_rows.specs.Rows.{too_many, RowPasses, row_total}
 use Rattle.list_rows.proofs.Rows.{total_of}
-use Rattle.list_check.specs.Checks.{Started, far_met, met_here, NearRight, NodeRight, NodeSays, Below}
+use Rattle.list_check.specs.Checks.{Started, far_met, met_here, NodeRight, NodeSays, Below}
 use Rattle.list_check.proofs.Starts.{row-empty, empty-row}
 use Rattle.list_check.proofs.Riding.{Rides, ride-start, ride-deep, ride-in, ride-above, ride-more}
+use Rattle.std.specs.Prelude.{None, Some, Option}
 
 module _ (d : ℕ) (keys own total us uk vs vk : List ℕ) where
   abbrev far : ℕ → ℕ
@@ -130,7 +126,7 @@ module _ (d : ℕ) (keys own total us uk vs vk : List ℕ) where
       far-is : far k ≡ row_total keys total (row_at vs vk i) + far (parent d k)
       far-is = far-more k deep ∙ ap (λ r. row_total keys total r + far (parent d k)) (row-at vs vk i l)
 
-      pub judge-more : (a : F.Found) → NodeSays d keys own total us uk vs vk i (get_or counts (level_of k - 1) 0) a → (met : ℕ) → a ≡ At met → Judging (set counts (level_of k) met) (i + 1)
+      pub judge-more : (a : Option ℕ) → NodeSays d keys own total us uk vs vk i (get_or counts (level_of k - 1) 0) a → (met : ℕ) → a ≡ Some met → Judging (set counts (level_of k) met) (i + 1)
       judge-more a h met e = record {
         some = omega arith;
         upto = omega arith;
@@ -191,7 +187,7 @@ module _ (d : ℕ) (keys own total us uk vs vk : List ℕ) where
       })
 
       -- a node is right, so the check of it does not fail
-      pub judge-fails : (counts : List ℕ) (i : ℕ) → Judging counts i → (l : i < length keys) → (a : F.Found) → NodeSays d keys own total us uk vs vk i (get_or counts (level_of (get_or keys i 0) - 1) 0) a → a ≡ Nothing → ⊥
+      pub judge-fails : (counts : List ℕ) (i : ℕ) → Judging counts i → (l : i < length keys) → (a : Option ℕ) → NodeSays d keys own total us uk vs vk i (get_or counts (level_of (get_or keys i 0) - 1) 0) a → a ≡ None → ⊥
       judge-fails counts i g l a h e = subst (NodeSays d keys own total us uk vs vk i (get_or counts (level_of (get_or keys i 0) - 1) 0)) e h (record {
         far = v-row i l;
         near = record {

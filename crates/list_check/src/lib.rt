@@ -15,15 +15,7 @@ ghost use Rattle.list_check.specs.Answers.{right_answer};
 
 use list_rows::Row;
 use morton::keys;
-use refusal::{Outcome, Refusal};
-use tree::Found;
-
-// Whether the lists are the tree's, or a refusal.
-#[derive(Clone, Copy)]
-pub enum RightAnswer {
-    Right(bool),
-    Refused(Refusal),
-}
+use refusal::Refusal;
 
 // Whether the starts go from 0 to the number of list keys, one more than there are nodes, and never fall.
 fn starts_right(key: &[u64], starts: &[usize], flat: &[u64]) -> bool
@@ -35,14 +27,12 @@ fn starts_right(key: &[u64], starts: &[usize], flat: &[u64]) -> bool
     if starts[0] != 0 {
         return false;
     }
-    let mut i: usize = 0;
-    while i < key.len() {
+    for i in 0..key.len() {
         if starts[i + 1] < starts[i] {
             return false;
         }
-        i += 1;
     }
-    if starts[i] != flat.len() {
+    if starts[key.len()] != flat.len() {
         return false;
     }
     true
@@ -73,7 +63,7 @@ fn far_sources(
     node: usize,
     row: Row,
     above: usize,
-) -> Found
+) -> Option<usize>
     requires counted { Counted axes key.now own.now total.now × Table axes key.now nodes.old spots.old × StartsRight key.now starts.now flat.now }
     requires below { Below key.now node × Cell axes key.now row × (row.cell ≡ get_or key.now node 0) × (above ≤ too_many) }
     ensures says { FarSays axes key.now own.now total.now starts.now flat.now node above result }
@@ -81,7 +71,7 @@ fn far_sources(
 {
     let from = starts[node];
     let to = starts[node + 1];
-    let brought = list_rows::row_sources(
+    let count = list_rows::row_sources(
         axes,
         key,
         own,
@@ -91,11 +81,8 @@ fn far_sources(
         true,
         row,
         &flat[from..to],
-    );
-    let Found::At(count) = brought else {
-        return Found::Nothing;
-    };
-    Found::At(list_rows::held(above + count))
+    )?;
+    Some(list_rows::held(above + count))
 }
 
 // Whether the U row of a node passes, and brings the rest of all sources.
@@ -133,7 +120,7 @@ fn near_right(
         row,
         &flat[from..to],
     );
-    let Found::At(count) = brought else {
+    let Some(count) = brought else {
         return false;
     };
     count + met == total[0]
@@ -153,7 +140,7 @@ fn node_sources(
     v_keys: &[u64],
     node: usize,
     above: usize,
-) -> Found
+) -> Option<usize>
     requires counted { Counted axes key.now own.now total.now × Table axes key.now nodes.old spots.old × Started key.now u_starts.now u_keys.now
         v_starts.now v_keys.now }
     requires below { Below key.now node × (above ≤ too_many) }
@@ -162,18 +149,15 @@ fn node_sources(
     ensures table { Table axes key.now nodes.new spots.new }
 {
     let row = row_of(axes, key, own, node);
-    let far = far_sources(
+    let met = far_sources(
         axes, key, own, total, nodes, spots, v_starts, v_keys, node, row, above,
-    );
-    let Found::At(met) = far else {
-        return Found::Nothing;
-    };
+    )?;
     if near_right(
         axes, key, own, total, nodes, spots, u_starts, u_keys, node, row, met,
     ) {
-        return Found::At(met);
+        return Some(met);
     }
-    Found::Nothing
+    None
 }
 
 // Whether the rows of all nodes are right. What is met in the V rows rides on the path from the root, one count for each level.
@@ -200,19 +184,17 @@ fn rows_right(
     let mut nodes = [0usize; 4096];
     let mut spots = [0u64; 4096];
     let mut far = [0usize; 17];
-    let mut node: usize = 1;
-    while node < key.len() {
+    for node in 1..key.len() {
         let level = (key[node] % 32768) as usize;
         let above = far[level - 1];
         let says = node_sources(
             axes, key, own, total, &mut nodes, &mut spots, u_starts, u_keys, v_starts, v_keys,
             node, above,
         );
-        let Found::At(met) = says else {
+        let Some(met) = says else {
             return false;
         };
         far[level] = met;
-        node += 1;
     }
     true
 }
@@ -252,14 +234,10 @@ pub fn lists_right(
     u_keys: &[u64],
     v_starts: &[usize],
     v_keys: &[u64],
-) -> RightAnswer
+) -> Result<bool, Refusal>
     ensures { result ≡ right_answer axes (columns key.now own.now begin.now total.now)
         u_starts.now u_keys.now v_starts.now v_keys.now }
 {
-    let checked = sourced::check_tree(axes, key, own, begin, total);
-    if let Outcome::Refused(refusal) = checked {
-        return RightAnswer::Refused(refusal);
-    }
-    let right = are_lists(axes, key, own, total, u_starts, u_keys, v_starts, v_keys);
-    RightAnswer::Right(right)
+    sourced::check_tree(axes, key, own, begin, total)?;
+    Ok(are_lists(axes, key, own, total, u_starts, u_keys, v_starts, v_keys))
 }

@@ -20,8 +20,6 @@ use Rattle.morton.proofs.Cells.{above_zero, above-one, level-parent, code-parent
 use Rattle.tree.specs.Nodes.{stored, leaf, sourced}
 use Rattle.tree.specs.WellFormed.{SoundTree}
 use Rattle.tree.specs.Finding.{TreeKeys, FoundNode}
-use Rattle.tree.specs.declared.Found as F
-use Rattle.tree.specs.declared.Found.TheVariants as found
 use Rattle.tree.proofs.Rules.{WellFormed, facts, facts-ascend}
 use Rattle.tree.proofs.Clauses.{facts-parents}
 use Rattle.tree.proofs.Stored.{code_lt, level-le}
@@ -36,6 +34,7 @@ use Rattle.places.specs.Places.{place_at, place_of, beside}
 use Rattle.places.proofs.Laws.{beside-near}
 use Rattle.list_rows.specs.Entries.{Counted, Table, takes, rises_at, Cell, Node}
 use Rattle.list_rows.specs.declared.Row.{Row}
+use Rattle.std.specs.Prelude.{None, Some, Option}
 
 -- ---- the tree
 module _ (d : ℕ) (keys own : List ℕ) (t : SoundTree d keys own) where
@@ -80,10 +79,10 @@ module _ (d : ℕ) (keys : List ℕ) where
           let e = get_or-set_other nodes s r node 0 other in
           get_or-set_other spots s r p 0 other ∙ t.right r g (subst (λ n. n < length keys) e l) ∙ ap (λ n. place_of d (get_or keys n 0)) (sym e)
 
-  pub found_in : (k : ℕ) (a : F.Found) → FoundNode d keys k a → (i : ℕ) → a ≡ found.At i → (i < length keys) × (get_or keys i 0 ≡ k)
+  pub found_in : (k : ℕ) (a : Option ℕ) → FoundNode d keys k a → (i : ℕ) → a ≡ Some i → (i < length keys) × (get_or keys i 0 ≡ k)
   found_in k a h i e = subst (FoundNode d keys k) e h
 
-  pub found_none : (own : List ℕ) → SoundTree d keys own → (k : ℕ) (a : F.Found) → FoundNode d keys k a → a ≡ found.Nothing → stored keys k ≡ false
+  pub found_none : (own : List ℕ) → SoundTree d keys own → (k : ℕ) (a : Option ℕ) → FoundNode d keys k a → a ≡ None → stored keys k ≡ false
   found_none own t k a h e = subst (FoundNode d keys k) e h (tree-keys d keys own t).ascend
 
 -- ---- a row's order
@@ -232,7 +231,7 @@ module _ (d : ℕ) (keys own nodes spots : List ℕ) (pre : SoundTree d keys own
   tried-is l e = (l, e, pre.1.right slot s l ∙ ap (place_of d) e)
 
   -- or it was searched for
-  module _ (a : F.Found) (h : FoundNode d keys k a) (i : ℕ) (e : a ≡ found.At i) where
+  module _ (a : Option ℕ) (h : FoundNode d keys k a) (i : ℕ) (e : a ≡ Some i) where
     pub found-valid : ValidKey d k
     found-valid = let r = found_in d keys k a h i e in node-valid d keys own pre.0 k (i, r.0, r.1)
 

@@ -26,7 +26,7 @@ use Rattle.places.specs.Places.{place_of}
 use Rattle.list_rows.specs.Entries.{Counted, Sought, takes, rises_at}
 use Rattle.list_rows.specs.Rows.{too_many, RowPasses, row_total}
 use Rattle.list_rows.specs.declared.Spot.{Spot}
-use Rattle.list_rows.specs.declared.Spot.TheVariants.{At, Nothing}
+use Rattle.std.specs.Prelude.{None, Option, Some}
 use Rattle.list_rows.proofs.Entries.{first-rises, later-rises}
 
 -- ---- totals
@@ -77,37 +77,37 @@ module _ (d : ℕ) (keys own total : List ℕ) (far : Bool) (b : ℕ) (row : Lis
       let e : suc j - 1 ≡ j = omega arith in
       clash (sym (later-rises row (suc j) (omega arith)) ∙ lt-ltb (get_or row (suc j - 1) 0) (get_or row (suc j) 0) (rw e (r.ascends j l))) h
 
-  pub pass-lost : (i : ℕ) → i < length row → (a : Spot) → Sought d keys (get_or row i 0) a → a ≡ Nothing → RowPasses d keys own far b row → ⊥
+  pub pass-lost : (i : ℕ) → i < length row → (a : Option Spot) → Sought d keys (get_or row i 0) a → a ≡ None → RowPasses d keys own far b row → ⊥
   pass-lost i l a s e r = clash (mem-stored keys (get_or row i 0) (r.nodes i l)) (subst (Sought d keys (get_or row i 0)) e s)
 
-  module _ (i count : ℕ) (l : i < length row) (a : Spot) (s : Sought d keys (get_or row i 0) a) (node place : ℕ) (e : a ≡ At node place) where
-    found : Sought d keys (get_or row i 0) (At node place)
+  module _ (i count : ℕ) (l : i < length row) (a : Option Spot) (s : Sought d keys (get_or row i 0) a) (spot : Spot) (e : a ≡ Some spot) where
+    found : Sought d keys (get_or row i 0) (Some spot)
     found = subst (Sought d keys (get_or row i 0)) e s
 
-    pub found_within : node < length keys
+    pub found_within : spot.node < length keys
     found_within = found.0
 
-    pub found-key : get_or keys node 0 ≡ get_or row i 0
+    pub found-key : get_or keys spot.node 0 ≡ get_or row i 0
     found-key = found.1
 
-    pub found-place : place ≡ place_of d (get_or keys node 0)
+    pub found-place : spot.place ≡ place_of d (get_or keys spot.node 0)
     found-place = found.2 ∙ ap (place_of d) (sym found-key)
 
-    module _ (t : Bool) (q : t ≡ takes d keys own far b (get_or keys node 0)) where
+    module _ (t : Bool) (q : t ≡ takes d keys own far b (get_or keys spot.node 0)) where
       taken : t ≡ takes d keys own far b (get_or row i 0)
       taken = q ∙ ap (takes d keys own far b) found-key
 
       pub pass-fails : t ≡ false → RowPasses d keys own far b row → ⊥
       pass-fails h r = clash (r.passes i l) (sym taken ∙ h)
 
-      pub pass-more : Counted d keys own total → Passing d keys own total far b row i count → rises_at row i ≡ true → t ≡ true → (n : ℕ) → n ≡ min (count + get_or total node 0) too_many
+      pub pass-more : Counted d keys own total → Passing d keys own total far b row i count → rises_at row i ≡ true → t ≡ true → (n : ℕ) → n ≡ min (count + get_or total spot.node 0) too_many
           → Passing d keys own total far b row (i + 1) n
       pass-more c p up ok n m = record {
         upto = omega arith;
         ascends = λ j g. ⊎_elim (λ (h : suc j < i). p.ascends j h) (λ (h : i ≤ suc j). let z : i ≡ suc j = omega arith in above j (subst (λ x. rises_at row x ≡ true) z up)) (lt-or-le (suc j) i);
-        nodes = λ j g. ⊎_elim (λ (h : j < i). p.nodes j h) (λ (h : i ≤ j). let z : i ≡ j = omega arith in subst (λ x. Mem (get_or row x 0) keys) z (node, found_within, found-key)) (lt-or-le j i);
+        nodes = λ j g. ⊎_elim (λ (h : j < i). p.nodes j h) (λ (h : i ≤ j). let z : i ≡ j = omega arith in subst (λ x. Mem (get_or row x 0) keys) z (spot.node, found_within, found-key)) (lt-or-le j i);
         passes = λ j g. ⊎_elim (λ (h : j < i). p.passes j h) (λ (h : i ≤ j). let z : i ≡ j = omega arith in subst (λ x. takes d keys own far b (get_or row x 0) ≡ true) z (sym taken ∙ ok)) (lt-or-le j i);
-        brought = rw (add-one i) (omega (arith, m, p.brought, sum-take (map (own_of keys total) row) i, get_d_map (own_of keys total) row i l ∙ ap (own_of keys total) (sym found-key) ∙ total_of d keys own total c node found_within));
+        brought = rw (add-one i) (omega (arith, m, p.brought, sum-take (map (own_of keys total) row) i, get_d_map (own_of keys total) row i l ∙ ap (own_of keys total) (sym found-key) ∙ total_of d keys own total c spot.node found_within));
       }
 
   pub pass-done : (i count : ℕ) → Passing d keys own total far b row i count → length row ≤ i → RowPasses d keys own far b row × (count ≡ min (row_total keys total row) too_many)

@@ -1,5 +1,5 @@
 -- One entry of a row handed in: where its node is found, and the test of the row that it must pass.
-use Rattle.std.specs.Prelude.{◌≡◌, Bool, true, false, ◌||◌, cond, List, ℕ, ◌-◌, ◌<◌, eqb, ltb, length, get_or}
+use Rattle.std.specs.Prelude.{◌≡◌, Bool, true, false, ◌||◌, cond, List, ℕ, ◌-◌, ◌<◌, eqb, ltb, length, get_or, None, Option, Some}
 use Rattle.slices.specs.Lists.{Mem}
 use Rattle.morton.specs.Keys.{level_of, parent}
 use Rattle.tree.specs.Nodes.{stored}
@@ -7,7 +7,6 @@ use Rattle.tree.specs.WellFormed.{SoundTree, totals_right}
 use Rattle.rows.specs.Lists.{in_u, in_v}
 use Rattle.places.specs.Places.{place_of}
 use Rattle.list_rows.specs.declared.Spot.{Spot}
-use Rattle.list_rows.specs.declared.Spot.TheVariants.{At, Nothing}
 use Rattle.list_rows.specs.declared.Row.{Row}
 
 -- a tree that has passed its check, with its totals
@@ -22,9 +21,9 @@ pub record Table (d : ℕ) (keys nodes spots : List ℕ) : Type 0 where
   pub right : (s : ℕ) → s < 4096 → get_or nodes s 0 < length keys → get_or spots s 0 ≡ place_of d (get_or keys (get_or nodes s 0) 0)
 
 -- the node with key k is found by its number and its place, and nothing is found only if none has it
-abbrev pub Sought : ℕ → List ℕ → ℕ → Spot → Type 0
-Sought d keys k (At i p) = (i < length keys) × (get_or keys i 0 ≡ k) × (p ≡ place_of d k)
-Sought d keys k Nothing = stored keys k ≡ false
+abbrev pub Sought : ℕ → List ℕ → ℕ → Option Spot → Type 0
+Sought d keys k (Some s) = (s.node < length keys) × (get_or keys s.node 0 ≡ k) × (s.place ≡ place_of d k)
+Sought d keys k None = stored keys k ≡ false
 
 -- x stands in b's row: its V row if `far`, else its U row
 abbrev pub takes : ℕ → (keys own : List ℕ) → Bool → ℕ → ℕ → Bool

@@ -1,9 +1,7 @@
 -- A row handed in: whether it can be a node's, and how many sources it brings.
-use Rattle.std.specs.Prelude.{◌≡◌, Bool, true, List, map, ℕ, ◌<◌, min, length, get_or}
+use Rattle.std.specs.Prelude.{◌≡◌, Bool, true, List, map, ℕ, ◌<◌, min, length, get_or, None, Option, Some}
 use Rattle.slices.specs.Lists.{sum, Mem}
 use Rattle.tree.specs.Nodes.{own_of}
-use Rattle.tree.specs.declared.Found.{Found}
-use Rattle.tree.specs.declared.Found.TheVariants.{At, Nothing}
 use Rattle.sums.specs.Right.{Strict}
 use Rattle.list_rows.specs.Entries.{takes}
 
@@ -22,6 +20,6 @@ abbrev pub row_total : List ℕ → List ℕ → List ℕ → ℕ
 row_total keys total row = sum (map (own_of keys total) row)
 
 -- the row passes and brings so many sources, or it does not pass
-abbrev pub Brings : ℕ → (keys own total : List ℕ) → Bool → ℕ → List ℕ → Found → Type 0
-Brings d keys own total far b row (At n) = RowPasses d keys own far b row × (n ≡ min (row_total keys total row) too_many)
-Brings d keys own total far b row Nothing = RowPasses d keys own far b row → ⊥
+abbrev pub Brings : ℕ → (keys own total : List ℕ) → Bool → ℕ → List ℕ → Option ℕ → Type 0
+Brings d keys own total far b row (Some n) = RowPasses d keys own far b row × (n ≡ min (row_total keys total row) too_many)
+Brings d keys own total far b row None = RowPasses d keys own far b row → ⊥

@@ -7,13 +7,16 @@ ghost use Rattle.rows.specs.Lists.{in_u, in_v};
 ghost use Rattle.list_rows.specs.Entries.{Counted, Table, Sought, takes, Cell, Node, rises_at};
 ghost use Rattle.list_rows.specs.Rows.{too_many, Brings};
 
-use tree::Found;
+use morton::keys;
 
-// A node's number and its place, or nothing.
+// How many cells the table of what was found has slots for.
+const SLOTS: usize = 4096;
+
+// A node's number and its place.
 #[derive(Clone, Copy)]
-pub enum Spot {
-    At(usize, u64),
-    Nothing,
+pub struct Spot {
+    pub node: usize,
+    pub place: u64,
 }
 
 // A cell whose row is judged: its key, its place, and its parent's place.
@@ -24,13 +27,6 @@ pub struct Row {
     pub above: u64,
 }
 
-// Where the table has what was found of a cell.
-fn slot_of(k: u64) -> usize
-    ensures { result < 4096 }
-{
-    (k / 32768 % 4096) as usize
-}
-
 // The node with key k and its place. What was found last for its slot is tried first; a wrong number there costs time alone.
 fn seek(
     axes: usize,
@@ -39,26 +35,26 @@ fn seek(
     nodes: &mut [usize],
     spots: &mut [u64],
     k: u64,
-) -> Spot
+) -> Option<Spot>
     requires { SoundTree axes key.now own.now × Table axes key.now nodes.old spots.old }
     ensures found { Sought axes key.now k result }
     ensures table { Table axes key.now nodes.new spots.new }
 {
-    let slot = slot_of(k);
+    let slot = keys::slot_of::<SLOTS>(k);
     let tried = nodes[slot];
     if tried < key.len() {
         if key[tried] == k {
-            return Spot::At(tried, spots[slot]);
+            return Some(Spot {
+                node: tried,
+                place: spots[slot],
+            });
         }
     }
-    let found = tree::find_node(axes, key, k);
-    let Found::At(node) = found else {
-        return Spot::Nothing;
-    };
+    let node = tree::find_node(axes, key, k)?;
     let place = places::place_of(axes, k);
     nodes[slot] = node;
     spots[slot] = place;
-    Spot::At(node, place)
+    Some(Spot { node, place })
 }
 
 // Whether a node's total is above 0.
@@ -156,10 +152,7 @@ fn rises_at(flat: &[u64], i: usize) -> bool
 pub fn held(count: usize) -> usize
     ensures { result ≡ min count too_many }
 {
-    if count < 1048577 {
-        return count;
-    }
-    1048577
+    count.min(1048577)
 }
 
 // A count with a node's total.
@@ -181,26 +174,21 @@ pub fn row_sources(
     far: bool,
     row: Row,
     flat: &[u64],
-) -> Found
+) -> Option<usize>
     requires { Counted axes key.now own.now total.now × Table axes key.now nodes.old spots.old × Cell axes key.now row }
     ensures brings { Brings axes key.now own.now total.now far row.cell flat.now result }
     ensures table { Table axes key.now nodes.new spots.new }
 {
     let mut sum: usize = 0;
-    let mut i: usize = 0;
-    while i < flat.len() {
+    for i in 0..flat.len() {
         if !rises_at(flat, i) {
-            return Found::Nothing;
+            return None;
         }
-        let spot = seek(axes, key, own, nodes, spots, flat[i]);
-        let Spot::At(node, place) = spot else {
-            return Found::Nothing;
-        };
-        if !is_taken(axes, key, own, total, far, row, node, place) {
-            return Found::Nothing;
+        let spot = seek(axes, key, own, nodes, spots, flat[i])?;
+        if !is_taken(axes, key, own, total, far, row, spot.node, spot.place) {
+            return None;
         }
-        sum = with_total(total, node, sum);
-        i += 1;
+        sum = with_total(total, spot.node, sum);
     }
-    Found::At(sum)
+    Some(sum)
 }

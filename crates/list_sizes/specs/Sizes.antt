@@ -1,13 +1,15 @@
 -- How many keys the lists of a tree over d axes have, with no list: ls and rs are the entries of the two slices lent for the work.
-use Rattle.std.specs.Prelude.{◌≡◌, List, ℕ, min, leb, length}
+use Rattle.std.specs.Prelude.{◌≡◌, List, ℕ, min, leb, length, Ok}
 use Rattle.refusal.specs.declared.Refusal.TheVariants.{Room}
-use Rattle.refusal.specs.declared.Outcome.{Outcome}
 use Rattle.refusal.specs.Chain.{ask, ◌then◌}
 use Rattle.tree.specs.Columns.{Columns}
 use Rattle.rows.specs.Lists.{u_row, v_row, u_rows, v_rows}
 use Rattle.sourced.specs.Answers.{tree_check}
-use Rattle.interaction.specs.Answers.{keys_of, lists_or}
-use Rattle.interaction.specs.declared.ListsAnswer.{ListsAnswer}
+use Rattle.interaction.specs.Answers.{keys_of}
+use Rattle.node_rows.specs.declared.Sizes.{Sizes}
+use Rattle.lists.specs.Halves.{both_sizes}
+use Rattle.lists.specs.Halves as halves
+use Rattle.refusal.specs.Outcome.{Answer, Outcome}
 
 -- a list has at most 16,777,216 keys; one more stands for all that are too many
 abbrev pub counted : ℕ → ℕ
@@ -19,10 +21,7 @@ CountsBoth d keys own u v = (u ≡ counted (keys_of (u_row d keys own) keys)) ×
 
 -- refused where a list has too many keys, U's before V's
 abbrev pub keys_check : (u v : ℕ) → Outcome
-keys_check u v = ask (leb u 16777216) (Room 6) then ask (leb v 16777216) (Room 7)
-
-abbrev pub sizes_of : (u v : ℕ) → ListsAnswer
-sizes_of u v = lists_or (keys_check u v) u v
+keys_check u v = halves.room_check u v 16777216 16777216
 
 module _ (d : ℕ) (t : Columns) where
   -- 1, 13, then 8: each of the two slices needs one entry for each node
@@ -30,6 +29,5 @@ module _ (d : ℕ) (t : Columns) where
   room_check ls rs = tree_check d t then ask (leb (length t.keys) ls) (Room 1) then ask (leb (length t.keys) rs) (Room 1)
 
   -- the keys of both lists are counted as the list call counts them that is lent as many entries as count
-  abbrev pub sizes_answer : (ls rs : ℕ) → ListsAnswer
-  sizes_answer ls rs = lists_or (room_check ls rs then keys_check (keys_of (u_rows d t) t.keys) (keys_of (v_rows d t) t.keys))
-      (keys_of (u_rows d t) t.keys) (keys_of (v_rows d t) t.keys)
+  abbrev pub sizes_answer : (ls rs : ℕ) → Answer Sizes
+  sizes_answer ls rs = room_check ls rs then keys_check (keys_of (u_rows d t) t.keys) (keys_of (v_rows d t) t.keys) then Ok (both_sizes (u_rows d t) (v_rows d t) t.keys)

@@ -6,11 +6,10 @@ ghost use Rattle.tree.specs.Columns.{columns};
 ghost use Rattle.tree.specs.WellFormed.{SoundTree, totals_right};
 ghost use Rattle.links.specs.Links.{LinkedTree};
 ghost use Rattle.node_rows.specs.Stack.{Ready};
-ghost use Rattle.list_sizes.specs.Sizes.{counted, CountsBoth, room_check, sizes_of, sizes_answer};
+ghost use Rattle.list_sizes.specs.Sizes.{counted, CountsBoth, room_check, sizes_answer};
 
-use interaction::ListsAnswer;
 use node_rows::{HELD_ROOM, STACK_ROOM, Sizes};
-use refusal::{Outcome, Refusal};
+use refusal::Refusal;
 
 // The most keys of a list, and the most of one V row.
 const MOST_KEYS: usize = 16777216;
@@ -48,17 +47,15 @@ fn count_rows(
 {
     let mut u: usize = 0;
     let mut v: usize = 0;
-    let mut i: usize = 1;
-    while i < key.len() {
+    for i in 1..key.len() {
         let none = Sizes { u: 0, v: 0 };
         let sizes = node_rows::put_node(
             axes, key, own, total, links, i, none, stack, held, row, far,
         );
         u = more(u, sizes.u);
         v = more(v, sizes.v);
-        i += 1;
     }
-    Sizes { u: u, v: v }
+    Sizes { u, v }
 }
 
 // The same with links, a stack and room for a V row of its own.
@@ -93,33 +90,17 @@ fn room_outcome(
     total: &[usize],
     links: usize,
     row: usize,
-) -> Outcome
+) -> Result<(), Refusal>
     ensures { result ≡ room_check axes (columns key.now own.now begin.now total.now) links row }
 {
-    let checked = sourced::check_tree(axes, key, own, begin, total);
-    if let Outcome::Refused(refusal) = checked {
-        return Outcome::Refused(refusal);
-    }
+    sourced::check_tree(axes, key, own, begin, total)?;
     if links < key.len() {
-        return Outcome::Refused(Refusal::Room(1));
+        return Err(Refusal::Room(1));
     }
     if row < key.len() {
-        return Outcome::Refused(Refusal::Room(1));
+        return Err(Refusal::Room(1));
     }
-    Outcome::Done
-}
-
-// The answer from the two counts.
-fn answer_of(sizes: Sizes) -> ListsAnswer
-    ensures { result ≡ sizes_of sizes.u sizes.v }
-{
-    if MOST_KEYS < sizes.u {
-        return ListsAnswer::Refused(Refusal::Room(6));
-    }
-    if MOST_KEYS < sizes.v {
-        return ListsAnswer::Refused(Refusal::Room(7));
-    }
-    ListsAnswer::Listed(sizes.u, sizes.v)
+    Ok(())
 }
 
 // How many keys the list call writes for a tree, or why it cannot: both slices are room for the work, and 0 throughout after it.
@@ -131,20 +112,21 @@ pub fn get_list_sizes(
     total: &[usize],
     links: &mut [usize],
     row: &mut [u64],
-) -> ListsAnswer
+) -> Result<Sizes, Refusal>
     ensures answer { result ≡ sizes_answer axes (columns key.now own.now begin.now total.now)
         (length links.old) (length row.old) }
     ensures links { links.new ≡ replicate (length links.old) 0 }
     ensures row { row.new ≡ replicate (length row.old) 0 }
 {
     let checked = room_outcome(axes, key, own, begin, total, links.len(), row.len());
-    if let Outcome::Refused(refusal) = checked {
+    if let Err(refusal) = checked {
         slices::clear_usize(links);
         slices::clear(row);
-        return ListsAnswer::Refused(refusal);
+        return Err(refusal);
     }
     let sizes = count_lists(axes, key, own, total, links, row);
     slices::clear_usize(links);
     slices::clear(row);
-    answer_of(sizes)
+    lists::check_room(sizes, MOST_KEYS, MOST_KEYS)?;
+    Ok(sizes)
 }

@@ -6,33 +6,18 @@ use std::io;
 use std::io::Print;
 use whole_input::read_full;
 
-// A file's number, and its listing.
-fn write_listing(
-    rt: &impl Print,
-    number: u64,
-    whole: bool,
-    file: &[u8],
-    out: &mut [u8],
-) -> io::Result<()> {
-    println!(rt; "file {number}")?;
-    if !whole {
-        println!(rt; "not whole")?;
-        return Ok(());
-    }
-    printing::print_listing(rt, file, out)
-}
-
-// Answers each file of a container.
+// Answers each file of a container: its number, and its listing.
 fn replay(rt: &impl Print, s: &[u8], out: &mut [u8]) -> io::Result<()> {
     let mut number: u64 = 0;
     let mut at: usize = 0;
     while at < s.len() {
-        let part = container::part_at(s, at);
-        let start = part.start;
-        let end = part.end;
-        write_listing(rt, number, part.whole, &s[start..end], out)?;
+        println!(rt; "file {number}")?;
+        let Some(part) = container::part_at(s, at) else {
+            return println!(rt; "not whole");
+        };
+        printing::print_listing(rt, &s[part.start..part.end], out)?;
         number += 1;
-        at = end;
+        at = part.end;
     }
     Ok(())
 }

@@ -7,12 +7,21 @@ use native.Mathlib.Omega.{arith}
 use native.Mathlib.Decide.{dec_lt}
 use lib.ListN.{length, take, replicate, length-append}
 use lib.Seq.{take-append-le, length-take-le}
-use borrow.Author.Tests.{le-leb, lt-leb}
+use borrow.Author.Tests.{le-leb, lt-leb, leb-true}
 use Rattle.slices.proofs.Tests.{clash}
+use lib.Dec.{leb}
+use Rattle.std.specs.Prelude.{Err, Ok}
+use Rattle.refusal.specs.declared.Refusal.{Refusal}
+use Rattle.refusal.specs.declared.Refusal.TheVariants.{Room}
+use Rattle.refusal.specs.Chain.{ask, ◌then◌}
+use Rattle.refusal.specs.Outcome.{accepted}
+use Rattle.refusal.proofs.Chain.{asked, never}
+use Rattle.refusal.proofs.Chain as chain
+use Rattle.node_rows.specs.declared.Sizes.{Sizes}
 use Rattle.rows.specs.Written.{row_starts, row_keys, keys_room}
 use Rattle.lists.specs.Written.{WritesRows, WritesList}
 use Rattle.lists.proofs.Writing.{starts-length}
-use Rattle.lists.specs.Halves.{upper, lower, half_of, first_of, has_room, Cleared, WritesTwo, WritesBoth, EndsOf}
+use Rattle.lists.specs.Halves.{upper, lower, half_of, first_of, has_room, Cleared, WritesTwo, WritesBoth, room_check, both_sizes}
 
 take-map : (f : ℕ → ℕ) (n : ℕ) (l : List ℕ) → take n (map f l) ≡ map f (take n l)
 take-map f zero l = refl
@@ -49,22 +58,15 @@ module _ (row : ℕ → List ℕ) (keys starts e : List ℕ) (n room len : ℕ) 
         cleared = λ q. absurd (clash refl q);
       }
 
--- ---- nothing kept
-half-none : (half : ℕ → ℕ) (n : ℕ) (both : List ℕ) (len : ℕ) → n ≡ 0 → half_of half n both len ≡ replicate len 0
-half-none half n both len e = let z : len - 0 ≡ len = omega arith in ap (λ (k : ℕ). half_of half k both len) e ∙ ap (λ (k : ℕ). replicate k 0) z
-
-first-none : (n : ℕ) (xs : List ℕ) → n ≡ 0 → first_of n xs ≡ replicate (length xs) 0
-first-none n xs e = let z : length xs - 0 ≡ length xs = omega arith in ap (λ (k : ℕ). first_of k xs) e ∙ ap (λ (k : ℕ). replicate k 0) z
-
 -- ---- both
 module _ (u v : ℕ → List ℕ) (keys : List ℕ) (up ul vp vl : ℕ) (us uk vs vk : List ℕ) where
-  u-none : has_room u keys ul ≡ false → Cleared up ul vp vl us uk vs vk → WritesBoth u v keys up ul vp vl us uk vs vk 6
+  u-none : has_room u keys ul ≡ false → Cleared up ul vp vl us uk vs vk → WritesBoth u v keys up ul vp vl us uk vs vk (Err (Room 6))
   u-none h z = record { u_short = λ _. (refl, z); v_short = λ t _. absurd (clash t h); written = λ t _. absurd (clash t h) }
 
-  v-none : has_room u keys ul ≡ true → has_room v keys vl ≡ false → Cleared up ul vp vl us uk vs vk → WritesBoth u v keys up ul vp vl us uk vs vk 7
+  v-none : has_room u keys ul ≡ true → has_room v keys vl ≡ false → Cleared up ul vp vl us uk vs vk → WritesBoth u v keys up ul vp vl us uk vs vk (Err (Room 7))
   v-none g h z = record { u_short = λ f. absurd (clash g f); v_short = λ _ _. (refl, z); written = λ _ t. absurd (clash t h) }
 
-  both-done : WritesList u keys up ul us uk true → WritesList v keys vp vl vs vk true → WritesBoth u v keys up ul vp vl us uk vs vk 0
+  both-done : WritesList u keys up ul us uk true → WritesList v keys vp vl vs vk true → WritesBoth u v keys up ul vp vl us uk vs vk (Ok (both_sizes u v keys))
   both-done a b = record {
     u_short = λ f. absurd (clash (sym a.fits) f);
     v_short = λ _ f. absurd (clash (sym b.fits) f);
@@ -81,7 +83,7 @@ module _ (u v : ℕ → List ℕ) (keys starts uk vk : List ℕ) (n m ur ul vr v
       → (us' ≡ map upper (take (length keys + 1) starts) ++ replicate (length starts - (length keys + 1)) 0)
       × (vs' ≡ map lower (take (length keys + 1) starts) ++ replicate (places - (length keys + 1)) 0)
       → (uk' ≡ take n (uk ++ urest) ++ replicate (length (uk ++ urest) - n) 0) × (vk' ≡ take m (vk ++ vrest) ++ replicate (length (vk ++ vrest) - m) 0)
-      → WritesBoth u v keys up ul vp vl us' uk' vs' vk' 0
+      → WritesBoth u v keys up ul vp vl us' uk' vs' vk' (Ok (both_sizes u v keys))
   both-finished h k up vp places urest vrest us' uk' vs' vk' ua va ub vb f g =
       both-done u v keys up ul vp vl us' uk' vs' vk'
       (list_done u keys (map upper starts) uk n ur ul w.near su cu h up (length starts) urest uk' (map upper (take (length keys + 1) starts)) us' ua ub g.0
@@ -89,35 +91,53 @@ module _ (u v : ℕ → List ℕ) (keys starts uk vk : List ℕ) (n m ur ul vr v
       (list_done v keys (map lower starts) vk m vr vl (v-rows h) sv cv k vp places vrest vk' (map lower (take (length keys + 1) starts)) vs' va vb g.1
       (half-begins lower v keys starts ((v-rows h).begins (omega arith))) f.1)
 
-  -- and of what is kept
-  module _ (short n' u' v' : ℕ) (ends : EndsOf ur vr n m (length keys + 1) short n' u' v') (up vp places : ℕ) (urest vrest us' uk' vs' vk' : List ℕ)
-      (ua : ur + length urest ≡ ul) (va : vr + length vrest ≡ vl) (ub : length starts ≡ up) (vb : places ≡ vp)
-      (f : (us' ≡ half_of upper n' starts (length starts)) × (vs' ≡ half_of lower n' starts places)) (g : (uk' ≡ first_of u' (uk ++ urest)) × (vk' ≡ first_of v' (vk ++ vrest))) where
-    none : n' ≡ 0 → u' ≡ 0 → v' ≡ 0 → Cleared up ul vp vl us' uk' vs' vk'
-    none a b c = (
-      f.0 ∙ half-none upper n' starts (length starts) a ∙ ap (λ (k : ℕ). replicate k 0) ub,
-      g.0 ∙ first-none u' (uk ++ urest) b ∙ ap (λ (k : ℕ). replicate k 0) (length-append uk urest ∙ ap (λ (k : ℕ). k + length urest) su ∙ ua),
-      f.1 ∙ half-none lower n' starts places a ∙ ap (λ (k : ℕ). replicate k 0) vb,
-      g.1 ∙ first-none v' (vk ++ vrest) c ∙ ap (λ (k : ℕ). replicate k 0) (length-append vk vrest ∙ ap (λ (k : ℕ). k + length vrest) sv ∙ va),
-    )
+  -- and where a slice is short
+  pub both-short : (r : Refusal) → room_check n m ur vr ≡ Err r → (up vp places : ℕ) (urest vrest us' uk' vs' vk' : List ℕ) → ur + length urest ≡ ul → vr + length vrest ≡ vl → length starts ≡ up → places ≡ vp
+      → us' ≡ replicate (length starts) 0 → uk' ≡ replicate (length (uk ++ urest)) 0 → vs' ≡ replicate places 0 → vk' ≡ replicate (length (vk ++ vrest)) 0
+      → WritesBoth u v keys up ul vp vl us' uk' vs' vk' (Err r)
+  both-short r e up vp places urest vrest us' uk' vs' vk' ua va ub vb a b c f = go (dec_lt ur n) (dec_lt vr m)
+    where
+      zeros : Cleared up ul vp vl us' uk' vs' vk'
+      zeros = (
+        a ∙ ap (λ (k : ℕ). replicate k 0) ub,
+        b ∙ ap (λ (k : ℕ). replicate k 0) (length-append uk urest ∙ ap (λ (k : ℕ). k + length urest) su ∙ ua),
+        c ∙ ap (λ (k : ℕ). replicate k 0) vb,
+        f ∙ ap (λ (k : ℕ). replicate k 0) (length-append vk vrest ∙ ap (λ (k : ℕ). k + length vrest) sv ∙ va),
+      )
 
-    go : Dec (ur < n) → Dec (vr < m) → WritesBoth u v keys up ul vp vl us' uk' vs' vk' short
-    go (yes h) k =
-        let (s, a, b, c) = ends.u_short h in
-        subst (λ r. WritesBoth u v keys up ul vp vl us' uk' vs' vk' r) (sym s) (u-none u v keys up ul vp vl us' uk' vs' vk' (no_room u keys (map upper starts) uk n ur ul w.near su cu h) (none a b c))
-    go (no h) (yes k) =
-        let low : n ≤ ur = omega arith in
-        let (s, a, b, c) = ends.v_short low k in
-        subst (λ r. WritesBoth u v keys up ul vp vl us' uk' vs' vk' r) (sym s)
-        (v-none u v keys up ul vp vl us' uk' vs' vk' (in_room u keys (map upper starts) uk n ur ul w.near su cu low) (no_room v keys (map lower starts) vk m vr vl (v-rows low) sv cv k) (none a b c))
-    go (no h) (no k) =
-        let low : n ≤ ur = omega arith in
-        let few : m ≤ vr = omega arith in
-        let (s, a, b, c) = ends.whole low few in
-        subst (λ r. WritesBoth u v keys up ul vp vl us' uk' vs' vk' r) (sym s)
-        (both-finished low few up vp places urest vrest us' uk' vs' vk' ua va ub vb
-        (f.0 ∙ ap (λ (i : ℕ). half_of upper i starts (length starts)) a, f.1 ∙ ap (λ (i : ℕ). half_of lower i starts places) a)
-        (g.0 ∙ ap (λ (i : ℕ). first_of i (uk ++ urest)) b, g.1 ∙ ap (λ (i : ℕ). first_of i (vk ++ vrest)) c))
+      told : (s t : Bool) → leb n ur ≡ s → leb m vr ≡ t → ask s (Room 6) then ask t (Room 7) ≡ Err r
+      told s t p q = sym (ap₂ (λ s t. ask s (Room 6) then ask t (Room 7)) p q) ∙ e
 
-    pub both-ended : WritesBoth u v keys up ul vp vl us' uk' vs' vk' short
-    both-ended = go (dec_lt ur n) (dec_lt vr m)
+      go : Dec (ur < n) → Dec (vr < m) → WritesBoth u v keys up ul vp vl us' uk' vs' vk' (Err r)
+      go (yes h) k =
+          let same : Err (Room 6) ≡ Err r = told false _ (lt-leb n ur h) refl in
+          let q : Room 6 ≡ r = cc in
+          subst (λ (x : Refusal). WritesBoth u v keys up ul vp vl us' uk' vs' vk' (Err x)) q (u-none u v keys up ul vp vl us' uk' vs' vk' (no_room u keys (map upper starts) uk n ur ul w.near su cu h) zeros)
+      go (no h) (yes k) =
+          let low : n ≤ ur = omega arith in
+          let same : Err (Room 7) ≡ Err r = told true false (le-leb n ur low) (lt-leb m vr k) in
+          let q : Room 7 ≡ r = cc in
+          subst (λ (x : Refusal). WritesBoth u v keys up ul vp vl us' uk' vs' vk' (Err x)) q
+          (v-none u v keys up ul vp vl us' uk' vs' vk' (in_room u keys (map upper starts) uk n ur ul w.near su cu low) (no_room v keys (map lower starts) vk m vr vl (v-rows low) sv cv k) zeros)
+      go (no h) (no k) = absurd (never r (sym (told true true (le-leb n ur (omega arith)) (le-leb m vr (omega arith)))))
+
+  -- both have room, and so many keys
+  pub has-both : room_check n m ur vr ≡ accepted → (n ≤ ur) × (m ≤ vr)
+  has-both e =
+      let p = chain.both-done (ask (leb n ur) (Room 6)) (ask (leb m vr) (Room 7)) e in
+      (leb-true n ur (asked _ (Room 6) p.0), leb-true m vr (asked _ (Room 7) p.1))
+
+  sizes_are : n ≤ ur → m ≤ vr → (s : Sizes) → s.u ≡ n → s.v ≡ m → s ≡ both_sizes u v keys
+  sizes_are h k s a b = ap₂ sizes (a ∙ w.near.counted (omega arith)) (b ∙ (v-rows h).counted (omega arith))
+    where
+      sizes : ℕ → ℕ → Sizes
+      sizes n m = record { u = n; v = m }
+
+  pub both-kept : room_check n m ur vr ≡ accepted → (s : Sizes) → s.u ≡ n → s.v ≡ m → (up vp places : ℕ) (urest vrest us' uk' vs' vk' : List ℕ) → ur + length urest ≡ ul → vr + length vrest ≡ vl → length starts ≡ up → places ≡ vp
+      → (us' ≡ half_of upper (length keys + 1) starts (length starts)) × (vs' ≡ half_of lower (length keys + 1) starts places)
+      → (uk' ≡ first_of n (uk ++ urest)) × (vk' ≡ first_of m (vk ++ vrest))
+      → WritesBoth u v keys up ul vp vl us' uk' vs' vk' (Ok s)
+  both-kept e s a b up vp places urest vrest us' uk' vs' vk' ua va ub vb f g =
+      let (h, k) = has-both e in
+      subst (λ (x : Sizes). WritesBoth u v keys up ul vp vl us' uk' vs' vk' (Ok x)) (sym (sizes_are h k s a b))
+      (both-finished h k up vp places urest vrest us' uk' vs' vk' ua va ub vb f g)

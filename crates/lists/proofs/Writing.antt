@@ -1,14 +1,14 @@
 -- Rows written one after the other, with their starts.
-use mathlib.Core.Path.{◌≡◌, refl, sym, ap, ap₂, ◌∙◌, subst}
+use mathlib.Core.Path.{◌≡◌, refl, sym, ap, ◌∙◌}
 use mathlib.Core.List.{List, [], ◌∷◌, ◌++◌, append-nil}
-use Prim.Native.Nat.{ℕ, zero, suc, ◌+◌, ◌-◌, ◌≤◌, ◌<◌, min}
+use Prim.Native.Nat.{ℕ, ◌+◌, ◌≤◌, ◌<◌}
 use native.Mathlib.Omega.{arith}
 use native.Mathlib.Numerals.{add-one}
 use lib.ListN.{length, get_or, take, drop, length-append, length-drop}
 use lib.Seq.{take-suc}
 use Rattle.slices.specs.Lists.{concat_map}
 use Rattle.slices.proofs.Lists.{concat_map-append}
-use Rattle.rows.specs.Written.{starts_from, row_starts, row_keys, keys_room}
+use Rattle.rows.specs.Written.{starts_from, row_keys, keys_room}
 
 pub starts-snoc : (a : ℕ) (row : ℕ → List ℕ) (ks : List ℕ) (k : ℕ) → starts_from a row (ks ++ k ∷ []) ≡ starts_from a row ks ++ (a + length (concat_map row (ks ++ k ∷ []))) ∷ []
 unfolding starts_from concat_map

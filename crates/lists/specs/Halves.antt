@@ -1,6 +1,10 @@
 -- Two starts in one entry: V's in the lower half, U's in the upper one.
-use Rattle.std.specs.Prelude.{Bool, true, false, ◌≡◌, List, map, ◌++◌, ℕ, ◌-◌, ◌/◌, ◌%◌, ◌≤◌, ◌<◌, leb, length, take, replicate}
+use Rattle.std.specs.Prelude.{Bool, true, false, ◌≡◌, List, map, ◌++◌, ℕ, ◌-◌, ◌/◌, ◌%◌, ◌≤◌, ◌<◌, leb, length, take, replicate, Err, Ok}
 use Rattle.rows.specs.Written.{row_keys, keys_room}
+use Rattle.refusal.specs.declared.Refusal.TheVariants.{Room}
+use Rattle.refusal.specs.Chain.{ask, ◌then◌}
+use Rattle.refusal.specs.Outcome.{Answer, Outcome}
+use Rattle.node_rows.specs.declared.Sizes.{Sizes}
 use Rattle.node_rows.specs.Rows.{list_row}
 use Rattle.lists.specs.Written.{WritesRows, WritesList}
 
@@ -41,20 +45,21 @@ has_room row keys len = leb (length (row_keys row keys)) (keys_room len)
 abbrev pub Cleared : (u_places u_len v_places v_len : ℕ) (us uk vs vk : List ℕ) → Type 0
 Cleared u_places u_len v_places v_len us uk vs vk = (us ≡ replicate u_places 0) × (uk ≡ replicate u_len 0) × (vs ≡ replicate v_places 0) × (vk ≡ replicate v_len 0)
 
--- both lists: written whole where both have room (0); else which one has none, U's keys (6) before V's (7), and 0 throughout
-pub record WritesBoth (u v : ℕ → List ℕ) (keys : List ℕ) (u_places u_len v_places v_len : ℕ) (us uk vs vk : List ℕ) (r : ℕ) : Type 0 where
-  pub u_short : has_room u keys u_len ≡ false → (◌≡◌ {A = ℕ} r 6) × Cleared u_places u_len v_places v_len us uk vs vk
-  pub v_short : has_room u keys u_len ≡ true → has_room v keys v_len ≡ false → (◌≡◌ {A = ℕ} r 7) × Cleared u_places u_len v_places v_len us uk vs vk
+-- U's keys and V's have so much room: refused where it is too little, U's (6) before V's (7)
+abbrev pub room_check : (u v u_room v_room : ℕ) → Outcome
+room_check u v u_room v_room = ask (leb u u_room) (Room 6) then ask (leb v v_room) (Room 7)
+
+-- how many keys the rows of all nodes have
+abbrev pub both_sizes : (u v : ℕ → List ℕ) → List ℕ → Sizes
+both_sizes u v keys = record { u = length (row_keys u keys); v = length (row_keys v keys) }
+
+-- both lists: written whole where both have room; else refused, U's keys (6) before V's (7), and 0 throughout
+pub record WritesBoth (u v : ℕ → List ℕ) (keys : List ℕ) (u_places u_len v_places v_len : ℕ) (us uk vs vk : List ℕ) (r : Answer Sizes) : Type 0 where
+  pub u_short : has_room u keys u_len ≡ false → (r ≡ Err (Room 6)) × Cleared u_places u_len v_places v_len us uk vs vk
+  pub v_short : has_room u keys u_len ≡ true → has_room v keys v_len ≡ false → (r ≡ Err (Room 7)) × Cleared u_places u_len v_places v_len us uk vs vk
   pub written : has_room u keys u_len ≡ true → has_room v keys v_len ≡ true
-      → (◌≡◌ {A = ℕ} r 0) × WritesList u keys u_places u_len us uk true × WritesList v keys v_places v_len vs vk true
+      → (r ≡ Ok (both_sizes u v keys)) × WritesList u keys u_places u_len us uk true × WritesList v keys v_places v_len vs vk true
 
 -- U's list and V's of a tree, in four slices
-abbrev pub WritesTree : ℕ → (keys own us uk vs vk us' uk' vs' vk' : List ℕ) → ℕ → Type 0
+abbrev pub WritesTree : ℕ → (keys own us uk vs vk us' uk' vs' vk' : List ℕ) → Answer Sizes → Type 0
 WritesTree d keys own us uk vs vk us' uk' vs' vk' r = WritesBoth (list_row d keys own false) (list_row d keys own true) keys (length us) (length uk) (length vs) (length vk) us' uk' vs' vk' r
-
--- of n starts, u keys and v keys, where U's keys and V's have so much room: all are kept, or none, and which slice is short
-pub record EndsOf (ur vr u v n short n' u' v' : ℕ) : Type 0 where
-  pub u_short : ur < u → (short ≡ 6) × (n' ≡ 0) × (u' ≡ 0) × (v' ≡ 0)
-  pub v_short : u ≤ ur → vr < v → (short ≡ 7) × (n' ≡ 0) × (u' ≡ 0) × (v' ≡ 0)
-  pub whole : u ≤ ur → v ≤ vr → (short ≡ 0) × (n' ≡ n) × (u' ≡ u) × (v' ≡ v)
-  pub few : n' ≤ n

@@ -8,11 +8,12 @@ ghost use Rattle.tree.specs.WellFormed.{totals_right};
 ghost use Rattle.tree.specs.WellFormed.{SoundTree};
 ghost use Rattle.rows.specs.Written.{keys_room};
 ghost use Rattle.links.specs.Links.{LinkedTree};
-ghost use Rattle.lists.specs.Halves.{RowsRoom, WritesLists, WritesTree, EndsOf};
+ghost use Rattle.lists.specs.Halves.{RowsRoom, WritesLists, WritesTree, room_check};
 ghost use Rattle.node_rows.specs.Stack.{Ready};
 
 pub use node_rows::Sizes;
 use node_rows::{HELD_ROOM, STACK_ROOM};
+use refusal::Refusal;
 use starts::HALF;
 
 pub const MOST_KEYS: usize = 16777216;
@@ -37,16 +38,14 @@ fn fill_rows(
     starts[0] = 0;
     starts[1] = 0;
     let mut sizes = Sizes { u: 0, v: 0 };
-    let mut i: usize = 1;
-    while i < key.len() {
+    for i in 1..key.len() {
         sizes = node_rows::put_node(
             axes, key, own, total, links, i, sizes, stack, held, u_keys, v_keys,
         );
         if u_keys.len() < sizes.u {
             return sizes;
         }
-        i += 1;
-        starts[i] = sizes.v + sizes.u * HALF;
+        starts[i + 1] = sizes.v + sizes.u * HALF;
     }
     sizes
 }
@@ -77,50 +76,23 @@ pub fn write_rows(
 fn room_of(len: usize) -> usize
     ensures { result ≡ keys_room len }
 {
-    if len < MOST_KEYS {
-        return len;
-    }
-    MOST_KEYS
+    len.min(MOST_KEYS)
 }
 
-// What is kept of the starts and of each list's keys, and which slice of keys is short: 6 U's, 7 V's, or 0.
-#[derive(Clone, Copy)]
-struct Ends {
-    short: u64,
-    starts: usize,
-    u: usize,
-    v: usize,
-}
-
-// All is kept where both lists have room, else nothing.
-fn ends_of(starts: usize, u_room: usize, v_room: usize, sizes: Sizes) -> Ends
-    ensures { EndsOf u_room v_room sizes.u sizes.v starts result.short result.starts result.u result.v }
+// Refused where the slices of keys have too little room for so many, U's before V's.
+pub fn check_room(sizes: Sizes, u_room: usize, v_room: usize) -> Result<(), Refusal>
+    ensures { result ≡ room_check sizes.u sizes.v u_room v_room }
 {
     if u_room < sizes.u {
-        return Ends {
-            short: 6,
-            starts: 0,
-            u: 0,
-            v: 0,
-        };
+        return Err(Refusal::Room(6));
     }
     if v_room < sizes.v {
-        return Ends {
-            short: 7,
-            starts: 0,
-            u: 0,
-            v: 0,
-        };
+        return Err(Refusal::Room(7));
     }
-    Ends {
-        short: 0,
-        starts: starts,
-        u: sizes.u,
-        v: sizes.v,
-    }
+    Ok(())
 }
 
-// Writes both lists whole, with 0 in the unused rests, and answers 0; or says which slice of keys is short, 6 U's, 7 V's, and leaves 0 throughout.
+// Writes both lists whole, with 0 in the unused rests, and answers how many keys each has; where a slice of keys is short it is refused, and leaves 0 throughout.
 // V's starts hold the links until both lists stand.
 pub fn write_lists(
     axes: usize,
@@ -131,7 +103,7 @@ pub fn write_lists(
     u_keys: &mut [u64],
     v_starts: &mut [usize],
     v_keys: &mut [u64],
-) -> u64
+) -> Result<Sizes, Refusal>
     requires { SoundTree axes key.now own.now × (length key.now < length u_starts.old) × (length key.now < length v_starts.old)
         × (totals_right axes key.now own.now total.now ≡ true) }
     ensures { WritesTree axes key.now own.now u_starts.old u_keys.old v_starts.old v_keys.old
@@ -150,15 +122,11 @@ pub fn write_lists(
         &mut u_keys[..u_room],
         &mut v_keys[..v_room],
     );
-    let ends = ends_of(key.len() + 1, u_room, v_room, sizes);
-    starts::finish(
-        u_starts,
-        u_keys,
-        v_starts,
-        v_keys,
-        ends.starts,
-        ends.u,
-        ends.v,
-    );
-    ends.short
+    if let Err(refusal) = check_room(sizes, u_room, v_room) {
+        sourced::clear_lists(u_starts, u_keys, v_starts, v_keys);
+        return Err(refusal);
+    }
+    let places = key.len() + 1;
+    starts::finish(u_starts, u_keys, v_starts, v_keys, places, sizes.u, sizes.v);
+    Ok(sizes)
 }

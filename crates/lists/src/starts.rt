@@ -10,12 +10,10 @@ fn part_starts(both: &mut [usize], low: &mut [usize], n: usize)
     requires { (n ≤ length both.old) × (n ≤ length low.old) }
     ensures { (take n both.new ≡ map upper (take n both.old)) × (take n low.new ≡ map lower (take n both.old)) }
 {
-    let mut i: usize = 0;
-    while i < n {
+    for i in 0..n {
         let x = both[i];
         both[i] = x / HALF;
         low[i] = x % HALF;
-        i += 1;
     }
 }
 

@@ -2,9 +2,10 @@
 ghost use Rattle.std.specs.Prelude.{◌≡◌, length, replicate};
 ghost use Rattle.tree.specs.Columns.{columns};
 ghost use Rattle.balanced.specs.Outcomes.{rooms, balance_answer, order_left, keys_left, own_left, begins_left, totals_left};
+ghost use Rattle.refusal.specs.Outcome.{ending, answer_or};
 ghost use Rattle.exports_keys.specs.Told.{told};
 ghost use Rattle.exports_points.specs.Boxes.{box_at};
-ghost use Rattle.exports_balance.specs.Told.{balanced_end, nodes_in, depth_in};
+ghost use Rattle.exports_balance.specs.Told.{no_tree};
 
 use exports_keys::Ended;
 
@@ -29,7 +30,7 @@ pub extern "C" fn lohandema_balance_tree(
     nodes: &mut usize,
     depth: &mut u64,
 ) -> Ended
-    ensures ended { result ≡ told (balanced_end (balance_answer
+    ensures ended { result ≡ told (ending (balance_answer
         (box_at centre.now radius axes) points.now (columns key.now own.now begin.now total.now) indices.now
         (rooms work.old new_indices.old new_key.old new_own.old new_begin.old new_total.old))) }
     ensures work { work.new ≡ replicate (length work.old) 0 }
@@ -48,12 +49,12 @@ pub extern "C" fn lohandema_balance_tree(
     ensures new_total { new_total.new ≡ totals_left
         (box_at centre.now radius axes) points.now (columns key.now own.now begin.now total.now) indices.now
         (rooms work.old new_indices.old new_key.old new_own.old new_begin.old new_total.old) }
-    ensures nodes { nodes.new ≡ nodes_in (balance_answer
+    ensures nodes { nodes.new ≡ (answer_or no_tree (balance_answer
         (box_at centre.now radius axes) points.now (columns key.now own.now begin.now total.now) indices.now
-        (rooms work.old new_indices.old new_key.old new_own.old new_begin.old new_total.old)) }
-    ensures depth { depth.new ≡ depth_in (balance_answer
+        (rooms work.old new_indices.old new_key.old new_own.old new_begin.old new_total.old))).nodes }
+    ensures depth { depth.new ≡ (answer_or no_tree (balance_answer
         (box_at centre.now radius axes) points.now (columns key.now own.now begin.now total.now) indices.now
-        (rooms work.old new_indices.old new_key.old new_own.old new_begin.old new_total.old)) }
+        (rooms work.old new_indices.old new_key.old new_own.old new_begin.old new_total.old))).depth }
 {
     exports_balance::lohandema_balance_tree(
         centre,

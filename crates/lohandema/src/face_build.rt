@@ -2,9 +2,10 @@
 ghost use Rattle.std.specs.Prelude.{◌≡◌, length, replicate};
 ghost use Rattle.build.specs.Asked.{asks_for, asks_on_grid};
 ghost use Rattle.build.specs.Outcomes.{rooms, build_answer, order_left, keys_left, own_left, begins_left, totals_left};
+ghost use Rattle.refusal.specs.Outcome.{ending, answer_or};
 ghost use Rattle.exports_keys.specs.Told.{told};
 ghost use Rattle.exports_points.specs.Boxes.{box_at};
-ghost use Rattle.exports_build.specs.Told.{grid_at, built_end, nodes_in, depth_in};
+ghost use Rattle.exports_build.specs.Told.{grid_at, no_tree};
 
 use exports_keys::Ended;
 
@@ -29,7 +30,7 @@ pub extern "C" fn lohandema_build_tree(
     nodes: &mut usize,
     depth: &mut u64,
 ) -> Ended
-    ensures ended { result ≡ told (built_end (build_answer (asks_for (box_at centre.now radius axes) sources.now targets.now limit order keep refine)
+    ensures ended { result ≡ told (ending (build_answer (asks_for (box_at centre.now radius axes) sources.now targets.now limit order keep refine)
         (rooms work.old indices.old key.old own.old begin.old total.old))) }
     ensures work { work.new ≡ replicate (length work.old) 0 }
     ensures indices { indices.new ≡ order_left (asks_for (box_at centre.now radius axes) sources.now targets.now limit order keep refine)
@@ -42,10 +43,10 @@ pub extern "C" fn lohandema_build_tree(
         (rooms work.old indices.old key.old own.old begin.old total.old) }
     ensures total { total.new ≡ totals_left (asks_for (box_at centre.now radius axes) sources.now targets.now limit order keep refine)
         (rooms work.old indices.old key.old own.old begin.old total.old) }
-    ensures nodes { nodes.new ≡ nodes_in (build_answer (asks_for (box_at centre.now radius axes) sources.now targets.now limit order keep refine)
-        (rooms work.old indices.old key.old own.old begin.old total.old)) }
-    ensures depth { depth.new ≡ depth_in (build_answer (asks_for (box_at centre.now radius axes) sources.now targets.now limit order keep refine)
-        (rooms work.old indices.old key.old own.old begin.old total.old)) }
+    ensures nodes { nodes.new ≡ (answer_or no_tree (build_answer (asks_for (box_at centre.now radius axes) sources.now targets.now limit order keep refine)
+        (rooms work.old indices.old key.old own.old begin.old total.old))).nodes }
+    ensures depth { depth.new ≡ (answer_or no_tree (build_answer (asks_for (box_at centre.now radius axes) sources.now targets.now limit order keep refine)
+        (rooms work.old indices.old key.old own.old begin.old total.old))).depth }
 {
     exports_build::lohandema_build_tree(
         centre, radius, axes, sources, targets, limit, order, keep, refine, work, indices, key,
@@ -76,7 +77,7 @@ pub extern "C" fn lohandema_build_tree_on_grid(
     nodes: &mut usize,
     depth: &mut u64,
 ) -> Ended
-    ensures ended { result ≡ told (built_end (build_answer
+    ensures ended { result ≡ told (ending (build_answer
         (asks_on_grid (box_at centre.now radius axes) sources.now (grid_at origin.now spacing.now shape.now) limit order keep refine)
         (rooms work.old indices.old key.old own.old begin.old total.old))) }
     ensures work { work.new ≡ replicate (length work.old) 0 }
@@ -95,12 +96,12 @@ pub extern "C" fn lohandema_build_tree_on_grid(
     ensures total { total.new ≡ totals_left
         (asks_on_grid (box_at centre.now radius axes) sources.now (grid_at origin.now spacing.now shape.now) limit order keep refine)
         (rooms work.old indices.old key.old own.old begin.old total.old) }
-    ensures nodes { nodes.new ≡ nodes_in (build_answer
+    ensures nodes { nodes.new ≡ (answer_or no_tree (build_answer
         (asks_on_grid (box_at centre.now radius axes) sources.now (grid_at origin.now spacing.now shape.now) limit order keep refine)
-        (rooms work.old indices.old key.old own.old begin.old total.old)) }
-    ensures depth { depth.new ≡ depth_in (build_answer
+        (rooms work.old indices.old key.old own.old begin.old total.old))).nodes }
+    ensures depth { depth.new ≡ (answer_or no_tree (build_answer
         (asks_on_grid (box_at centre.now radius axes) sources.now (grid_at origin.now spacing.now shape.now) limit order keep refine)
-        (rooms work.old indices.old key.old own.old begin.old total.old)) }
+        (rooms work.old indices.old key.old own.old begin.old total.old))).depth }
 {
     exports_build::lohandema_build_tree_on_grid(
         centre, radius, axes, sources, origin, spacing, shape, limit, order, keep, refine, work,

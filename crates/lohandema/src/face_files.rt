@@ -1,9 +1,9 @@
 // The writer of tree files for C.
 ghost use Rattle.std.specs.Prelude.{◌≡◌, length};
 ghost use Rattle.tree_file.specs.Contents.{contents};
+ghost use Rattle.refusal.specs.Outcome.{ending, answer_or};
 ghost use Rattle.write_file.specs.Answers.{write_answer, write_left};
 ghost use Rattle.exports_keys.specs.Told.{told};
-ghost use Rattle.exports_files.specs.Told.{written_end, length_in};
 
 use exports_keys::Ended;
 
@@ -23,9 +23,9 @@ pub extern "C" fn lohandema_write_tree(
     file: &mut [u8],
     written: &mut usize,
 ) -> Ended
-    ensures ended { result ≡ told (written_end (write_answer (contents axes key.now own.now begin.now total.now indices.now
+    ensures ended { result ≡ told (ending (write_answer (contents axes key.now own.now begin.now total.now indices.now
         u_starts.now u_keys.now v_starts.now v_keys.now) (length file.old))) }
-    ensures written { written.new ≡ length_in (write_answer (contents axes key.now own.now begin.now total.now indices.now
+    ensures written { written.new ≡ answer_or 0 (write_answer (contents axes key.now own.now begin.now total.now indices.now
         u_starts.now u_keys.now v_starts.now v_keys.now) (length file.old)) }
     ensures file { file.new ≡ write_left (contents axes key.now own.now begin.now total.now indices.now
         u_starts.now u_keys.now v_starts.now v_keys.now) (length file.old) }

@@ -3,9 +3,10 @@ ghost use Rattle.std.specs.Prelude.{◌≡◌, length, replicate};
 ghost use Rattle.tree.specs.Columns.{columns};
 ghost use Rattle.build.specs.Outcomes.{rooms};
 ghost use Rattle.one_more.specs.More.{asks_more, more_answer, order_more, keys_more, own_more, begins_more, totals_more};
+ghost use Rattle.refusal.specs.Outcome.{ending, answer_or};
 ghost use Rattle.exports_keys.specs.Told.{told};
 ghost use Rattle.exports_points.specs.Boxes.{box_at};
-ghost use Rattle.exports_build.specs.Told.{built_end, nodes_in, depth_in};
+ghost use Rattle.exports_build.specs.Told.{no_tree};
 
 use exports_keys::Ended;
 
@@ -33,7 +34,7 @@ pub extern "C" fn lohandema_add_source(
     nodes: &mut usize,
     depth: &mut u64,
 ) -> Ended
-    ensures ended { result ≡ told (built_end (more_answer
+    ensures ended { result ≡ told (ending (more_answer
         (asks_more (box_at centre.now radius axes) sources.now point.now limit keep
         (columns key.now own.now begin.now total.now) indices.now)
         (rooms work.old new_indices.old new_key.old new_own.old new_begin.old new_total.old))) }
@@ -58,14 +59,14 @@ pub extern "C" fn lohandema_add_source(
         (asks_more (box_at centre.now radius axes) sources.now point.now limit keep
         (columns key.now own.now begin.now total.now) indices.now)
         (rooms work.old new_indices.old new_key.old new_own.old new_begin.old new_total.old) }
-    ensures nodes { nodes.new ≡ nodes_in (more_answer
+    ensures nodes { nodes.new ≡ (answer_or no_tree (more_answer
         (asks_more (box_at centre.now radius axes) sources.now point.now limit keep
         (columns key.now own.now begin.now total.now) indices.now)
-        (rooms work.old new_indices.old new_key.old new_own.old new_begin.old new_total.old)) }
-    ensures depth { depth.new ≡ depth_in (more_answer
+        (rooms work.old new_indices.old new_key.old new_own.old new_begin.old new_total.old))).nodes }
+    ensures depth { depth.new ≡ (answer_or no_tree (more_answer
         (asks_more (box_at centre.now radius axes) sources.now point.now limit keep
         (columns key.now own.now begin.now total.now) indices.now)
-        (rooms work.old new_indices.old new_key.old new_own.old new_begin.old new_total.old)) }
+        (rooms work.old new_indices.old new_key.old new_own.old new_begin.old new_total.old))).depth }
 {
     exports_more::lohandema_add_source(
         centre,

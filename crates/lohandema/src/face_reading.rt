@@ -1,9 +1,11 @@
 // The reader of tree files for C.
 ghost use Rattle.std.specs.Prelude.{◌≡◌, length};
+ghost use Rattle.refusal.specs.Outcome.{ending, answer_or};
 ghost use Rattle.tree_file.specs.Trailer.{tree_in};
 ghost use Rattle.file_judged.specs.Rooms.{rooms};
 ghost use Rattle.read_file.specs.Answers.{reading_answer, reading_left};
 ghost use Rattle.exports_keys.specs.Told.{told};
+ghost use Rattle.exports_reading.specs.Told.{no_tree};
 
 use exports_keys::Ended;
 
@@ -26,18 +28,18 @@ pub extern "C" fn lohandema_read_tree(
     u: &mut usize,
     v: &mut usize,
 ) -> Ended
-    ensures ended { result ≡ told (reading_answer file.now (rooms indices.old key.old own.old begin.old total.old
-        u_starts.old u_keys.old v_starts.old v_keys.old)).outcome }
-    ensures axes { axes.new ≡ (reading_answer file.now (rooms indices.old key.old own.old begin.old total.old
-        u_starts.old u_keys.old v_starts.old v_keys.old)).axes }
-    ensures nodes { nodes.new ≡ (reading_answer file.now (rooms indices.old key.old own.old begin.old total.old
-        u_starts.old u_keys.old v_starts.old v_keys.old)).nodes }
-    ensures sources { sources.new ≡ (reading_answer file.now (rooms indices.old key.old own.old begin.old total.old
-        u_starts.old u_keys.old v_starts.old v_keys.old)).sources }
-    ensures u { u.new ≡ (reading_answer file.now (rooms indices.old key.old own.old begin.old total.old
-        u_starts.old u_keys.old v_starts.old v_keys.old)).u }
-    ensures v { v.new ≡ (reading_answer file.now (rooms indices.old key.old own.old begin.old total.old
-        u_starts.old u_keys.old v_starts.old v_keys.old)).v }
+    ensures ended { result ≡ told (ending (reading_answer file.now (rooms indices.old key.old own.old begin.old total.old
+        u_starts.old u_keys.old v_starts.old v_keys.old))) }
+    ensures axes { axes.new ≡ (answer_or no_tree (reading_answer file.now (rooms indices.old key.old own.old begin.old total.old
+        u_starts.old u_keys.old v_starts.old v_keys.old))).axes }
+    ensures nodes { nodes.new ≡ (answer_or no_tree (reading_answer file.now (rooms indices.old key.old own.old begin.old total.old
+        u_starts.old u_keys.old v_starts.old v_keys.old))).nodes }
+    ensures sources { sources.new ≡ (answer_or no_tree (reading_answer file.now (rooms indices.old key.old own.old begin.old total.old
+        u_starts.old u_keys.old v_starts.old v_keys.old))).sources }
+    ensures u { u.new ≡ (answer_or no_tree (reading_answer file.now (rooms indices.old key.old own.old begin.old total.old
+        u_starts.old u_keys.old v_starts.old v_keys.old))).u }
+    ensures v { v.new ≡ (answer_or no_tree (reading_answer file.now (rooms indices.old key.old own.old begin.old total.old
+        u_starts.old u_keys.old v_starts.old v_keys.old))).v }
     ensures indices { indices.new ≡ reading_left file.now (rooms indices.old key.old own.old begin.old total.old
         u_starts.old u_keys.old v_starts.old v_keys.old) (length indices.old) (tree_in file.now).order }
     ensures key { key.new ≡ reading_left file.now (rooms indices.old key.old own.old begin.old total.old

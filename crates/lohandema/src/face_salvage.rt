@@ -3,8 +3,9 @@ ghost use Rattle.std.specs.Prelude.{◌≡◌};
 ghost use Rattle.salvaged.specs.Nodes.{input};
 ghost use Rattle.salvaged.specs.Answers.{salvage_answer, order_left, keys_left, own_left, begins_left, totals_left, codes_left, changed_left};
 ghost use Rattle.salvage.specs.Rooms.{rooms};
+ghost use Rattle.refusal.specs.Outcome.{ending, answer_or};
 ghost use Rattle.exports_keys.specs.Told.{told};
-ghost use Rattle.exports_salvage.specs.Told.{salvaged_end, nodes_in, sources_in, changes_in};
+ghost use Rattle.exports_salvage.specs.Told.{no_salvage};
 
 use exports_keys::Ended;
 
@@ -27,7 +28,7 @@ pub extern "C" fn lohandema_salvage(
     sources: &mut usize,
     changes: &mut usize,
 ) -> Ended
-    ensures ended { result ≡ told (salvaged_end (salvage_answer (input axes key.now own.now begin.now indices.now)
+    ensures ended { result ≡ told (ending (salvage_answer (input axes key.now own.now begin.now indices.now)
         (rooms new_indices.old new_key.old new_own.old new_begin.old new_total.old codes.old changed.old))) }
     ensures new_indices { new_indices.new ≡ order_left (input axes key.now own.now begin.now indices.now)
         (rooms new_indices.old new_key.old new_own.old new_begin.old new_total.old codes.old changed.old) }
@@ -43,12 +44,12 @@ pub extern "C" fn lohandema_salvage(
         (rooms new_indices.old new_key.old new_own.old new_begin.old new_total.old codes.old changed.old) }
     ensures changed { changed.new ≡ changed_left (input axes key.now own.now begin.now indices.now)
         (rooms new_indices.old new_key.old new_own.old new_begin.old new_total.old codes.old changed.old) }
-    ensures nodes { nodes.new ≡ nodes_in (salvage_answer (input axes key.now own.now begin.now indices.now)
-        (rooms new_indices.old new_key.old new_own.old new_begin.old new_total.old codes.old changed.old)) }
-    ensures sources { sources.new ≡ sources_in (salvage_answer (input axes key.now own.now begin.now indices.now)
-        (rooms new_indices.old new_key.old new_own.old new_begin.old new_total.old codes.old changed.old)) }
-    ensures changes { changes.new ≡ changes_in (salvage_answer (input axes key.now own.now begin.now indices.now)
-        (rooms new_indices.old new_key.old new_own.old new_begin.old new_total.old codes.old changed.old)) }
+    ensures nodes { nodes.new ≡ (answer_or no_salvage (salvage_answer (input axes key.now own.now begin.now indices.now)
+        (rooms new_indices.old new_key.old new_own.old new_begin.old new_total.old codes.old changed.old))).nodes }
+    ensures sources { sources.new ≡ (answer_or no_salvage (salvage_answer (input axes key.now own.now begin.now indices.now)
+        (rooms new_indices.old new_key.old new_own.old new_begin.old new_total.old codes.old changed.old))).sources }
+    ensures changes { changes.new ≡ (answer_or no_salvage (salvage_answer (input axes key.now own.now begin.now indices.now)
+        (rooms new_indices.old new_key.old new_own.old new_begin.old new_total.old codes.old changed.old))).changes }
 {
     exports_salvage::lohandema_salvage(
         axes,

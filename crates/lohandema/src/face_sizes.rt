@@ -2,10 +2,10 @@
 ghost use Rattle.std.specs.Prelude.{◌≡◌, length, replicate};
 ghost use Rattle.build.specs.Asked.{asks_for, asks_on_grid};
 ghost use Rattle.node_count.specs.Counts.{nodes_answer};
+ghost use Rattle.refusal.specs.Outcome.{ending, answer_or};
 ghost use Rattle.exports_keys.specs.Told.{told};
 ghost use Rattle.exports_points.specs.Boxes.{box_at};
 ghost use Rattle.exports_build.specs.Told.{grid_at};
-ghost use Rattle.exports_sizes.specs.Told.{count_end, nodes_in};
 
 use exports_keys::Ended;
 
@@ -25,11 +25,11 @@ pub extern "C" fn lohandema_count_nodes(
     indices: &mut [usize],
     nodes: &mut usize,
 ) -> Ended
-    ensures ended { result ≡ told (count_end (nodes_answer (asks_for (box_at centre.now radius axes) sources.now targets.now limit order keep refine)
+    ensures ended { result ≡ told (ending (nodes_answer (asks_for (box_at centre.now radius axes) sources.now targets.now limit order keep refine)
         work.old indices.old)) }
     ensures work { work.new ≡ replicate (length work.old) 0 }
     ensures indices { indices.new ≡ replicate (length indices.old) 0 }
-    ensures nodes { nodes.new ≡ nodes_in (nodes_answer (asks_for (box_at centre.now radius axes) sources.now targets.now limit order keep refine)
+    ensures nodes { nodes.new ≡ answer_or 0 (nodes_answer (asks_for (box_at centre.now radius axes) sources.now targets.now limit order keep refine)
         work.old indices.old) }
 {
     exports_sizes::lohandema_count_nodes(
@@ -55,12 +55,12 @@ pub extern "C" fn lohandema_count_nodes_on_grid(
     indices: &mut [usize],
     nodes: &mut usize,
 ) -> Ended
-    ensures ended { result ≡ told (count_end (nodes_answer
+    ensures ended { result ≡ told (ending (nodes_answer
         (asks_on_grid (box_at centre.now radius axes) sources.now (grid_at origin.now spacing.now shape.now) limit order keep refine)
         work.old indices.old)) }
     ensures work { work.new ≡ replicate (length work.old) 0 }
     ensures indices { indices.new ≡ replicate (length indices.old) 0 }
-    ensures nodes { nodes.new ≡ nodes_in (nodes_answer
+    ensures nodes { nodes.new ≡ answer_or 0 (nodes_answer
         (asks_on_grid (box_at centre.now radius axes) sources.now (grid_at origin.now spacing.now shape.now) limit order keep refine)
         work.old indices.old) }
 {

@@ -1,12 +1,13 @@
 // The sum checks of a leaf and of a survey, the check of lists and the test of an order column for C.
-ghost use Rattle.std.specs.Prelude.{◌≡◌, length, replicate};
+ghost use Rattle.std.specs.Prelude.{◌≡◌, false, length, replicate};
 ghost use Rattle.tree.specs.Columns.{columns};
 ghost use Rattle.sums.specs.Arrangement.{arranges};
 ghost use Rattle.list_check.specs.Answers.{right_answer};
 ghost use Rattle.sum_check.specs.Answers.{sum_answer};
 ghost use Rattle.survey_check.specs.Answers.{survey_answer};
+ghost use Rattle.refusal.specs.Outcome.{ending, answer_or};
 ghost use Rattle.exports_keys.specs.Told.{told};
-ghost use Rattle.exports_sums.specs.Told.{right_end, right_in, sums_end, near_in, far_in, additions_in, survey_end, leaves_in, all_additions_in};
+ghost use Rattle.exports_sums.specs.Told.{no_sums, no_tally};
 
 use exports_keys::Ended;
 
@@ -32,9 +33,9 @@ pub extern "C" fn lohandema_lists_right(
     v_keys: &[u64],
     right: &mut bool,
 ) -> Ended
-    ensures ended { result ≡ told (right_end (right_answer axes (columns key.now own.now begin.now total.now)
+    ensures ended { result ≡ told (ending (right_answer axes (columns key.now own.now begin.now total.now)
         u_starts.now u_keys.now v_starts.now v_keys.now)) }
-    ensures right { right.new ≡ right_in (right_answer axes (columns key.now own.now begin.now total.now)
+    ensures right { right.new ≡ answer_or false (right_answer axes (columns key.now own.now begin.now total.now)
         u_starts.now u_keys.now v_starts.now v_keys.now) }
 {
     exports_sums::lohandema_lists_right(
@@ -61,14 +62,14 @@ pub extern "C" fn lohandema_sum_check(
     far: &mut i64,
     additions: &mut usize,
 ) -> Ended
-    ensures ended { result ≡ told (sums_end (sum_answer axes (columns key.now own.now begin.now total.now)
+    ensures ended { result ≡ told (ending (sum_answer axes (columns key.now own.now begin.now total.now)
         indices.now readings.now node u_starts.now u_keys.now v_starts.now v_keys.now)) }
-    ensures near { near.new ≡ near_in (sum_answer axes (columns key.now own.now begin.now total.now)
-        indices.now readings.now node u_starts.now u_keys.now v_starts.now v_keys.now) }
-    ensures far { far.new ≡ far_in (sum_answer axes (columns key.now own.now begin.now total.now)
-        indices.now readings.now node u_starts.now u_keys.now v_starts.now v_keys.now) }
-    ensures additions { additions.new ≡ additions_in (sum_answer axes (columns key.now own.now begin.now total.now)
-        indices.now readings.now node u_starts.now u_keys.now v_starts.now v_keys.now) }
+    ensures near { near.new ≡ (answer_or no_sums (sum_answer axes (columns key.now own.now begin.now total.now)
+        indices.now readings.now node u_starts.now u_keys.now v_starts.now v_keys.now)).near }
+    ensures far { far.new ≡ (answer_or no_sums (sum_answer axes (columns key.now own.now begin.now total.now)
+        indices.now readings.now node u_starts.now u_keys.now v_starts.now v_keys.now)).far }
+    ensures additions { additions.new ≡ (answer_or no_sums (sum_answer axes (columns key.now own.now begin.now total.now)
+        indices.now readings.now node u_starts.now u_keys.now v_starts.now v_keys.now)).additions }
 {
     exports_sums::lohandema_sum_check(
         axes, key, own, begin, total, indices, readings, u_starts, u_keys, v_starts, v_keys, node,
@@ -94,15 +95,15 @@ pub extern "C" fn lohandema_check_sums(
     leaves: &mut usize,
     additions: &mut usize,
 ) -> Ended
-    ensures ended { result ≡ told (survey_end (survey_answer axes (columns key.now own.now begin.now total.now)
+    ensures ended { result ≡ told (ending (survey_answer axes (columns key.now own.now begin.now total.now)
         indices.now readings.now u_starts.now u_keys.now v_starts.now v_keys.now
         (length sums.old))) }
-    ensures leaves { leaves.new ≡ leaves_in (survey_answer axes (columns key.now own.now begin.now total.now)
+    ensures leaves { leaves.new ≡ (answer_or no_tally (survey_answer axes (columns key.now own.now begin.now total.now)
         indices.now readings.now u_starts.now u_keys.now v_starts.now v_keys.now
-        (length sums.old)) }
-    ensures additions { additions.new ≡ all_additions_in (survey_answer axes (columns key.now own.now begin.now total.now)
+        (length sums.old))).leaves }
+    ensures additions { additions.new ≡ (answer_or no_tally (survey_answer axes (columns key.now own.now begin.now total.now)
         indices.now readings.now u_starts.now u_keys.now v_starts.now v_keys.now
-        (length sums.old)) }
+        (length sums.old))).additions }
     ensures left { sums.new ≡ replicate (length sums.old) 0 }
 {
     exports_sums::lohandema_check_sums(

@@ -7,12 +7,13 @@ ghost use Rattle.tree.specs.WellFormed.{well_formed};
 ghost use Rattle.tree.specs.Sources.{leaf_sources, cell_sources};
 ghost use Rattle.leaf_points.specs.Grouping.{group_outcome, group_starts_left, group_indices_left};
 ghost use Rattle.space.specs.Rows.{rows_of};
-ghost use Rattle.lookup.specs.Batch.{lookup_outcome, lookup_answer, lookup_left};
+ghost use Rattle.lookup.specs.Batch.{lookup_answer, lookup_left};
 ghost use Rattle.lookup.specs.Single.{point_to_leaf};
 ghost use Rattle.sourced.specs.Answers.{cells_answer, cells_left};
+ghost use Rattle.refusal.specs.Outcome.{ending, answer_or};
 ghost use Rattle.exports_keys.specs.Told.{told};
 ghost use Rattle.exports_points.specs.Boxes.{box_at};
-ghost use Rattle.exports_trees.specs.Told.{steps_in, leaf_end, leaf_in, climbed_in, cells_end, cells_in, part_start};
+ghost use Rattle.exports_trees.specs.Told.{no_leaf, part_start};
 
 use exports_keys::Ended;
 
@@ -81,11 +82,11 @@ pub extern "C" fn lohandema_points_to_keys(
     output: &mut [u64],
     steps: &mut usize,
 ) -> Ended
-    ensures ended { result ≡ told (lookup_outcome (box_at centre.now radius axes) (columns key.now own.now begin.now total.now)
-        points.now (length output.old)) }
+    ensures ended { result ≡ told (ending (lookup_answer (box_at centre.now radius axes) (columns key.now own.now begin.now total.now)
+        points.now (length output.old))) }
     ensures output { output.new ≡ lookup_left (box_at centre.now radius axes) (columns key.now own.now begin.now total.now)
         points.now (length output.old) }
-    ensures steps { steps.new ≡ steps_in (lookup_answer (box_at centre.now radius axes) (columns key.now own.now begin.now total.now)
+    ensures steps { steps.new ≡ answer_or 0 (lookup_answer (box_at centre.now radius axes) (columns key.now own.now begin.now total.now)
         points.now (length output.old)) }
     ensures few { steps.new ≤ 15 * rows_of (box_at centre.now radius axes) points.now }
 {
@@ -108,12 +109,12 @@ pub extern "C" fn lohandema_point_to_leaf(
     leaf: &mut u64,
     steps: &mut u64,
 ) -> Ended
-    ensures ended { result ≡ told (leaf_end (point_to_leaf (box_at centre.now radius axes)
+    ensures ended { result ≡ told (ending (point_to_leaf (box_at centre.now radius axes)
         (columns key.now own.now begin.now total.now) point.now)) }
-    ensures leaf { leaf.new ≡ leaf_in (point_to_leaf (box_at centre.now radius axes)
-        (columns key.now own.now begin.now total.now) point.now) }
-    ensures steps { steps.new ≡ climbed_in (point_to_leaf (box_at centre.now radius axes)
-        (columns key.now own.now begin.now total.now) point.now) }
+    ensures leaf { leaf.new ≡ (answer_or no_leaf (point_to_leaf (box_at centre.now radius axes)
+        (columns key.now own.now begin.now total.now) point.now)).key }
+    ensures steps { steps.new ≡ (answer_or no_leaf (point_to_leaf (box_at centre.now radius axes)
+        (columns key.now own.now begin.now total.now) point.now)).steps }
     ensures few { steps.new ≤ 15 }
 {
     exports_trees::lohandema_point_to_leaf(
@@ -154,9 +155,9 @@ pub extern "C" fn lohandema_get_sourced_cells(
     cells: &mut [u64],
     count: &mut usize,
 ) -> Ended
-    ensures ended { result ≡ told (cells_end (cells_answer axes (columns key.now own.now begin.now total.now) (length cells.old))) }
+    ensures ended { result ≡ told (ending (cells_answer axes (columns key.now own.now begin.now total.now) (length cells.old))) }
     ensures cells { cells.new ≡ cells_left axes (columns key.now own.now begin.now total.now) (length cells.old) }
-    ensures count { count.new ≡ cells_in (cells_answer axes (columns key.now own.now begin.now total.now) (length cells.old)) }
+    ensures count { count.new ≡ answer_or 0 (cells_answer axes (columns key.now own.now begin.now total.now) (length cells.old)) }
 {
     exports_trees::lohandema_get_sourced_cells(axes, key, own, begin, total, cells, count)
 }

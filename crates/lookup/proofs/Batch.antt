@@ -1,6 +1,6 @@
 -- A batch of codes: the leaves' keys take the place of the codes, row by row.
 use mathlib.Core.Path.{◌≡◌, refl, sym, ap, ap₂, ◌∙◌}
-use mathlib.Core.Bool.{Bool, true, false}
+use mathlib.Core.Bool.{Bool, true, false, cond}
 use mathlib.Core.List.{List, ◌++◌, map}
 use Prim.Native.Nat.{ℕ, suc, ◌+◌, ◌*◌, ◌-◌, ◌≤◌, ◌<◌}
 use native.Mathlib.Omega.{arith}
@@ -11,29 +11,30 @@ use lib.Seq.{drop-cons, get_or-take, take_all}
 use borrow.Author.Tests.{eq-eqb, ne_eqb}
 use Rattle.slices.specs.Lists.{sum}
 use Rattle.tree.specs.Order.{depth_of}
-use Rattle.lookup.specs.declared.Holder.TheVariants.{Leaf, Unstored}
-use Rattle.lookup.specs.declared.Holders.TheVariants.{All, Missing}
+use Rattle.lookup.specs.declared.Holder.{Holder}
 use Rattle.grouping.proofs.Values.{up_more, up_next}
 use Rattle.grouping.proofs.Passing.{Passed, pass-start, pass-more, pass-stop, pass-done}
 use Rattle.tree.specs.Leaves.{held, leaf_key, steps_to}
-use Rattle.lookup.specs.Lookup.{leaf_or, holder_of}
+use Rattle.lookup.specs.Lookup.{leaf_for, holder_of}
 use Rattle.lookup.specs.Batch.{held_before, leaf_keys, steps_sum}
 use Rattle.lookup.specs.Work.{all_or, holders_of}
+use Rattle.std.specs.Prelude.{Err, Ok, None, Option, Some}
 
 -- ---- one code
 module _ (d : ℕ) (keys : List ℕ) (code : ℕ) where
-  pub holder-leaf : (k s : ℕ) → holder_of d keys code ≡ Leaf k s → (held d keys code ≡ true) × (k ≡ leaf_key d keys code) × (s ≡ steps_to d keys code)
-  holder-leaf k s h = go (held d keys code) refl h
+  pub holder-leaf : (h : Holder) → holder_of d keys code ≡ Some h → (held d keys code ≡ true) × (h.key ≡ leaf_key d keys code) × (h.steps ≡ steps_to d keys code)
+  holder-leaf h e = go (held d keys code) refl e
     where
-      go : (t : Bool) → held d keys code ≡ t → leaf_or t (leaf_key d keys code) (steps_to d keys code) ≡ Leaf k s
-          → (held d keys code ≡ true) × (k ≡ leaf_key d keys code) × (s ≡ steps_to d keys code)
-      go true e g = (e, (cc), (cc))
+      go : (t : Bool) → held d keys code ≡ t → cond t (Some (leaf_for d keys code)) None ≡ Some h → (held d keys code ≡ true) × (h.key ≡ leaf_key d keys code) × (h.steps ≡ steps_to d keys code)
+      go true e g =
+          let same : h ≡ leaf_for d keys code = cc in
+          (e, ap (λ h. h.key) same, ap (λ h. h.steps) same)
       go false e g = let z : ◌≡◌ {A = ℕ} 0 1 = cc in absurd (omega arith)
 
-  pub holder-none : holder_of d keys code ≡ Unstored → held d keys code ≡ false
+  pub holder-none : holder_of d keys code ≡ None → held d keys code ≡ false
   holder-none h = go (held d keys code) refl h
     where
-      go : (t : Bool) → held d keys code ≡ t → leaf_or t (leaf_key d keys code) (steps_to d keys code) ≡ Unstored → held d keys code ≡ false
+      go : (t : Bool) → held d keys code ≡ t → cond t (Some (leaf_for d keys code)) None ≡ None → held d keys code ≡ false
       go true e g = let z : ◌≡◌ {A = ℕ} 0 1 = cc in absurd (omega arith)
       go false e g = e
 
@@ -58,9 +59,6 @@ module _ (d : ℕ) (keys : List ℕ) (n : ℕ) (old : List ℕ) (fits : n ≤ le
         ap (λ (t : List ℕ). get_or t row 0) s.is
         ∙ up_next (leaf_key d keys) row (take n old) old (omega (arith, size)) (omega (arith, size))
         ∙ sym (get_or-take n old row 0 l)
-
-    pub look-room : row < length new
-    look-room = omega (arith, s.kept)
 
     module _ (up : ℕ) (few : depth_of keys ≤ 16) where
       pub look-few : up ≡ steps_to d keys (get_or new row 0) → steps + up ≤ (row + 1) * 16
@@ -89,9 +87,9 @@ module _ (d : ℕ) (keys : List ℕ) (n : ℕ) (old : List ℕ) (fits : n ≤ le
       stop : row ≡ held_before d keys (take n old)
       stop = pass-stop (held d keys) (take n old) row s.passed (omega (arith, size)) (ap (held d keys) (sym look-code) ∙ f)
 
-      pub look-failed : Missing row ≡ holders_of d keys (take n old)
+      pub look-failed : Err row ≡ holders_of d keys (take n old)
       look-failed =
-          ap Missing stop
+          ap Err stop
           ∙ sym (ap (λ b. all_or b (steps_sum d keys (take n old)) (held_before d keys (take n old))) (ne_eqb (held_before d keys (take n old)) (length (take n old)) (λ q. omega (arith, stop, size))))
 
       pub look-short : held_before d keys (take n old) ≡ n → ⊥
@@ -101,14 +99,14 @@ module _ (d : ℕ) (keys : List ℕ) (n : ℕ) (old : List ℕ) (fits : n ≤ le
     all : row ≡ n
     all = omega (arith, s.passed.within, size)
 
-    pub look-ended : All steps ≡ holders_of d keys (take n old)
+    pub look-ended : Ok steps ≡ holders_of d keys (take n old)
     unfolding sum
     look-ended =
         let done : row ≡ held_before d keys (take n old) = pass-done (held d keys) (take n old) row s.passed (omega (arith, size)) in
         let past : length (take n old) ≤ row = omega (arith, size) in
         let none : steps_sum d keys (drop row (take n old)) ≡ 0 = ap (steps_sum d keys) (drop_of_length-le (take n old) past) in
         let sums : steps ≡ steps_sum d keys (take n old) = omega (arith, s.adds, none) in
-        ap All sums
+        ap Ok sums
         ∙ sym (ap (λ b. all_or b (steps_sum d keys (take n old)) (held_before d keys (take n old))) (eq-eqb (held_before d keys (take n old)) (length (take n old)) (omega (arith, done, all, size))))
 
     pub look-written : new ≡ leaf_keys d keys (take n old) ++ drop n old

@@ -12,15 +12,11 @@ use borrow.Author.Tests.{eq-eqb, ne_eqb, eqb-true, le-leb, lt-leb, leb-true, ltb
 use Rattle.refusal.specs.declared.Refusal.{Refusal}
 use Rattle.refusal.specs.declared.Refusal.TheVariants.{Shape, Count, Room, Tree, Point, Unstored}
 use Rattle.refusal.specs.declared.Wall.{Wall}
-use Rattle.refusal.specs.declared.Outcome.{Outcome}
-use Rattle.refusal.specs.declared.Outcome.TheVariants.{Done, Refused}
 use Rattle.refusal.specs.Chain.{ask, ◌then◌}
 use Rattle.refusal.specs.Left.{left}
 use Rattle.refusal.proofs.Chain.{never, asked, both-done, after-done, after-refused}
 use Rattle.space.specs.declared.Box.{Box}
 use Rattle.space.specs.declared.Frame.{Frame}
-use Rattle.space.specs.declared.Rows.{Rows}
-use Rattle.space.specs.declared.Rows.TheVariants.{Outside}
 use Rattle.space.specs.Domain.{box_outcome}
 use Rattle.space.specs.Cells.{frame_of}
 use Rattle.space.specs.Rows.{inside_rows, or_inside, row_wall, first_outside, coded, rows_of, rows_inside, wall_of, most_points}
@@ -33,37 +29,29 @@ use Rattle.tree.specs.Columns.{columns}
 use Rattle.tree.specs.WellFormed.{well_formed}
 use Rattle.tree.specs.Finding.{TreeKeys}
 use Rattle.lookup.proofs.TreeRule.{tree-keys, by-rule}
-use Rattle.lookup.specs.declared.Holders.{Holders}
-use Rattle.lookup.specs.declared.Holders.TheVariants.{All, Missing}
-use Rattle.lookup.specs.declared.LookedUp.{LookedUp}
-use Rattle.lookup.specs.declared.LookedUp.TheVariants.{Found, Refused as NotFound}
 use Rattle.tree.specs.Leaves.{leaf_key}
-use Rattle.lookup.specs.Batch.{held_before, leaf_keys, steps_sum, codes_inside, call_outcome, points_outcome, lookup_outcome, found_or}
-use Rattle.lookup.specs.Work.{all_or, holders_of, inside_of, found_in, answer_of, shape_outcome, batch_outcome, rest_cleared}
+use Rattle.lookup.specs.Batch.{held_before, leaf_keys, steps_sum, codes_inside, call_outcome, points_outcome, lookup_outcome}
+use Rattle.lookup.specs.Work.{all_or, holders_of, inside_of, answer_of, shape_outcome, batch_outcome, rest_cleared}
+use Rattle.std.specs.Prelude.{Err, Ok, Result}
+use Rattle.space.specs.Inside.{Inside}
+use Rattle.refusal.specs.Outcome.{Answer, Outcome, accepted}
 
 -- ---- the answer of a batch
-picked : (t u : Bool) (s h : ℕ) (w : Wall) → answer_of (all_or t s h) (or_inside u (Outside w)) ≡ found_or (ask t (Unstored h) then ask (not u) (Point w)) s
+picked : (t u : Bool) (s h : ℕ) (w : Wall) → answer_of (all_or t s h) (or_inside u (Err w)) ≡ ask t (Unstored h) then ask (not u) (Point w) then Ok s
 picked true true s h w = refl
 picked true false s h w = refl
 picked false true s h w = refl
 picked false false s h w = refl
 
-module _ (holders : Holders) (rows : Rows) where
-  pub answer-missing : (row : ℕ) → holders ≡ Missing row → NotFound (Unstored row) ≡ answer_of holders rows
-  answer-missing row e = sym (ap (λ (t : Holders). answer_of t rows) e)
-
-  pub answer-all : (steps : ℕ) → holders ≡ All steps → (r : LookedUp) → r ≡ found_in rows steps → r ≡ answer_of holders rows
-  answer-all steps e r q = q ∙ sym (ap (λ (t : Holders). answer_of t rows) e)
-
 -- ---- the points of a call
 first-inside : (n : ℕ) (f : Frame) (xs : List Float) → inside_of (first_outside n f xs) n ≡ inside_rows n f xs
 first-inside n f xs = go (ltb (inside_rows n f xs) n) refl
   where
-    go : (t : Bool) → ltb (inside_rows n f xs) n ≡ t → inside_of (or_inside t (Outside (row_wall f xs (inside_rows n f xs)))) n ≡ inside_rows n f xs
+    go : (t : Bool) → ltb (inside_rows n f xs) n ≡ t → inside_of (or_inside t (Err (row_wall f xs (inside_rows n f xs)))) n ≡ inside_rows n f xs
     go true e = wall-index (inside_rows n f xs) f (drop (inside_rows n f xs * f.axes) xs)
     go false e = omega (arith, ltb-false (inside_rows n f xs) n e, rows-le n f xs)
 
-module _ (b : Box) (keys : List ℕ) (xs : List Float) (old out : List ℕ) (rows : Rows) (first : ℕ)
+module _ (b : Box) (keys : List ℕ) (xs : List Float) (old out : List ℕ) (rows : Inside) (first : ℕ)
     (r : rows ≡ first_outside (rows_of b xs) (frame_of b) xs) (w : out ≡ coded (rows_of b xs) (frame_of b) xs old) (e : first ≡ inside_of rows (rows_of b xs)) where
   first-is : first ≡ rows_inside b xs
   first-is = e ∙ ap (λ r. inside_of r (rows_of b xs)) r ∙ first-inside (rows_of b xs) (frame_of b) xs
@@ -92,19 +80,19 @@ module _ (b : Box) (keys : List ℕ) (xs : List Float) (old out : List ℕ) (row
       go false l = sym (eq-eqb (rows_inside b xs) (rows_of b xs) (omega (arith, rows-le (rows_of b xs) (frame_of b) xs, ltb-false (rows_inside b xs) (rows_of b xs) l)))
 
   -- the answer
-  pub look-answer : (holders : Holders) → holders ≡ holders_of b.axes keys (take first out) → (result : LookedUp) → result ≡ answer_of holders rows
-      → result ≡ found_or (points_outcome b keys xs) (steps_sum b.axes keys (codes_inside b xs))
+  pub look-answer : (holders : Result ℕ ℕ) → holders ≡ holders_of b.axes keys (take first out) → (result : Answer ℕ) → result ≡ answer_of holders rows
+      → result ≡ points_outcome b keys xs then Ok (steps_sum b.axes keys (codes_inside b xs))
   unfolding points_outcome
   look-answer holders c result q =
       q
-      ∙ ap₂ (λ (t : Holders) (o : Rows). answer_of t o) (c ∙ ap (holders_of b.axes keys) codes_are) r
+      ∙ ap₂ (λ (t : Result ℕ ℕ) (o : Inside). answer_of t o) (c ∙ ap (holders_of b.axes keys) codes_are) r
       ∙ picked (eqb (held_before b.axes keys (codes_inside b xs)) (length (codes_inside b xs))) (ltb (rows_inside b xs) (rows_of b xs)) (steps_sum b.axes keys (codes_inside b xs)) (held_before b.axes keys (codes_inside b xs)) (wall_of b xs)
-      ∙ ap₂ (λ (l : ℕ) (u : Bool). found_or (ask (eqb (held_before b.axes keys (codes_inside b xs)) l) (Unstored (held_before b.axes keys (codes_inside b xs))) then ask u (Point (wall_of b xs))) (steps_sum b.axes keys (codes_inside b xs)))
+      ∙ ap₂ (λ (l : ℕ) (u : Bool). ask (eqb (held_before b.axes keys (codes_inside b xs)) l) (Unstored (held_before b.axes keys (codes_inside b xs))) then ask u (Point (wall_of b xs)) then Ok (steps_sum b.axes keys (codes_inside b xs)))
       (size ∙ first-is) inside-all
 
   -- the output, where nothing is refused
   pub look-keys : (final : List ℕ) → (held_before b.axes keys (take first out) ≡ first → final ≡ leaf_keys b.axes keys (take first out) ++ drop first out)
-      → points_outcome b keys xs ≡ Done → final ≡ leaf_keys b.axes keys (codes_inside b xs) ++ drop (rows_of b xs) old
+      → points_outcome b keys xs ≡ accepted → final ≡ leaf_keys b.axes keys (codes_inside b xs) ++ drop (rows_of b xs) old
   unfolding points_outcome
   look-keys final h done =
       let p = both-done (ask (eqb (held_before b.axes keys (codes_inside b xs)) (rows_inside b xs)) _) (ask (eqb (rows_inside b xs) (rows_of b xs)) _) done in
@@ -115,31 +103,31 @@ module _ (b : Box) (keys : List ℕ) (xs : List Float) (old out : List ℕ) (row
 
 -- ---- the checks
 module _ (b : Box) (n : ℕ) where
-  pub box-refused : (r : Refusal) → box_outcome b ≡ Refused r → Refused r ≡ shape_outcome b n
+  pub box-refused : (r : Refusal) → box_outcome b ≡ Err r → Err r ≡ shape_outcome b n
   unfolding shape_outcome
   box-refused r e = rw e
 
-  module _ (o : box_outcome b ≡ Done) where
-    pub no-shape : (n % b.axes ≡ 0 → ⊥) → Refused Shape ≡ shape_outcome b n
+  module _ (o : box_outcome b ≡ accepted) where
+    pub no-shape : (n % b.axes ≡ 0 → ⊥) → Err Shape ≡ shape_outcome b n
     unfolding shape_outcome
     no-shape h = rw (o, ne_eqb (n % b.axes) 0 h)
 
     module _ (s : n % b.axes ≡ 0) where
-      pub too_many : most_points < n / b.axes → Refused Count ≡ shape_outcome b n
+      pub too_many : most_points < n / b.axes → Err Count ≡ shape_outcome b n
       unfolding shape_outcome
       too_many h = rw (o, eq-eqb (n % b.axes) 0 s, lt-leb (n / b.axes) most_points h)
 
-      pub shaped : n / b.axes ≤ most_points → Done ≡ shape_outcome b n
+      pub shaped : n / b.axes ≤ most_points → accepted ≡ shape_outcome b n
       unfolding shape_outcome
       shaped h = rw (o, eq-eqb (n % b.axes) 0 s, le-leb (n / b.axes) most_points h)
 
 module _ (b : Box) (keys own begin total : List ℕ) (n room : ℕ) (o : Outcome) (q : o ≡ shape_outcome b n) where
-  pub shape-refused : (r : Refusal) → o ≡ Refused r → Refused r ≡ batch_outcome b (columns keys own begin total) n room
+  pub shape-refused : (r : Refusal) → o ≡ Err r → Err r ≡ batch_outcome b (columns keys own begin total) n room
   unfolding batch_outcome
-  shape-refused r e = let f : shape_outcome b n ≡ Refused r = sym q ∙ e in rw f
+  shape-refused r e = let f : shape_outcome b n ≡ Err r = sym q ∙ e in rw f
 
-  module _ (d : o ≡ Done) where
-    done : shape_outcome b n ≡ Done
+  module _ (d : o ≡ accepted) where
+    done : shape_outcome b n ≡ accepted
     done = sym q ∙ d
 
     pub shape-fine : Fine b
@@ -152,16 +140,16 @@ module _ (b : Box) (keys own begin total : List ℕ) (n room : ℕ) (o : Outcome
       rule : well_formed b.axes keys own begin total ≡ w
       rule = by-rule b.axes keys own begin total (axes-known b.axes shape-fine.least shape-fine.most) _ refl ∙ sym e
 
-      pub not-tree : w ≡ false → Refused Tree ≡ batch_outcome b (columns keys own begin total) n room
+      pub not-tree : w ≡ false → Err Tree ≡ batch_outcome b (columns keys own begin total) n room
       unfolding batch_outcome
       not-tree f = let t : well_formed b.axes keys own begin total ≡ false = rule ∙ f in rw (done, t)
 
       module _ (f : w ≡ true) where
-        pub short : room < n / b.axes → Refused (Room 8) ≡ batch_outcome b (columns keys own begin total) n room
+        pub short : room < n / b.axes → Err (Room 8) ≡ batch_outcome b (columns keys own begin total) n room
         unfolding batch_outcome
         short h = let t : well_formed b.axes keys own begin total ≡ true = rule ∙ f in rw (done, t, lt-leb (n / b.axes) room h)
 
-        pub called : n / b.axes ≤ room → Done ≡ batch_outcome b (columns keys own begin total) n room
+        pub called : n / b.axes ≤ room → accepted ≡ batch_outcome b (columns keys own begin total) n room
         unfolding batch_outcome
         called h = let t : well_formed b.axes keys own begin total ≡ true = rule ∙ f in rw (done, t, le-leb (n / b.axes) room h)
 
@@ -172,7 +160,7 @@ module _ (b : Box) (keys own begin total : List ℕ) (xs : List Float) (room : �
     pub tree : TreeKeys b.axes keys
     pub fits : rows_of b xs ≤ room
 
-  pub checked : call_outcome b (columns keys own begin total) xs room ≡ Done → Called
+  pub checked : call_outcome b (columns keys own begin total) xs room ≡ accepted → Called
   unfolding call_outcome
   checked h =
       let fifth = both-done _ (ask (leb (rows_of b xs) room) (Room 8)) h in
@@ -189,9 +177,9 @@ module _ (b : Box) (keys own begin total : List ℕ) (xs : List Float) (room : �
       }
 
 -- ---- the answer and the output of a call
-pub found-is : (o : Outcome) (s steps : ℕ) → found_or o s ≡ Found steps → (o ≡ Done) × (steps ≡ s)
-found-is Done s steps e = (refl, (cc))
-found-is (Refused r) s steps e = let z : ◌≡◌ {A = ℕ} 0 1 = cc in absurd (omega arith)
+pub found-is : (o : Outcome) (s steps : ℕ) → o then Ok s ≡ Ok steps → (o ≡ accepted) × (steps ≡ s)
+found-is (Ok tt) s steps e = (refl, (cc))
+found-is (Err r) s steps e = let z : ◌≡◌ {A = ℕ} 0 1 = cc in absurd (omega arith)
 
 module _ (b : Box) (keys own begin total : List ℕ) (xs : List Float) (room : ℕ) where
   abbrev answer : ℕ
@@ -206,38 +194,38 @@ module _ (b : Box) (keys own begin total : List ℕ) (xs : List Float) (room : �
     by-numbers = q
 
     -- refused by a check
-    module _ (r : Refusal) (e : o ≡ Refused r) where
-      early : lookup_outcome b (columns keys own begin total) xs room ≡ Refused r
+    module _ (r : Refusal) (e : o ≡ Err r) where
+      early : lookup_outcome b (columns keys own begin total) xs room ≡ Err r
       early = after-refused (call_outcome b (columns keys own begin total) xs room) (points_outcome b keys xs) r (sym by-numbers ∙ e)
 
-      pub early-answer : NotFound r ≡ found_or (lookup_outcome b (columns keys own begin total) xs room) answer
-      early-answer = sym (ap (λ o. found_or o answer) early)
+      pub early-answer : Err r ≡ lookup_outcome b (columns keys own begin total) xs room then Ok answer
+      early-answer = sym (ap (λ (o : Outcome). o then Ok answer) early)
 
-      pub early-ends : lookup_outcome b (columns keys own begin total) xs room ≡ Done → ⊥
+      pub early-ends : lookup_outcome b (columns keys own begin total) xs room ≡ accepted → ⊥
       early-ends d = never r (sym early ∙ d)
 
     -- checked
-    module _ (d : o ≡ Done) where
+    module _ (d : o ≡ accepted) where
       pub call-checked : Called b keys own begin total xs room
       call-checked = checked b keys own begin total xs room (sym by-numbers ∙ d)
 
       by-points : lookup_outcome b (columns keys own begin total) xs room ≡ points_outcome b keys xs
       by-points = after-done (call_outcome b (columns keys own begin total) xs room) (points_outcome b keys xs) (sym by-numbers ∙ d)
 
-      pub looked-answer : (result : LookedUp) → result ≡ found_or (points_outcome b keys xs) answer → result ≡ found_or (lookup_outcome b (columns keys own begin total) xs room) answer
-      looked-answer result e = e ∙ sym (ap (λ o. found_or o answer) by-points)
+      pub looked-answer : (result : Answer ℕ) → result ≡ points_outcome b keys xs then Ok answer → result ≡ lookup_outcome b (columns keys own begin total) xs room then Ok answer
+      looked-answer result e = e ∙ sym (ap (λ (o : Outcome). o then Ok answer) by-points)
 
-      pub looked-points : lookup_outcome b (columns keys own begin total) xs room ≡ Done → points_outcome b keys xs ≡ Done
+      pub looked-points : lookup_outcome b (columns keys own begin total) xs room ≡ accepted → points_outcome b keys xs ≡ accepted
       looked-points e = sym by-points ∙ e
 
   -- the output
-  module _ (result : LookedUp) (q : result ≡ found_or (lookup_outcome b (columns keys own begin total) xs room) answer) where
-    pub found-axes : (steps : ℕ) → result ≡ Found steps → 1 ≤ b.axes
+  module _ (result : Answer ℕ) (q : result ≡ lookup_outcome b (columns keys own begin total) xs room then Ok answer) where
+    pub found-axes : (steps : ℕ) → result ≡ Ok steps → 1 ≤ b.axes
     found-axes steps e =
         let done = (found-is (lookup_outcome b (columns keys own begin total) xs room) answer steps (sym q ∙ e)).0 in
         (checked b keys own begin total xs room (both-done (call_outcome b (columns keys own begin total) xs room) (points_outcome b keys xs) done).0).box.least
 
-    module _ (d : lookup_outcome b (columns keys own begin total) xs room ≡ Done) where
+    module _ (d : lookup_outcome b (columns keys own begin total) xs room ≡ accepted) where
       all-inside : rows_inside b xs ≡ rows_of b xs
       unfolding points_outcome
       all-inside =
@@ -248,19 +236,19 @@ module _ (b : Box) (keys own begin total : List ℕ) (xs : List Float) (room : �
       size_is : length output ≡ rows_of b xs
       size_is = length-map (codes_inside b xs) (leaf_key b.axes keys) ∙ codes-length (rows_inside b xs) (frame_of b) xs ∙ all-inside
 
-      filled_is : (old mid : List ℕ) → length mid ≡ room → mid ≡ output ++ drop (rows_of b xs) old → take (rows_of b xs) mid ++ replicate (length mid - rows_of b xs) 0 ≡ left Done room output
+      filled_is : (old mid : List ℕ) → length mid ≡ room → mid ≡ output ++ drop (rows_of b xs) old → take (rows_of b xs) mid ++ replicate (length mid - rows_of b xs) 0 ≡ left accepted room output
       filled_is old mid l m =
           ap₂ (λ (s : List ℕ) (n : ℕ). s ++ replicate n 0)
           (ap (take (rows_of b xs)) m ∙ take_at output (drop (rows_of b xs) old) (rows_of b xs) size_is)
           (ap₂ ◌-◌ l (sym size_is))
 
-    pub output-left : (old mid final : List ℕ) → length mid ≡ room → (lookup_outcome b (columns keys own begin total) xs room ≡ Done → mid ≡ output ++ drop (rows_of b xs) old)
+    pub output-left : (old mid final : List ℕ) → length mid ≡ room → (lookup_outcome b (columns keys own begin total) xs room ≡ accepted → mid ≡ output ++ drop (rows_of b xs) old)
         → final ≡ rest_cleared result (rows_of b xs) mid → final ≡ left (lookup_outcome b (columns keys own begin total) xs room) room output
     output-left old mid final l m z = go (lookup_outcome b (columns keys own begin total) xs room) refl
       where
-        told : (o : Outcome) → lookup_outcome b (columns keys own begin total) xs room ≡ o → final ≡ rest_cleared (found_or o answer) (rows_of b xs) mid
-        told o e = z ∙ ap (λ (t : LookedUp). rest_cleared t (rows_of b xs) mid) (q ∙ ap (λ o. found_or o answer) e)
+        told : (o : Outcome) → lookup_outcome b (columns keys own begin total) xs room ≡ o → final ≡ rest_cleared (o then Ok answer) (rows_of b xs) mid
+        told o e = z ∙ ap (λ (t : Answer ℕ). rest_cleared t (rows_of b xs) mid) (q ∙ ap (λ (o : Outcome). o then Ok answer) e)
 
         go : (o : Outcome) → lookup_outcome b (columns keys own begin total) xs room ≡ o → final ≡ left (lookup_outcome b (columns keys own begin total) xs room) room output
-        go Done e = told Done e ∙ filled_is e old mid l (m e) ∙ sym (ap (λ o. left o room output) e)
-        go (Refused r) e = told (Refused r) e ∙ ap (λ (n : ℕ). replicate n 0) l ∙ sym (ap (λ o. left o room output) e)
+        go (Ok tt) e = told accepted e ∙ filled_is e old mid l (m e) ∙ sym (ap (λ o. left o room output) e)
+        go (Err r) e = told (Err r) e ∙ ap (λ (n : ℕ). replicate n 0) l ∙ sym (ap (λ o. left o room output) e)

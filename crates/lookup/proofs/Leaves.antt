@@ -15,12 +15,11 @@ use Rattle.tree.proofs.Stored.{stored-mem}
 use Rattle.tree.specs.Order.{depth_of}
 use Rattle.tree.specs.Leaves.{cell_of, climbed, leaf_level, held, leaf_key, steps_to, leaf_number, found_if, leaf_of}
 use Rattle.tree.specs.Finding.{TreeKeys}
-use Rattle.tree.specs.declared.Found.{Found}
-use Rattle.tree.specs.declared.Found.TheVariants.{At, Nothing}
 use Rattle.tree.proofs.Ranges.{distinct}
 use Rattle.tree.proofs.Leaves.{tree_of, place_is, depth_le}
-use Rattle.lookup.specs.Lookup.{leaf_or, holder_of, holder_at, FoundWithin, Steps}
-use Rattle.lookup.specs.declared.Holder.TheVariants.{Leaf, Unstored}
+use Rattle.lookup.specs.Lookup.{leaf_for, holder_of, holder_at, FoundWithin, Steps}
+use Rattle.lookup.specs.declared.Holder.{Holder}
+use Rattle.std.specs.Prelude.{None, Option, Some}
 
 -- ---- the climb of the definition
 module _ (d : ℕ) (keys : List ℕ) (code : ℕ) where
@@ -63,20 +62,20 @@ module _ (d : ℕ) (keys : List ℕ) (k : TreeKeys d keys) (code : ℕ) where
       (omega (arith, n), ap (λ j. get_or keys j 0) n ∙ e)
 
   -- what a search for the leaf found
-  module _ (r : Found) (q : r ≡ leaf_of d keys code) where
-    pub found-leaf : (node : ℕ) → r ≡ At node → (held d keys code ≡ true) × (node < length keys) × (get_or keys node 0 ≡ leaf_key d keys code)
+  module _ (r : Option ℕ) (q : r ≡ leaf_of d keys code) where
+    pub found-leaf : (node : ℕ) → r ≡ Some node → (held d keys code ≡ true) × (node < length keys) × (get_or keys node 0 ≡ leaf_key d keys code)
     found-leaf node f = go (held d keys code) refl (sym q ∙ f)
       where
-        go : (b : Bool) → held d keys code ≡ b → found_if b (leaf_number d keys code) ≡ At node → (held d keys code ≡ true) × (node < length keys) × (get_or keys node 0 ≡ leaf_key d keys code)
+        go : (b : Bool) → held d keys code ≡ b → found_if b (leaf_number d keys code) ≡ Some node → (held d keys code ≡ true) × (node < length keys) × (get_or keys node 0 ≡ leaf_key d keys code)
         go true h g =
             let e : node ≡ leaf_number d keys code = cc in
             (h, omega (arith, e, (numbered h).0), ap (λ j. get_or keys j 0) e ∙ (numbered h).1)
         go false h g = let z : ◌≡◌ {A = ℕ} 0 1 = cc in absurd (omega arith)
 
-    pub found_none : r ≡ Nothing → held d keys code ≡ false
+    pub found_none : r ≡ None → held d keys code ≡ false
     found_none f = go (held d keys code) refl (sym q ∙ f)
       where
-        go : (b : Bool) → held d keys code ≡ b → found_if b (leaf_number d keys code) ≡ Nothing → held d keys code ≡ false
+        go : (b : Bool) → held d keys code ≡ b → found_if b (leaf_number d keys code) ≡ None → held d keys code ≡ false
         go true h g = let z : ◌≡◌ {A = ℕ} 0 1 = cc in absurd (omega arith)
         go false h g = h
 
@@ -88,15 +87,15 @@ module _ (d : ℕ) (keys : List ℕ) (k : TreeKeys d keys) (code : ℕ) where
   }
 
   -- ---- what a search found
-  module _ (depth : ℕ) (e : depth ≡ depth_of keys) (r : Found) (q : r ≡ leaf_of d keys code) where
-    told : (node : ℕ) → r ≡ At node → (held d keys code ≡ true) × (node ≡ leaf_number d keys code)
+  module _ (depth : ℕ) (e : depth ≡ depth_of keys) (r : Option ℕ) (q : r ≡ leaf_of d keys code) where
+    told : (node : ℕ) → r ≡ Some node → (held d keys code ≡ true) × (node ≡ leaf_number d keys code)
     told node f = go (held d keys code) refl (sym q ∙ f)
       where
-        go : (b : Bool) → held d keys code ≡ b → found_if b (leaf_number d keys code) ≡ At node → (held d keys code ≡ true) × (node ≡ leaf_number d keys code)
+        go : (b : Bool) → held d keys code ≡ b → found_if b (leaf_number d keys code) ≡ Some node → (held d keys code ≡ true) × (node ≡ leaf_number d keys code)
         go true h g = (h, (cc))
         go false h g = let z : ◌≡◌ {A = ℕ} 0 1 = cc in absurd (omega arith)
 
-    key-told : (node : ℕ) → r ≡ At node → get_or keys node 0 ≡ leaf_key d keys code
+    key-told : (node : ℕ) → r ≡ Some node → get_or keys node 0 ≡ leaf_key d keys code
     key-told node f = ap (λ j. get_or keys j 0) (told node f).1 ∙ (numbered (told node f).0).1
 
     pub holder-within : FoundWithin keys depth r
@@ -108,12 +107,15 @@ module _ (d : ℕ) (keys : List ℕ) (k : TreeKeys d keys) (code : ℕ) where
     pub holder-told : holder_at keys depth r ≡ holder_of d keys code
     holder-told = go r refl
       where
-        go : (f : Found) → r ≡ f → holder_at keys depth f ≡ holder_of d keys code
-        go (At node) f =
-            ap₂ Leaf (key-told node f) (ap₂ ◌-◌ e (ap level_of (key-told node f) ∙ level-is))
-            ∙ sym (ap (λ b. leaf_or b (leaf_key d keys code) (steps_to d keys code)) (told node f).0)
-        go Nothing f = none (held d keys code) refl (sym q ∙ f)
+        found : ℕ → ℕ → Option Holder
+        found k s = Some (record { key = k; steps = s })
+
+        go : (f : Option ℕ) → r ≡ f → holder_at keys depth f ≡ holder_of d keys code
+        go (Some node) f =
+            ap₂ found (key-told node f) (ap₂ ◌-◌ e (ap level_of (key-told node f) ∙ level-is))
+            ∙ sym (ap (λ b. cond b (Some (leaf_for d keys code)) None) (told node f).0)
+        go None f = none (held d keys code) refl (sym q ∙ f)
           where
-            none : (b : Bool) → held d keys code ≡ b → found_if b (leaf_number d keys code) ≡ Nothing → Unstored ≡ holder_of d keys code
-            none false h g = sym (ap (λ b. leaf_or b (leaf_key d keys code) (steps_to d keys code)) h)
+            none : (b : Bool) → held d keys code ≡ b → found_if b (leaf_number d keys code) ≡ None → None ≡ holder_of d keys code
+            none false h g = sym (ap (λ b. cond b (Some (leaf_for d keys code)) None) h)
             none true h g = let z : ◌≡◌ {A = ℕ} 0 1 = cc in absurd (omega arith)

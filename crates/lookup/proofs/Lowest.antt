@@ -11,7 +11,6 @@ use lib.Ieee.{Float}
 use lib.ListN.{length, get_or, drop}
 use borrow.Author.Tests.{eqb-true, eqb-false}
 use Rattle.refusal.specs.declared.Refusal.TheVariants.{Point, Unstored}
-use Rattle.refusal.specs.declared.Outcome.TheVariants.{Done, Refused}
 use Rattle.refusal.specs.Chain.{ask, ◌then◌}
 use Rattle.space.specs.declared.Box.{Box}
 use Rattle.refusal.specs.declared.Wall.{Wall}
@@ -22,6 +21,8 @@ use Rattle.tree.specs.Leaves.{held}
 use Rattle.grouping.proofs.Passing.{passing-le, passing-before, passing-stop}
 use Rattle.space.specs.Rows.{rows_of, rows_inside, wall_of}
 use Rattle.lookup.specs.Batch.{held_before, codes_inside, points_outcome}
+use Rattle.std.specs.Prelude.{Err}
+use Rattle.refusal.specs.Outcome.{accepted}
 
 lt_of : (m n : ℕ) → m ≤ n → (m ≡ n → ⊥) → m < n
 lt_of m n h e = go (eq-or-lt_of_le h)
@@ -83,38 +84,38 @@ module _ (b : Box) (keys : List ℕ) (xs : List Float) where
   rows_few : rows_inside b xs ≤ rows_of b xs
   rows_few = rows-le (rows_of b xs) (frame_of b) xs
 
-  pub unstored-lowest : (i : ℕ) → points_outcome b keys xs ≡ Refused (Unstored i) → LowestUnstored i
+  pub unstored-lowest : (i : ℕ) → points_outcome b keys xs ≡ Err (Unstored i) → LowestUnstored i
   unstored-lowest i h = go (eqb first (rows_inside b xs)) (eqb (rows_inside b xs) (rows_of b xs)) refl refl
     where
       go : (s t : Bool) → eqb first (rows_inside b xs) ≡ s → eqb (rows_inside b xs) (rows_of b xs) ≡ t → LowestUnstored i
       go false t es et =
-          let same : Refused (Unstored first) ≡ Refused (Unstored i) = sym (by_cases false t es et) ∙ h in
+          let same : Err (Unstored first) ≡ Err (Unstored i) = sym (by_cases false t es et) ∙ h in
           let e : first ≡ i = cc in
           let n = eqb-false first (rows_inside b xs) es in
           let l : first < rows_inside b xs = lt_of first (rows_inside b xs) first-le n in
           let f = first-unheld l in
           subst LowestUnstored e (record { there = omega (arith, rows_few); in-box = f.0; unheld = f.1; lower = all-before })
-      go true true es et = let same : Done ≡ Refused (Unstored i) = sym (by_cases true true es et) ∙ h in let z : ◌≡◌ {A = ℕ} 0 1 = cc in absurd (omega arith)
-      go true false es et = let same : Refused (Point (wall_of b xs)) ≡ Refused (Unstored i) = sym (by_cases true false es et) ∙ h in let z : ◌≡◌ {A = ℕ} 0 1 = cc in absurd (omega arith)
+      go true true es et = let same : accepted ≡ Err (Unstored i) = sym (by_cases true true es et) ∙ h in let z : ◌≡◌ {A = ℕ} 0 1 = cc in absurd (omega arith)
+      go true false es et = let same : Err (Point (wall_of b xs)) ≡ Err (Unstored i) = sym (by_cases true false es et) ∙ h in let z : ◌≡◌ {A = ℕ} 0 1 = cc in absurd (omega arith)
 
-  pub outside-lowest : (w : Wall) → points_outcome b keys xs ≡ Refused (Point w) → LowestOutside w.index × (w ≡ wall_of b xs)
+  pub outside-lowest : (w : Wall) → points_outcome b keys xs ≡ Err (Point w) → LowestOutside w.index × (w ≡ wall_of b xs)
   outside-lowest w h = go (eqb first (rows_inside b xs)) (eqb (rows_inside b xs) (rows_of b xs)) refl refl
     where
       go : (s t : Bool) → eqb first (rows_inside b xs) ≡ s → eqb (rows_inside b xs) (rows_of b xs) ≡ t → LowestOutside w.index × (w ≡ wall_of b xs)
-      go false t es et = let same : Refused (Unstored first) ≡ Refused (Point w) = sym (by_cases false t es et) ∙ h in let z : ◌≡◌ {A = ℕ} 0 1 = cc in absurd (omega arith)
-      go true true es et = let same : Done ≡ Refused (Point w) = sym (by_cases true true es et) ∙ h in let z : ◌≡◌ {A = ℕ} 0 1 = cc in absurd (omega arith)
+      go false t es et = let same : Err (Unstored first) ≡ Err (Point w) = sym (by_cases false t es et) ∙ h in let z : ◌≡◌ {A = ℕ} 0 1 = cc in absurd (omega arith)
+      go true true es et = let same : accepted ≡ Err (Point w) = sym (by_cases true true es et) ∙ h in let z : ◌≡◌ {A = ℕ} 0 1 = cc in absurd (omega arith)
       go true false es et =
-          let same : Refused (Point (wall_of b xs)) ≡ Refused (Point w) = sym (by_cases true false es et) ∙ h in
+          let same : Err (Point (wall_of b xs)) ≡ Err (Point w) = sym (by_cases true false es et) ∙ h in
           let e : wall_of b xs ≡ w = cc in
           let l : rows_inside b xs < rows_of b xs = lt_of (rows_inside b xs) (rows_of b xs) rows_few (eqb-false (rows_inside b xs) (rows_of b xs) et) in
           let f : first ≡ rows_inside b xs = eqb-true first (rows_inside b xs) es in
           (subst LowestOutside (sym (wall-index (rows_inside b xs) (frame_of b) (row_at (rows_inside b xs))) ∙ ap (λ v. v.index) e) (record { there = l; outside = row-outside (rows_of b xs) (frame_of b) xs l; lower = subst AllBefore f all-before }), sym e)
 
   -- and if none fails, every row is inside and held
-  pub none-fails : points_outcome b keys xs ≡ Done → AllBefore (rows_of b xs)
+  pub none-fails : points_outcome b keys xs ≡ accepted → AllBefore (rows_of b xs)
   none-fails h = go (eqb first (rows_inside b xs)) (eqb (rows_inside b xs) (rows_of b xs)) refl refl
     where
       go : (s t : Bool) → eqb first (rows_inside b xs) ≡ s → eqb (rows_inside b xs) (rows_of b xs) ≡ t → AllBefore (rows_of b xs)
       go true true es et = subst AllBefore (eqb-true first (rows_inside b xs) es ∙ eqb-true (rows_inside b xs) (rows_of b xs) et) all-before
-      go false t es et = let same : Refused (Unstored first) ≡ Done = sym (by_cases false t es et) ∙ h in let z : ◌≡◌ {A = ℕ} 0 1 = cc in absurd (omega arith)
-      go true false es et = let same : Refused (Point (wall_of b xs)) ≡ Done = sym (by_cases true false es et) ∙ h in let z : ◌≡◌ {A = ℕ} 0 1 = cc in absurd (omega arith)
+      go false t es et = let same : Err (Unstored first) ≡ accepted = sym (by_cases false t es et) ∙ h in let z : ◌≡◌ {A = ℕ} 0 1 = cc in absurd (omega arith)
+      go true false es et = let same : Err (Point (wall_of b xs)) ≡ accepted = sym (by_cases true false es et) ∙ h in let z : ◌≡◌ {A = ℕ} 0 1 = cc in absurd (omega arith)

@@ -1,5 +1,5 @@
 -- The steps of a lookup that is not refused: with the leaf's level they make up the depth, and they are at most 15.
-use mathlib.Core.Path.{◌≡◌, refl, sym, ◌∙◌}
+use mathlib.Core.Path.{◌≡◌, refl, sym, ◌∙◌, subst}
 use mathlib.Core.List.{List, [], ◌∷◌, map}
 use Prim.Native.Nat.{ℕ, suc, ◌*◌, ◌-◌, ◌≤◌, ◌<◌}
 use native.Mathlib.Omega.{arith}
@@ -8,8 +8,6 @@ use lib.Ieee.{Float}
 use lib.ListN.{length, get_or}
 use borrow.Author.Tests.{eqb-true}
 use Rattle.refusal.specs.declared.Refusal.TheVariants.{Point, Unstored}
-use Rattle.refusal.specs.declared.Outcome.{Outcome}
-use Rattle.refusal.specs.declared.Outcome.TheVariants.{Done, Refused}
 use Rattle.refusal.specs.Chain.{ask, ◌then◌}
 use Rattle.refusal.proofs.Chain.{asked, both-done}
 use Rattle.slices.specs.Lists.{sum}
@@ -23,40 +21,40 @@ use Rattle.grouping.proofs.Passing.{passing-before}
 use Rattle.space.proofs.Refusals.{fine}
 use Rattle.morton.proofs.Checks.{axes-known}
 use Rattle.tree.specs.Leaves.{held, leaf_key, steps_to}
-use Rattle.lookup.specs.declared.LookedUp.{LookedUp}
-use Rattle.lookup.specs.declared.LookedUp.TheVariants as looked
-use Rattle.lookup.specs.declared.PointLeaf.{PointLeaf}
-use Rattle.lookup.specs.declared.PointLeaf.TheVariants.{Leaf}
-use Rattle.lookup.specs.Lookup.{Steps, BatchSteps}
-use Rattle.lookup.specs.Batch.{held_before, steps_sum, codes_inside, call_outcome, points_outcome, lookup_outcome, found_or}
-use Rattle.lookup.specs.Single.{tree_outcome, leaf_or_refusal, point_to_leaf}
+use Rattle.lookup.specs.declared.Holder.{Holder}
+use Rattle.lookup.specs.Lookup.{leaf_for, Steps, BatchSteps}
+use Rattle.lookup.specs.Batch.{held_before, steps_sum, codes_inside, call_outcome, points_outcome, lookup_outcome}
+use Rattle.lookup.specs.Single.{tree_outcome, single_outcome, point_to_leaf}
 use Rattle.lookup.proofs.TreeRule.{tree-keys}
 use Rattle.lookup.proofs.Leaves.{steps-to}
 use Rattle.lookup.proofs.Single.{tree-fine}
 use Rattle.lookup.proofs.Calls.{checked, found-is}
+use Rattle.refusal.specs.Outcome.{Answer, Outcome, accepted}
+use Rattle.std.specs.Prelude.{Err, Ok, IfOk}
 
 -- ---- one point
-leaf-is : (o : Outcome) (k s l n : ℕ) → leaf_or_refusal o k s ≡ Leaf l n → (o ≡ Done) × (k ≡ l) × (s ≡ n)
-leaf-is Done k s l n e = (refl, (cc), (cc))
-leaf-is (Refused r) k s l n e = let z : ◌≡◌ {A = ℕ} 0 1 = cc in absurd (omega arith)
-
 module _ (b : Box) (keys own begin total : List ℕ) (xs : List Float) where
   abbrev code : ℕ
   code = code16 (frame_of b) xs
 
-  pub point-steps : (r : PointLeaf) → r ≡ point_to_leaf b (columns keys own begin total) xs → (k n : ℕ) → r ≡ Leaf k n → Steps keys k n
-  point-steps r q k n e =
-      let whole = leaf-is _ (leaf_key b.axes keys code) (steps_to b.axes keys code) k n (sym q ∙ e) in
-      let third = both-done (tree_outcome b (columns keys own begin total) then ask (inside (frame_of b) xs) (Point (first_wall 0 (frame_of b) xs))) (ask (held b.axes keys code) (Unstored 0)) whole.0 in
+  steps-of : single_outcome b (columns keys own begin total) xs ≡ accepted → Steps keys (leaf_key b.axes keys code) (steps_to b.axes keys code)
+  steps-of e =
+      let third = both-done (tree_outcome b (columns keys own begin total) then ask (inside (frame_of b) xs) (Point (first_wall 0 (frame_of b) xs))) (ask (held b.axes keys code) (Unstored 0)) e in
       let second = both-done (tree_outcome b (columns keys own begin total)) (ask (inside (frame_of b) xs) (Point (first_wall 0 (frame_of b) xs))) third.0 in
       let (box, rule) = tree-fine b keys own begin total second.0 in
       let f = fine b box in
       let tree = tree-keys b.axes keys own begin total (axes-known b.axes f.least f.most) rule in
-      let s = steps-to b.axes keys tree code (asked (held b.axes keys code) (Unstored 0) third.1) in
-      rw (← whole.1, ← whole.2) s
+      steps-to b.axes keys tree code (asked (held b.axes keys code) (Unstored 0) third.1)
 
-  pub with-steps : (r : PointLeaf) → r ≡ point_to_leaf b (columns keys own begin total) xs → (r ≡ point_to_leaf b (columns keys own begin total) xs) × ((k n : ℕ) → r ≡ Leaf k n → Steps keys k n)
-  with-steps r q = (q, point-steps r q)
+  pub point-steps : IfOk (point_to_leaf b (columns keys own begin total) xs) (λ leaf. Steps keys leaf.key leaf.steps)
+  point-steps = go (single_outcome b (columns keys own begin total) xs) refl
+    where
+      go : (o : Outcome) → single_outcome b (columns keys own begin total) xs ≡ o → IfOk (o then Ok (leaf_for b.axes keys code)) (λ leaf. Steps keys leaf.key leaf.steps)
+      go (Ok tt) e = steps-of e
+      go (Err r) e = tt
+
+  pub with-steps : (r : Answer Holder) → r ≡ point_to_leaf b (columns keys own begin total) xs → (r ≡ point_to_leaf b (columns keys own begin total) xs) × IfOk r (λ leaf. Steps keys leaf.key leaf.steps)
+  with-steps r q = (q, subst (λ (r : Answer Holder). IfOk r (λ leaf. Steps keys leaf.key leaf.steps)) (sym q) point-steps)
 
 -- ---- a batch
 sum-few : (f : ℕ → ℕ) (xs : List ℕ) → ((i : ℕ) → i < length xs → f (get_or xs i 0) ≤ 15) → sum (map f xs) ≤ 15 * length xs
@@ -68,8 +66,8 @@ module _ (b : Box) (keys own begin total : List ℕ) (xs : List Float) (room : �
   abbrev codes : List ℕ
   codes = codes_inside b xs
 
-  pub batch-steps : (r : LookedUp) → r ≡ found_or (lookup_outcome b (columns keys own begin total) xs room) (steps_sum b.axes keys (codes_inside b xs))
-      → (n : ℕ) → r ≡ looked.Found n → BatchSteps b.axes keys (codes_inside b xs) (rows_of b xs) n
+  pub batch-steps : (r : Answer ℕ) → r ≡ lookup_outcome b (columns keys own begin total) xs room then Ok (steps_sum b.axes keys (codes_inside b xs))
+      → (n : ℕ) → r ≡ Ok n → BatchSteps b.axes keys (codes_inside b xs) (rows_of b xs) n
   unfolding points_outcome
   batch-steps r q n e =
       let whole = found-is (lookup_outcome b (columns keys own begin total) xs room) (steps_sum b.axes keys codes) n (sym q ∙ e) in
@@ -83,6 +81,6 @@ module _ (b : Box) (keys own begin total : List ℕ) (xs : List Float) (room : �
       λ i l. steps-to b.axes keys call.tree (get_or codes i 0) (passing-before (held b.axes keys) codes i (omega (arith, all, rows))) in
       record { each = each; few = omega (arith, whole.1, long, rows, sum-few (steps_to b.axes keys) codes (λ i l. (each i (omega (arith, long, rows))).few)) }
 
-  pub both-steps : {A : Type 0} (r : LookedUp) → r ≡ found_or (lookup_outcome b (columns keys own begin total) xs room) (steps_sum b.axes keys (codes_inside b xs)) → A
-      → (r ≡ found_or (lookup_outcome b (columns keys own begin total) xs room) (steps_sum b.axes keys (codes_inside b xs))) × (A × ((n : ℕ) → r ≡ looked.Found n → BatchSteps b.axes keys (codes_inside b xs) (rows_of b xs) n))
+  pub both-steps : {A : Type 0} (r : Answer ℕ) → r ≡ lookup_outcome b (columns keys own begin total) xs room then Ok (steps_sum b.axes keys (codes_inside b xs)) → A
+      → (r ≡ lookup_outcome b (columns keys own begin total) xs room then Ok (steps_sum b.axes keys (codes_inside b xs))) × (A × ((n : ℕ) → r ≡ Ok n → BatchSteps b.axes keys (codes_inside b xs) (rows_of b xs) n))
   both-steps r q a = (q, (a, batch-steps r q))

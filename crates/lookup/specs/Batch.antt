@@ -1,8 +1,6 @@
 -- Document 01: lookup of a batch. The lowest failing index decides between 7 and 12; a batch reports the sum of the steps.
-use Rattle.std.specs.Prelude.{List, map, ℕ, ◌%◌, leb, eqb, Float, length}
+use Rattle.std.specs.Prelude.{List, map, ℕ, ◌%◌, leb, eqb, Float, length, Ok}
 use Rattle.refusal.specs.declared.Refusal.TheVariants.{Shape, Count, Room, Tree, Point, Unstored}
-use Rattle.refusal.specs.declared.Outcome.{Outcome}
-use Rattle.refusal.specs.declared.Outcome.TheVariants.{Done, Refused}
 use Rattle.refusal.specs.Chain.{ask, ◌then◌}
 use Rattle.refusal.specs.Left.{left}
 use Rattle.slices.specs.Lists.{sum}
@@ -14,8 +12,7 @@ use Rattle.tree.specs.Columns.{Columns}
 use Rattle.tree.specs.WellFormed.{well_formed}
 use Rattle.grouping.specs.Batches.{passing}
 use Rattle.tree.specs.Leaves.{held, leaf_key, steps_to}
-use Rattle.lookup.specs.declared.LookedUp.{LookedUp}
-use Rattle.lookup.specs.declared.LookedUp.TheVariants.{Found, Refused as NotFound}
+use Rattle.refusal.specs.Outcome.{Answer, Outcome}
 
 -- how many of the codes stand before the first that no leaf holds
 abbrev pub held_before : ℕ → List ℕ → List ℕ → ℕ
@@ -51,12 +48,8 @@ abbrev pub lookup_outcome : Box → Columns → List Float → ℕ → Outcome
 lookup_outcome b t points room = call_outcome b t points room then points_outcome b t.keys points
 
 -- the sum of the steps, or the refusal
-abbrev pub found_or : Outcome → ℕ → LookedUp
-found_or Done steps = Found steps
-found_or (Refused r) steps = NotFound r
-
-abbrev pub lookup_answer : Box → Columns → List Float → ℕ → LookedUp
-lookup_answer b t points room = found_or (lookup_outcome b t points room) (steps_sum b.axes t.keys (codes_inside b points))
+abbrev pub lookup_answer : Box → Columns → List Float → ℕ → Answer ℕ
+lookup_answer b t points room = lookup_outcome b t points room then Ok (steps_sum b.axes t.keys (codes_inside b points))
 
 -- what is left in the lent slice: the key of each point's leaf
 abbrev pub lookup_left : Box → Columns → List Float → ℕ → List ℕ

@@ -1,30 +1,27 @@
 -- Document 01, "Lists, lookup, sourced cells": lookup answers the key of the leaf that holds a point, and the steps to it.
-use Rattle.std.specs.Prelude.{◌≡◌, Bool, true, false, List, ℕ, ◌+◌, ◌*◌, ◌-◌, ◌≤◌, ◌<◌, length, get_or}
+use Rattle.std.specs.Prelude.{◌≡◌, cond, List, ℕ, ◌+◌, ◌*◌, ◌-◌, ◌≤◌, ◌<◌, length, get_or, None, Option, Some}
 use Rattle.morton.specs.Keys.{level_of}
 use Rattle.tree.specs.Order.{depth_of}
-use Rattle.tree.specs.declared.Found.{Found}
-use Rattle.tree.specs.declared.Found.TheVariants.{At, Nothing}
 use Rattle.tree.specs.Leaves.{held, leaf_key, steps_to}
 use Rattle.lookup.specs.declared.Holder.{Holder}
-use Rattle.lookup.specs.declared.Holder.TheVariants.{Leaf, Unstored}
 
-abbrev pub leaf_or : Bool → ℕ → ℕ → Holder
-leaf_or true k steps = Leaf k steps
-leaf_or false k steps = Unstored
+-- the key of the leaf that holds a code, and the steps to it
+abbrev pub leaf_for : ℕ → List ℕ → ℕ → Holder
+leaf_for d keys code = record { key = leaf_key d keys code; steps = steps_to d keys code }
 
--- the leaf that holds a code: its key, and the steps to it
-abbrev pub holder_of : ℕ → List ℕ → ℕ → Holder
-holder_of d keys code = leaf_or (held d keys code) (leaf_key d keys code) (steps_to d keys code)
+-- the leaf that holds a code, where one does
+abbrev pub holder_of : ℕ → List ℕ → ℕ → Option Holder
+holder_of d keys code = cond (held d keys code) (Some (leaf_for d keys code)) None
 
 -- what was found is a node whose level is at most `depth`, or nothing
-pub record FoundWithin (keys : List ℕ) (depth : ℕ) (leaf : Found) : Type 0 where
-  pub number : (node : ℕ) → leaf ≡ At node → node < length keys
-  pub within : (node : ℕ) → leaf ≡ At node → level_of (get_or keys node 0) ≤ depth
+pub record FoundWithin (keys : List ℕ) (depth : ℕ) (leaf : Option ℕ) : Type 0 where
+  pub number : (node : ℕ) → leaf ≡ Some node → node < length keys
+  pub within : (node : ℕ) → leaf ≡ Some node → level_of (get_or keys node 0) ≤ depth
 
 -- the leaf that holds the code, by what was found
-abbrev pub holder_at : List ℕ → ℕ → Found → Holder
-holder_at keys depth (At node) = Leaf (get_or keys node 0) (depth - level_of (get_or keys node 0))
-holder_at keys depth Nothing = Unstored
+abbrev pub holder_at : List ℕ → ℕ → Option ℕ → Option Holder
+holder_at keys depth (Some node) = Some (record { key = get_or keys node 0; steps = depth - level_of (get_or keys node 0) })
+holder_at keys depth None = None
 
 -- ---- what is promised of the steps: from the leaf with key k they make up the depth, and they are at most 15
 pub record Steps (keys : List ℕ) (k steps : ℕ) : Type 0 where

@@ -3,9 +3,7 @@
 // Replays recorded lookups: for each file of a container on standard input, the tree of its sources is built as the listing
 // program does, and the leaf of each target is looked up in it. differential/README.md says how they are made. Where a
 // slice is short, which no file brings about, nothing is answered; that differs from every record.
-use build::Built;
-use lookup::LookedUp;
-use refusal::{Outcome, Refusal};
+use refusal::Refusal;
 use space::Box;
 use std::io;
 use std::io::Print;
@@ -28,14 +26,8 @@ fn write_refusal(rt: &impl Print, refusal: Refusal) -> io::Result<()> {
 // How many points there were, the sum of the steps, and each point's leaf.
 fn write_leaves(rt: &impl Print, points: usize, steps: usize, leaves: &[u64]) -> io::Result<()> {
     print!(rt; "leaves {points} {steps}")?;
-    let mut i = 0;
-    while i < leaves.len() {
-        if points <= i {
-            break;
-        }
-        let leaf = leaves[i];
+    for leaf in leaves.iter().take(points) {
         print!(rt; " {leaf}")?;
-        i += 1;
     }
     println!(rt; "")
 }
@@ -75,8 +67,8 @@ fn look_up(
         &mut leaves,
     );
     match found {
-        LookedUp::Refused(refusal) => write_refusal(rt, refusal),
-        LookedUp::Found(steps) => write_leaves(rt, rows, steps, &leaves),
+        Err(refusal) => write_refusal(rt, refusal),
+        Ok(steps) => write_leaves(rt, rows, steps, &leaves),
     }
 }
 
@@ -113,8 +105,11 @@ fn build(
         &mut total,
     );
     match built {
-        Built::Refused(refusal) => write_refusal(rt, refusal),
-        Built::Tree(nodes, _) => look_up(rt, b, &key, &own, &begin, &total, nodes, targets, rows),
+        Err(refusal) => write_refusal(rt, refusal),
+        Ok(grown) => {
+            let nodes = grown.nodes;
+            look_up(rt, b, &key, &own, &begin, &total, nodes, targets, rows)
+        }
     }
 }
 
@@ -149,37 +144,30 @@ fn build_rows(
 fn answer(rt: &impl Print, file: &[u8]) -> io::Result<()> {
     let mut sources = [0.0f64; 4088];
     let mut targets = [0.0f64; 4088];
-    let survey = survey::read_survey(file, &mut sources, &mut targets);
-    let b = survey.b;
-    let m = survey.sources * b.axes;
-    let n = survey.targets * b.axes;
-    let outcome = survey.outcome;
-    match outcome {
-        Outcome::Refused(refusal) => write_refusal(rt, refusal),
-        Outcome::Done => build_rows(rt, survey, &sources, m, &targets, n),
+    let read = survey::read_survey(file, &mut sources, &mut targets);
+    match read {
+        Err(refusal) => write_refusal(rt, refusal),
+        Ok(survey) => {
+            let b = survey.b;
+            let m = survey.sources * b.axes;
+            let n = survey.targets * b.axes;
+            build_rows(rt, survey, &sources, m, &targets, n)
+        }
     }
 }
 
-// A file's number, and what is answered to it.
-fn write_answer(rt: &impl Print, number: u64, whole: bool, file: &[u8]) -> io::Result<()> {
-    println!(rt; "file {number}")?;
-    if whole {
-        return answer(rt, file);
-    }
-    println!(rt; "not whole")
-}
-
-// Answers each file of a container.
+// Answers each file of a container: its number, and what is answered to it.
 fn replay(rt: &impl Print, s: &[u8]) -> io::Result<()> {
     let mut number: u64 = 0;
     let mut at: usize = 0;
     while at < s.len() {
-        let part = container::part_at(s, at);
-        let start = part.start;
-        let end = part.end;
-        write_answer(rt, number, part.whole, &s[start..end])?;
+        println!(rt; "file {number}")?;
+        let Some(part) = container::part_at(s, at) else {
+            return println!(rt; "not whole");
+        };
+        answer(rt, &s[part.start..part.end])?;
         number += 1;
-        at = end;
+        at = part.end;
     }
     Ok(())
 }

@@ -1,10 +1,10 @@
 -- The numbers of a valid key and of its parent and children fit, and are what the shifts compute.
-use mathlib.Core.Path.{◌≡◌, refl, sym, ap, ap₂, ◌∙◌}
-use Prim.Native.Nat.{ℕ, zero, suc, ◌+◌, ◌*◌, ◌-◌, ◌/◌, ◌%◌, ◌^◌, ◌≤◌, ◌<◌}
+use mathlib.Core.Path.{◌≡◌, ap, ◌∙◌}
+use Prim.Native.Nat.{ℕ, suc, ◌+◌, ◌*◌, ◌-◌, ◌%◌, ◌^◌, ◌≤◌, ◌<◌}
 use native.Mathlib.Omega.{arith}
-use native.Mathlib.Nat.{one-mul, mul-one, mul-suc, add_comm, mul_comm, mul-le-mul_left, mul-le-mul_right, suc-mul}
-use lib.Pow.{pow_pos, pow_mono, pow-add, shl_exact, shr_lt, shr_le}
-use Rattle.morton.specs.Keys.{level_of, code_of, key, ValidKey, parent, child}
+use native.Mathlib.Nat.{one-mul, mul-suc, mul-le-mul_left, mul-le-mul_right, suc-mul}
+use lib.Pow.{pow_mono, pow-add, shl_exact, shr_lt}
+use Rattle.morton.specs.Keys.{level_of, code_of, ValidKey, parent, child}
 use Rattle.morton.proofs.Checks.{width-le}
 use Rattle.morton.proofs.Cells.{key-level, key-code, level-parent, code-parent}
 

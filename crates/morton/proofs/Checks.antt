@@ -1,22 +1,20 @@
 -- The refusals of the key calls, as tests that pass or fail.
-use mathlib.Core.Path.{◌≡◌, refl, sym, ap, ◌∙◌}
-use mathlib.Core.Bool.{Bool, true, false, ◌&&◌}
-use mathlib.Core.List.{List, [], ◌∷◌}
-use Prim.Native.Nat.{ℕ, zero, suc, ◌+◌, ◌*◌, ◌-◌, ◌/◌, ◌%◌, ◌^◌, ◌≤◌, ◌<◌}
+use mathlib.Core.Path.{◌≡◌, refl}
+use mathlib.Core.Bool.{Bool, true, false}
+use Prim.Native.Nat.{ℕ, ◌*◌, ◌/◌, ◌^◌, ◌≤◌, ◌<◌}
 use native.Mathlib.Omega.{arith}
 use native.Mathlib.Nat.{mul-le-mul_left, mul-le-mul_right, div-lt_iff_lt-mul, div-eq_of_lt, one-mul}
 use lib.Dec.{leb, ltb}
 use lib.Pow.{pow_pos}
-use borrow.Author.Tests.{leb-true, ltb-true, le-leb, lt-leb, lt-ltb, le-ltb}
-use Rattle.refusal.specs.declared.Refusal.{Refusal}
+use borrow.Author.Tests.{leb-true, ltb-true, le-leb, lt-leb, lt-ltb}
 use Rattle.refusal.specs.declared.Refusal.TheVariants.{Dims, Key, Root, Deep}
-use Rattle.refusal.specs.declared.Outcome.TheVariants.{Done, Refused}
-use Rattle.refusal.specs.Chain.{ask, ◌then◌}
+use Rattle.refusal.specs.Chain.{ask}
 use Rattle.refusal.proofs.Chain.{asked, both-done}
 use Rattle.slices.proofs.Tests.{and_l, and_r, both}
 pub use Rattle.axes.proofs.Known.{axes-known, axes-few, axes-many, axes-other, axes-facts}
 use Rattle.morton.specs.Keys.{axes_known, valid, ValidKey, level_of, code_of}
 use Rattle.morton.specs.Answers.{key_check, below_root_check, above_deepest}
+use Rattle.refusal.specs.Outcome.{accepted}
 
 -- a code's bits from bit d * level on: none where the key is valid
 pub width-le : (d level : ℕ) → d ≤ 3 → level ≤ 16 → d * level ≤ 48
@@ -54,11 +52,11 @@ pub facts-valid : (d k : ℕ) → ValidKey d k → (axes_known d ≡ true) × (v
 facts-valid d k v = (axes-known d v.some v.most, both (le-leb (level_of k) 16 v.level) (lt-ltb (code_of k) (2 ^ (d * level_of k)) v.code))
 
 -- a key call that is not refused so far has a valid key
-pub checked : (d k : ℕ) → key_check d k ≡ Done → ValidKey d k
+pub checked : (d k : ℕ) → key_check d k ≡ accepted → ValidKey d k
 checked d k e = let p = both-done (ask (axes_known d) Dims) (ask (valid d k) Key) e in valid-facts d k (asked (axes_known d) Dims p.0) (asked (valid d k) Key p.1)
 
-pub below_root : (d k : ℕ) → below_root_check d k ≡ Done → ValidKey d k × (0 < level_of k)
+pub below_root : (d k : ℕ) → below_root_check d k ≡ accepted → ValidKey d k × (0 < level_of k)
 below_root d k e = let p = both-done (key_check d k) (ask (ltb 0 (level_of k)) Root) e in (checked d k p.0, ltb-true 0 (level_of k) (asked (ltb 0 (level_of k)) Root p.1))
 
-pub above-deepest : (d k : ℕ) → above_deepest d k ≡ Done → ValidKey d k × (level_of k < 16)
+pub above-deepest : (d k : ℕ) → above_deepest d k ≡ accepted → ValidKey d k × (level_of k < 16)
 above-deepest d k e = let p = both-done (key_check d k) (ask (ltb (level_of k) 16) Deep) e in (checked d k p.0, ltb-true (level_of k) 16 (asked (ltb (level_of k) 16) Deep p.1))

@@ -1,15 +1,14 @@
 -- Anchors: what stays near as one goes up, that siblings touch, and that a code is known by its anchors.
 use mathlib.Core.Path.{◌≡◌, refl, sym, ap, ap₂, ◌∙◌}
-use mathlib.Core.Bool.{Bool, true, false, ◌&&◌}
-use Prim.Native.Nat.{ℕ, zero, suc, ◌+◌, ◌*◌, ◌-◌, ◌/◌, ◌%◌, ◌^◌, ◌≤◌, ◌<◌}
+use mathlib.Core.Bool.{true}
+use Prim.Native.Nat.{ℕ, zero, suc, ◌+◌, ◌*◌, ◌/◌, ◌%◌, ◌^◌, ◌≤◌, ◌<◌}
 use native.Mathlib.Omega.{arith}
 use native.Mathlib.Nat.{mul-zero, mul-suc, mod-one, div-add-mod'}
-use lib.Dec.{leb, ltb, eqb}
+use lib.Dec.{leb}
 use lib.Pow.{mod-pow-add, shr_lt}
 use borrow.Author.Tests.{leb-true, le-leb}
 use Rattle.slices.specs.Every.{every}
 use Rattle.slices.proofs.Tests.{and_l, and_r, both}
-use Rattle.morton.specs.Keys.{above}
 use Rattle.morton.specs.Anchors.{anchor, within1, near}
 
 pub within-lo : (x y : ℕ) → within1 x y ≡ true → x ≤ y + 1

@@ -1,18 +1,17 @@
 -- Arrays as they are filled, one number a turn.
 use mathlib.Core.Path.{◌≡◌, refl, sym, ap, ap₂, ◌∙◌}
 use mathlib.Core.List.{List, [], ◌∷◌, ◌++◌, map, append-nil}
-use Prim.Native.Nat.{ℕ, zero, suc, ◌+◌, ◌*◌, ◌-◌, ◌/◌, ◌%◌, ◌^◌, ◌≤◌, ◌<◌}
+use Prim.Native.Nat.{ℕ, zero, suc, ◌+◌, ◌-◌, ◌^◌, ◌≤◌, ◌<◌}
 use native.Mathlib.Omega.{arith}
-use native.Mathlib.Nat.{zero-add, add-zero}
-use lib.ListN.{length, get_or, set, drop, length-append, replicate}
+use native.Mathlib.Nat.{zero-add}
+use lib.ListN.{length, set, drop, length-append, replicate}
 use lib.Seq.{append_snoc}
 use lib.Pow.{pow_mono}
 use Rattle.slices.specs.Lists.{range, filled}
-use Rattle.slices.proofs.Lists.{range-append, length-range, filled_none, filled-store}
-use Rattle.refusal.specs.declared.Outcome.TheVariants.{Done}
+use Rattle.slices.proofs.Lists.{range-append, filled_none, filled-store}
 use Rattle.morton.specs.declared.KeyList.{KeyList}
-use Rattle.morton.specs.Keys.{level_of, axes_known, children_room, ValidKey, parent, upwards, ancestors}
-use Rattle.morton.specs.Answers.{listed}
+use Rattle.morton.specs.Keys.{level_of, children_room, ValidKey, parent, upwards, ancestors}
+use Rattle.morton.specs.Answers.{key_list}
 use Rattle.morton.proofs.Checks.{axes-known}
 use Rattle.morton.proofs.Cells.{level-parent}
 use Rattle.morton.proofs.Arithmetic.{parent-valid}
@@ -34,9 +33,9 @@ held_more room array len xs x h l =
       counted = length-append xs (x ∷ []) ∙ ap (λ (n : ℕ). n + 1) e;
     }
 
-pub held-listed : (keys : List ℕ) (len : ℕ) (xs ys : List ℕ) → Held 26 keys len xs → xs ≡ ys → ◌≡◌ {A = KeyList} (record { outcome = Done; keys = keys; len = len }) (listed Done ys)
+pub held-listed : (keys : List ℕ) (len : ℕ) (xs ys : List ℕ) → Held 26 keys len xs → xs ≡ ys → ◌≡◌ {A = KeyList} (record { keys = keys; len = len }) (key_list ys)
 held-listed keys len xs ys h e =
-    ap₂ (λ (s : List ℕ) (n : ℕ). record { outcome = Done; keys = s; len = n }) (h.filled_by ∙ ap (filled 26) e) (sym h.counted ∙ ap length e)
+    ap₂ (λ (s : List ℕ) (n : ℕ). record { keys = s; len = n }) (h.filled_by ∙ ap (filled 26) e) (sym h.counted ∙ ap length e)
 
 -- the values of a function at 0, 1, ..: one more
 values-more : (f : ℕ → ℕ) (n : ℕ) → map f (range 0 n) ++ f n ∷ [] ≡ map f (range 0 (n + 1))
@@ -115,6 +114,6 @@ module _ (d k : ℕ) (keys : List ℕ) (at len : ℕ) (v : ValidKey d k) (g : Cl
         whole = append_snoc g.so_far (parent d at) (rest d (parent d at)) ∙ ap (λ (t : List ℕ). g.so_far ++ t) (sym (rest_more (level_of at - 1) d at e)) ∙ g.whole;
       }
 
-  pub climb-end : level_of at ≤ 0 → ◌≡◌ {A = KeyList} (record { outcome = Done; keys = keys; len = len }) (listed Done (ancestors d k))
+  pub climb-end : level_of at ≤ 0 → ◌≡◌ {A = KeyList} (record { keys = keys; len = len }) (key_list (ancestors d k))
   climb-end h = held-listed keys len g.so_far (ancestors d k) g.held
       (sym (append-nil g.so_far) ∙ ap (λ (t : List ℕ). g.so_far ++ t) (sym (rest-none d at (omega arith))) ∙ g.whole)

@@ -1,13 +1,12 @@
 // A cell's level, parent, children, siblings and ancestors, by its key.
-ghost use Rattle.std.specs.Prelude.{◌≡◌, ◌^◌, ◌<◌, []};
+ghost use Rattle.std.specs.Prelude.{◌≡◌, ◌^◌, ◌<◌};
 ghost use Rattle.slices.specs.Lists.{filled};
-ghost use Rattle.refusal.specs.declared.Outcome.TheVariants.{Done, Refused};
 ghost use Rattle.morton.specs.Keys.{level_of, code_of, ValidKey, parent, child, children, ancestors};
-ghost use Rattle.morton.specs.Answers.{key_check, below_root_check, above_deepest, level_answer, parent_answer, child_index_answer, children_answer, siblings_answer, ancestors_answer, listed};
+ghost use Rattle.morton.specs.Answers.{key_check, below_root_check, above_deepest, level_answer, parent_answer, child_index_answer, children_answer, siblings_answer, ancestors_answer, key_list};
 
-use crate::{KeyList, NumberAnswer};
+use crate::KeyList;
 use axes::Three;
-use refusal::{Outcome, Refusal};
+use refusal::Refusal;
 
 // A key's last 15 bits.
 pub fn level_of(key: u64) -> u64
@@ -23,67 +22,62 @@ pub fn code_of(key: u64) -> u64
     key / 32768
 }
 
+// Where a table of so many slots has what it holds of a cell.
+pub fn slot_of<const SLOTS: usize>(key: u64) -> usize
+    requires { 0 < SLOTS }
+    ensures { result < SLOTS }
+{
+    code_of(key) as usize % SLOTS
+}
+
 // The refusals that every key call begins with.
-pub fn check_key(axes: usize, key: u64) -> Outcome
+pub fn check_key(axes: usize, key: u64) -> Result<(), Refusal>
     ensures { result ≡ key_check axes key }
 {
     if axes < 1 {
-        return Outcome::Refused(Refusal::Dims);
+        return Err(Refusal::Dims);
     }
     if 3 < axes {
-        return Outcome::Refused(Refusal::Dims);
+        return Err(Refusal::Dims);
     }
     let level = level_of(key);
     if 16 < level {
-        return Outcome::Refused(Refusal::Key);
+        return Err(Refusal::Key);
     }
     if code_of(key) >> (axes as u64 * level) != 0 {
-        return Outcome::Refused(Refusal::Key);
+        return Err(Refusal::Key);
     }
-    Outcome::Done
+    Ok(())
 }
 
 // And those of a call on a cell with a parent.
-fn check_below_root(axes: usize, key: u64) -> Outcome
+fn check_below_root(axes: usize, key: u64) -> Result<(), Refusal>
     ensures { result ≡ below_root_check axes key }
 {
-    let checked = check_key(axes, key);
-    match checked {
-        Outcome::Refused(refusal) => Outcome::Refused(refusal),
-        Outcome::Done => {
-            if level_of(key) == 0 {
-                return Outcome::Refused(Refusal::Root);
-            }
-            Outcome::Done
-        }
+    check_key(axes, key)?;
+    if level_of(key) == 0 {
+        return Err(Refusal::Root);
     }
+    Ok(())
 }
 
 // And those of a call on a cell with children.
-fn check_above_deepest(axes: usize, key: u64) -> Outcome
+fn check_above_deepest(axes: usize, key: u64) -> Result<(), Refusal>
     ensures { result ≡ above_deepest axes key }
 {
-    let checked = check_key(axes, key);
-    match checked {
-        Outcome::Refused(refusal) => Outcome::Refused(refusal),
-        Outcome::Done => {
-            if 16 <= level_of(key) {
-                return Outcome::Refused(Refusal::Deep);
-            }
-            Outcome::Done
-        }
+    check_key(axes, key)?;
+    if 16 <= level_of(key) {
+        return Err(Refusal::Deep);
     }
+    Ok(())
 }
 
 // The level of a valid key.
-pub fn get_level(axes: usize, key: u64) -> NumberAnswer
+pub fn get_level(axes: usize, key: u64) -> Result<u64, Refusal>
     ensures { result ≡ level_answer axes key }
 {
-    let checked = check_key(axes, key);
-    match checked {
-        Outcome::Refused(refusal) => NumberAnswer::Refused(refusal),
-        Outcome::Done => NumberAnswer::Number(level_of(key)),
-    }
+    check_key(axes, key)?;
+    Ok(level_of(key))
 }
 
 // The key one level up, of a valid key below the root.
@@ -94,25 +88,19 @@ pub fn parent_of(axes: usize, key: u64) -> u64
     (code_of(key) >> axes) * 32768 + (level_of(key) - 1)
 }
 
-pub fn get_parent(axes: usize, key: u64) -> NumberAnswer
+pub fn get_parent(axes: usize, key: u64) -> Result<u64, Refusal>
     ensures { result ≡ parent_answer axes key }
 {
-    let checked = check_below_root(axes, key);
-    match checked {
-        Outcome::Refused(refusal) => NumberAnswer::Refused(refusal),
-        Outcome::Done => NumberAnswer::Number(parent_of(axes, key)),
-    }
+    check_below_root(axes, key)?;
+    Ok(parent_of(axes, key))
 }
 
 // A cell's number among its siblings; the root's is 0.
-pub fn get_child_index(axes: usize, key: u64) -> NumberAnswer
+pub fn get_child_index(axes: usize, key: u64) -> Result<u64, Refusal>
     ensures { result ≡ child_index_answer axes key }
 {
-    let checked = check_key(axes, key);
-    match checked {
-        Outcome::Refused(refusal) => NumberAnswer::Refused(refusal),
-        Outcome::Done => NumberAnswer::Number(code_of(key) % (1 << axes)),
-    }
+    check_key(axes, key)?;
+    Ok(code_of(key) % (1 << axes))
 }
 
 // Child number c of a valid key above the deepest level.
@@ -126,58 +114,35 @@ pub fn child_of(axes: usize, key: u64, c: u64) -> u64
 // The children of a valid key above the deepest level, in order.
 fn list_children(axes: usize, key: u64) -> KeyList
     requires { ValidKey axes key × (level_of key < 16) }
-    ensures { result ≡ listed Done (children axes key) }
+    ensures { result ≡ key_list (children axes key) }
 {
     let count = axes::children_of(axes);
     let mut keys = [0u64; Three::NEIGHBOURS];
-    let mut len: usize = 0;
-    while len < count {
-        keys[len] = child_of(axes, key, len as u64);
-        len += 1;
+    for c in 0..count {
+        keys[c] = child_of(axes, key, c as u64);
     }
-    KeyList {
-        outcome: Outcome::Done,
-        keys,
-        len,
-    }
+    KeyList { keys, len: count }
 }
 
-// A key list's refusal: no keys.
-pub fn refused_list(refusal: Refusal) -> KeyList
-    ensures { result ≡ listed (Refused refusal) [] }
-{
-    KeyList {
-        outcome: Outcome::Refused(refusal),
-        keys: [0u64; Three::NEIGHBOURS],
-        len: 0,
-    }
-}
-
-pub fn get_children(axes: usize, key: u64) -> KeyList
+pub fn get_children(axes: usize, key: u64) -> Result<KeyList, Refusal>
     ensures { result ≡ children_answer axes key }
 {
-    let checked = check_above_deepest(axes, key);
-    match checked {
-        Outcome::Refused(refusal) => refused_list(refusal),
-        Outcome::Done => list_children(axes, key),
-    }
+    check_above_deepest(axes, key)?;
+    Ok(list_children(axes, key))
 }
 
 // The parent's children, the cell itself among them.
-pub fn get_siblings(axes: usize, key: u64) -> KeyList
+pub fn get_siblings(axes: usize, key: u64) -> Result<KeyList, Refusal>
     ensures { result ≡ siblings_answer axes key }
 {
-    let checked = check_below_root(axes, key);
-    match checked {
-        Outcome::Refused(refusal) => refused_list(refusal),
-        Outcome::Done => list_children(axes, parent_of(axes, key)),
-    }
+    check_below_root(axes, key)?;
+    Ok(list_children(axes, parent_of(axes, key)))
 }
 
 // A valid key, and the cells above it up to the root.
 fn list_ancestors(axes: usize, key: u64) -> KeyList
     requires { ValidKey axes key }
-    ensures { result ≡ listed Done (ancestors axes key) }
+    ensures { result ≡ key_list (ancestors axes key) }
 {
     let mut keys = [0u64; Three::NEIGHBOURS];
     keys[0] = key;
@@ -188,19 +153,12 @@ fn list_ancestors(axes: usize, key: u64) -> KeyList
         keys[len] = at;
         len += 1;
     }
-    KeyList {
-        outcome: Outcome::Done,
-        keys,
-        len,
-    }
+    KeyList { keys, len }
 }
 
-pub fn get_ancestors(axes: usize, key: u64) -> KeyList
+pub fn get_ancestors(axes: usize, key: u64) -> Result<KeyList, Refusal>
     ensures { result ≡ ancestors_answer axes key }
 {
-    let checked = check_key(axes, key);
-    match checked {
-        Outcome::Refused(refusal) => refused_list(refusal),
-        Outcome::Done => list_ancestors(axes, key),
-    }
+    check_key(axes, key)?;
+    Ok(list_ancestors(axes, key))
 }

@@ -107,10 +107,8 @@ fn visit_all(
     ensures { (result ≡ near_work axes key.now own.now (own_of key.now counts.now)) × (result ≤ most_work) }
 {
     let mut work: u64 = 0;
-    let mut node: usize = 1;
-    while node < key.len() {
+    for node in 1..key.len() {
         work += visit(axes, key, own, total, counts, node, stack, held, sums);
-        node += 1;
     }
     work
 }

@@ -1,22 +1,20 @@
 -- The column of counts: what stands in it, and what near work it gives.
-use mathlib.Core.Path.{◌≡◌, refl, sym, ap, ap₂, ◌∙◌, subst}
+use mathlib.Core.Path.{◌≡◌, refl, sym, ap, ◌∙◌, subst}
 use mathlib.Core.Bool.{Bool, true, false, ◌&&◌, cond}
-use mathlib.Core.List.{List, [], ◌∷◌, ◌++◌, map}
-use Prim.Native.Nat.{ℕ, zero, suc, ◌+◌, ◌-◌, ◌*◌, ◌/◌, ◌≤◌, ◌<◌, zero-le}
+use mathlib.Core.List.{List, [], ◌∷◌, map}
+use Prim.Native.Nat.{ℕ, zero, suc, ◌+◌, ◌-◌, ◌/◌, ◌≤◌, ◌<◌, zero-le}
 use native.Mathlib.Omega.{arith}
-use native.Mathlib.Numerals.{add-one}
 use native.Mathlib.Nat.{zero-div}
 use native.Mathlib.Decide.{dec_lt}
-use lib.Dec.{leb, ltb, eqb}
+use lib.Dec.{eqb}
 use lib.Ieee.{Float}
-use lib.ListN.{length, get_or, take, drop, set, replicate, length-append, length-map, length-replicate, length-set, get_or-append}
+use lib.ListN.{length, get_or, set, replicate, length-append, length-map, length-replicate, length-set, get_or-append}
 use lib.Seq.{get_or-append-add, ext_get_or, get_or-set_same, get_or-set_other, take_all}
 use borrow.Author.Tests.{eqb-true, eq-eqb, ne_eqb}
-use Rattle.refusal.specs.declared.Outcome.TheVariants.{Done}
 use Rattle.refusal.specs.Chain.{ask}
 use Rattle.refusal.proofs.Chain.{asked, both-done}
-use Rattle.slices.specs.Lists.{filter, bit, count, sum, filled, Mem, Distinct}
-use Rattle.slices.proofs.Tests.{and_l, and_r, clash, refute}
+use Rattle.slices.specs.Lists.{filter, bit, count, sum, filled, Mem}
+use Rattle.slices.proofs.Tests.{and_r, clash, refute}
 use Rattle.slices.proofs.Counts.{count-few, count-zero}
 use Rattle.slices.proofs.Lists.{get_d_map}
 use Rattle.slices.proofs.Members.{mem-filter}
@@ -25,7 +23,6 @@ use Rattle.slices.proofs.Sums.{sum_same, sum-swap, sum-bits, sum_less}
 use Rattle.tree.specs.Nodes.{leaf, own_of}
 use Rattle.tree.specs.WellFormed.{most_sources, SoundTree}
 use Rattle.tree.specs.Leaves.{held, leaf_key}
-use Rattle.tree.specs.Finding.{TreeKeys}
 use Rattle.rows.specs.Lists.{near_work, targets_at}
 use Rattle.rows.proofs.NearWork.{same-weights}
 use Rattle.sourced.proofs.Sound.{tree-keys}
@@ -34,17 +31,18 @@ use Rattle.grouping.proofs.Values.{get_or-zeros}
 use Rattle.grouping.proofs.Passing.{passing-le, passing-before}
 use Rattle.space.specs.declared.Box.{Box}
 use Rattle.space.specs.Cells.{frame_of}
-use Rattle.space.specs.Rows.{codes16, rows_of, rows_inside, most_points}
+use Rattle.space.specs.Rows.{rows_of, rows_inside, most_points}
 use Rattle.space.proofs.Batches.{codes-length, rows-le}
 use Rattle.lookup.specs.Batch.{held_before, leaf_keys, codes_inside, points_outcome}
 use Rattle.lookup.proofs.Leaves.{held-leaf}
 use Rattle.links.specs.Links.{inner, Links}
 use Rattle.links.proofs.Walk.{inner-inside}
-use Rattle.around.proofs.Nodes.{well, alone, own_count, inner-none}
+use Rattle.around.proofs.Nodes.{well, alone, own_count}
 use Rattle.near_pass.specs.Sums.{Weights}
 use Rattle.near_pass.proofs.Sums.{filter-le}
 use Rattle.near_pass.proofs.Work.{entry-of, own-total, inner-leaf, root-leaf}
 use Rattle.near_work.specs.Work.{weights, LeavesOnly, Cleared}
+use Rattle.refusal.specs.Outcome.{accepted}
 
 sum_ones : (ys : List ℕ) → sum (map (λ _. 1) ys) ≡ length ys
 unfolding sum
@@ -108,7 +106,7 @@ module _ (b : Box) (keys own : List ℕ) (t : SoundTree b.axes keys own) (xs : L
   -- without targets
   module _ (z : length xs ≡ 0) where
     -- there is nothing to refuse
-    pub none-points : Done ≡ points_outcome b keys xs
+    pub none-points : accepted ≡ points_outcome b keys xs
     unfolding points_outcome
     none-points =
         let rows : rows_of b xs ≡ 0 = ap (λ m. m / b.axes) z ∙ zero-div b.axes in
@@ -133,7 +131,7 @@ module _ (b : Box) (keys own : List ℕ) (t : SoundTree b.axes keys own) (xs : L
     unfolding weights
     target-weights k = ap (λ s. cond s (own_of keys own k) (targets_at marks k)) (ne_eqb (length xs) 0 some)
 
-    module _ (done : points_outcome b keys xs ≡ Done) where
+    module _ (done : points_outcome b keys xs ≡ accepted) where
       pub all_in : (held_before d keys (codes_inside b xs) ≡ rows_inside b xs) × (rows_inside b xs ≡ rows_of b xs)
       unfolding points_outcome
       all_in =
@@ -181,57 +179,19 @@ module _ (b : Box) (keys own : List ℕ) (t : SoundTree b.axes keys own) (xs : L
           ones = sum_ones
 
   -- either way: few, and none at nodes with children
-  pub weights-few : points_outcome b keys xs ≡ Done → rows_of b xs ≤ most_points → sum (map (weights b keys own xs) (filter (leaf d keys) keys)) ≤ most_sources
+  pub weights-few : points_outcome b keys xs ≡ accepted → rows_of b xs ≤ most_points → sum (map (weights b keys own xs) (filter (leaf d keys) keys)) ≤ most_sources
   weights-few done h = go (length xs) refl
     where
       go : (m : ℕ) → length xs ≡ m → sum (map (weights b keys own xs) (filter (leaf d keys) keys)) ≤ most_sources
       go zero e = omega (arith, sum_same (weights b keys own xs) (own_of keys own) (filter (leaf d keys) keys) (λ k _. own-weights e k), filter-le (own_of keys own) (leaf d keys) keys, own-total d keys own t)
       go (suc m) e = few-targets (λ z. omega arith) done h
 
-  pub weights-leaves : points_outcome b keys xs ≡ Done → (k : ℕ) → leaf d keys k ≡ false → Mem k keys → weights b keys own xs k ≡ 0
+  pub weights-leaves : points_outcome b keys xs ≡ accepted → (k : ℕ) → leaf d keys k ≡ false → Mem k keys → weights b keys own xs k ≡ 0
   weights-leaves done k f (i, l, e) = go (length xs) refl
     where
       go : (m : ℕ) → length xs ≡ m → weights b keys own xs k ≡ 0
       go zero z = own-weights z k ∙ ap (own_of keys own) (sym e) ∙ own_count d keys own t i l ∙ (well d keys own t).inner i l (ap (leaf d keys) e ∙ f)
       go (suc m) z = none-inner (λ q. omega arith) done k f
-
--- ---- the sources copied, entry by entry
-pub record Copying (own old counts : List ℕ) (i : ℕ) : Type 0 where
-  pub upto : i ≤ length own
-  pub long : length counts ≡ length old
-  pub first : (j : ℕ) → j < i → get_or counts j 0 ≡ get_or own j 0
-  pub rest : (j : ℕ) → i ≤ j → get_or counts j 0 ≡ 0
-
-module _ (own old : List ℕ) (room : length own ≤ length old) (zeros : old ≡ replicate (length old) 0) where
-  pub copying-start : Copying own old old 0
-  copying-start = record { upto = zero-le; long = refl; first = λ j l. absurd (omega arith); rest = λ j _. ap (λ (c : List ℕ). get_or c j 0) zeros ∙ get_or-zeros (length old) j }
-
-  pub copying-more : (counts : List ℕ) (i : ℕ) → Copying own old counts i → i < length own → Copying own old (set counts i (get_or own i 0)) (i + 1)
-  copying-more counts i c l = record {
-    upto = omega arith;
-    long = length-set counts i (get_or own i 0) ∙ c.long;
-    first = λ j h. go j h (dec_lt j i);
-    rest = λ j h. get_or-set_other counts i j (get_or own i 0) 0 (λ z. omega arith) ∙ c.rest j (omega arith);
-  }
-    where
-      go : (j : ℕ) → j < i + 1 → Dec (j < i) → get_or (set counts i (get_or own i 0)) j 0 ≡ get_or own j 0
-      go j h (yes k) = get_or-set_other counts i j (get_or own i 0) 0 (λ z. omega arith) ∙ c.first j k
-      go j h (no k) =
-          let z : j ≡ i = omega arith in
-          ap (λ x. get_or (set counts i (get_or own i 0)) x 0) z ∙ get_or-set_same counts i (get_or own i 0) 0 (omega (arith, c.long)) ∙ ap (λ x. get_or own x 0) (sym z)
-
-  pub copying-all : (counts : List ℕ) (i : ℕ) → Copying own old counts i → length own ≤ i → counts ≡ filled (length old) own
-  copying-all counts i c h = ext_get_or 0 counts (filled (length old) own) (c.long ∙ sym size) (λ j _. go j (dec_lt j (length own)))
-    where
-      size : length (filled (length old) own) ≡ length old
-      size = length-append own (replicate (length old - length own) 0) ∙ omega (arith, length-replicate {A = ℕ} (length old - length own) 0)
-
-      go : (j : ℕ) → Dec (j < length own) → get_or counts j 0 ≡ get_or (filled (length old) own) j 0
-      go j (yes l) = c.first j (omega arith) ∙ sym (get_or-append own (replicate (length old - length own) 0) 0 j l)
-      go j (no l) =
-          let e : length own + (j - length own) ≡ j = omega arith in
-          c.rest j (omega (arith, c.upto))
-          ∙ sym (ap (λ x. get_or (filled (length old) own) x 0) (sym e) ∙ get_or-append-add own (replicate (length old - length own) 0) (j - length own) 0 ∙ get_or-zeros (length old - length own) (j - length own))
 
 -- ---- the entries of nodes with children cleared, node by node
 pub record Clearing (keys old counts : List ℕ) (i : ℕ) : Type 0 where
@@ -309,7 +269,7 @@ pub zeros-self : (xs : List ℕ) (n : ℕ) → xs ≡ replicate n 0 → xs ≡ r
 zeros-self xs n e = e ∙ ap (λ m. replicate m 0) (sym (zeros-long xs n e))
 
 -- ---- the counts that were filled
-module _ (b : Box) (keys own : List ℕ) (t : SoundTree b.axes keys own) (xs : List Float) (done : points_outcome b keys xs ≡ Done) (few : rows_of b xs ≤ most_points) (n : ℕ) (room : length keys ≤ n)
+module _ (b : Box) (keys own : List ℕ) (t : SoundTree b.axes keys own) (xs : List Float) (done : points_outcome b keys xs ≡ accepted) (few : rows_of b xs ≤ most_points) (n : ℕ) (room : length keys ≤ n)
     (counts : List ℕ) (e : counts ≡ filled n (map (weights b keys own xs) keys)) where
   pub counts-ready : Weights b.axes keys counts × LeavesOnly keys counts
   counts-ready = subst (λ c. Weights b.axes keys c × LeavesOnly keys c) (sym e)

@@ -7,17 +7,16 @@ use native.Mathlib.Omega.{arith}
 use lib.Dec.{eqb}
 use lib.ListN.{length, get_or}
 use borrow.Author.Tests.{eqb-false, ne_eqb}
-use Rattle.slices.specs.Lists.{any, sum}
+use Rattle.slices.specs.Lists.{any}
 use Rattle.slices.proofs.Tests.{clash}
 use Rattle.slices.proofs.Sums.{sum-take, sum-whole}
 use Rattle.axes.proofs.Known.{axes-known}
 use Rattle.tree.specs.Nodes.{own_of, stored}
 use Rattle.tree.specs.WellFormed.{most_sources, SoundTree}
 use Rattle.tree.specs.Finding.{FoundNode}
-use Rattle.tree.specs.declared.Found.{Found}
-use Rattle.tree.specs.declared.Found.TheVariants.{At, Nothing}
 use Rattle.sourced.proofs.Sound.{tree-facts, tree-ascends, own_count, own-length}
 use Rattle.near_work.specs.Work.{Beside}
+use Rattle.std.specs.Prelude.{None, Option, Some}
 
 -- ---- what nodes own
 own-none : (keys own : List ℕ) (k : ℕ) → stored keys k ≡ false → 0 ≡ own_of keys own k
@@ -33,17 +32,17 @@ own-none (x ∷ xs) (n ∷ own) k h =
     neither false b e = (refl, e)
 
 -- what a search for a key finds
-module _ (d : ℕ) (keys own : List ℕ) (w : Beside d keys own) (k : ℕ) (r : Found) (f : FoundNode d keys k r) where
-  pub found_in : (node : ℕ) → r ≡ At node → node < length own
+module _ (d : ℕ) (keys own : List ℕ) (w : Beside d keys own) (k : ℕ) (r : Option ℕ) (f : FoundNode d keys k r) where
+  pub found_in : (node : ℕ) → r ≡ Some node → node < length own
   found_in node e = omega (arith, w.owns, at.0)
     where
       at : (node < length keys) × (get_or keys node 0 ≡ k)
       at = subst (FoundNode d keys k) e f
 
-  pub found-own : (node : ℕ) → r ≡ At node → get_or own node 0 ≡ own_of keys own k
+  pub found-own : (node : ℕ) → r ≡ Some node → get_or own node 0 ≡ own_of keys own k
   found-own node e = let at : (node < length keys) × (get_or keys node 0 ≡ k) = subst (FoundNode d keys k) e f in sym (w.own_count node at.0) ∙ ap (own_of keys own) at.1
 
-  pub found_nothing : r ≡ Nothing → 0 ≡ own_of keys own k
+  pub found_nothing : r ≡ None → 0 ≡ own_of keys own k
   found_nothing e = own-none keys own k (subst (FoundNode d keys k) e f w.ordered)
 
 module _ (d : ℕ) (keys own : List ℕ) (t : SoundTree d keys own) where

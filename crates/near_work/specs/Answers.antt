@@ -1,8 +1,6 @@
 -- Order 2: what the call for near work answers for a box, a tree and targets, and what it leaves in the counts, which have so much room.
-use Rattle.std.specs.Prelude.{List, map, ℕ, leb, Float, length}
+use Rattle.std.specs.Prelude.{List, map, ℕ, leb, Float, length, Ok}
 use Rattle.refusal.specs.declared.Refusal.TheVariants.{Room}
-use Rattle.refusal.specs.declared.Outcome.{Outcome}
-use Rattle.refusal.specs.declared.Outcome.TheVariants.{Done, Refused}
 use Rattle.refusal.specs.Chain.{ask, ◌then◌}
 use Rattle.refusal.specs.Left.{left}
 use Rattle.space.specs.declared.Box.{Box}
@@ -11,14 +9,8 @@ use Rattle.rows.specs.Lists.{near_work}
 use Rattle.sourced.specs.Answers.{tree_check}
 use Rattle.lookup.specs.Work.{shape_outcome}
 use Rattle.lookup.specs.Batch.{points_outcome}
-use Rattle.near_work.specs.declared.WorkAnswer.{WorkAnswer}
-use Rattle.near_work.specs.declared.WorkAnswer.TheVariants as work
 use Rattle.near_work.specs.Work.{weights}
-
--- the work, or the refusal
-abbrev pub work_or : Outcome → ℕ → WorkAnswer
-work_or Done n = work.Work n
-work_or (Refused r) n = work.Refused r
+use Rattle.refusal.specs.Outcome.{Answer, Outcome}
 
 -- 1, 2, and 3 and 4 of so many numbers, 13, then 8 where there are fewer counts than nodes
 abbrev pub room_check : Box → Columns → ℕ → ℕ → Outcome
@@ -29,8 +21,9 @@ module _ (b : Box) (t : Columns) (targets : List Float) (room : ℕ) where
   abbrev pub work_check : Outcome
   work_check = room_check b t (length targets) room then points_outcome b t.keys targets
 
-  abbrev pub work_answer : WorkAnswer
-  work_answer = work_or work_check (near_work b.axes t.keys t.own (weights b t.keys t.own targets))
+  -- the work, or the refusal
+  abbrev pub work_answer : Answer ℕ
+  work_answer = work_check then Ok (near_work b.axes t.keys t.own (weights b t.keys t.own targets))
 
   -- the targets of each node
   abbrev pub counts_left : List ℕ

@@ -3,7 +3,8 @@
 // Near work: the sum over leaves of looked-up targets times sources in the U row.
 mod listed; // listed.rt: near work over a U list that is at hand
 
-ghost use Rattle.std.specs.Prelude.{◌≡◌, true, map, ℕ, ◌≤◌, length, replicate};
+ghost use Rattle.std.specs.Prelude.{◌≡◌, true, map, ◌≤◌, length, replicate, IfOk};
+ghost use Rattle.refusal.specs.Outcome.{accepted};
 ghost use Rattle.slices.specs.Lists.{filled};
 ghost use Rattle.tree.specs.Columns.{columns};
 ghost use Rattle.tree.specs.Nodes.{own_of};
@@ -16,26 +17,15 @@ ghost use Rattle.near_work.specs.Work.{weights, LeavesOnly, Cleared};
 ghost use Rattle.near_work.specs.Answers.{room_check, work_answer, counts_left};
 
 pub use listed::near_work;
-use refusal::{Outcome, Refusal};
+use refusal::Refusal;
 use space::Box;
-
-// Near work of a tree, or a refusal.
-#[derive(Clone, Copy)]
-pub enum WorkAnswer {
-    Work(u64),
-    Refused(Refusal),
-}
 
 // Copies what each node owns to the front of the counts, which are 0.
 fn copy_own(own: &[usize], counts: &mut [usize])
     requires { (length own.now ≤ length counts.old) × (counts.old ≡ replicate (length counts.old) 0) }
     ensures { counts.new ≡ filled (length counts.old) own.now }
 {
-    let mut i: usize = 0;
-    while i < own.len() {
-        counts[i] = own[i];
-        i += 1;
-    }
+    counts[..own.len()].copy_from_slice(own);
 }
 
 // Counts the targets of each leaf, in counts that are 0; without targets the sources serve as targets.
@@ -45,16 +35,16 @@ pub fn fill_counts(
     own: &[usize],
     targets: &[f64],
     counts: &mut [usize],
-) -> Outcome
+) -> Result<(), Refusal>
     requires sound_tree { SoundTree b.axes key.now own.now × (rows_of b targets.now ≤ most_points) }
     requires key_in_bounds { (length key.now ≤ length counts.old) × (counts.old ≡ replicate (length counts.old) 0) }
     ensures value { result ≡ points_outcome b key.now targets.now }
-    ensures counts_after { points_outcome b key.now targets.now ≡ Outcome.Done
+    ensures counts_after { points_outcome b key.now targets.now ≡ accepted
         → counts.new ≡ filled (length counts.old) (map (weights b key.now own.now targets.now) key.now) }
 {
     if targets.len() == 0 {
         copy_own(own, counts);
-        return Outcome::Done;
+        return Ok(());
     }
     target_counts::count_targets(b, key, targets, counts)
 }
@@ -64,13 +54,9 @@ fn clear_inner(key: &[u64], counts: &mut [usize])
     requires { length key.now ≤ length counts.old }
     ensures { Cleared key.now counts.old counts.new }
 {
-    let mut i: usize = 0;
-    while i < key.len() {
+    for i in 0..key.len() {
         if links::has_children(key, i) {
             counts[i] = 0;
-            i += 1;
-        } else {
-            i += 1;
         }
     }
 }
@@ -97,21 +83,15 @@ fn room_outcome(
     total: &[usize],
     numbers: usize,
     room: usize,
-) -> Outcome
+) -> Result<(), Refusal>
     ensures { result ≡ room_check b (columns key.now own.now begin.now total.now) numbers room }
 {
-    let shaped = lookup::shape_outcome(b, numbers);
-    if let Outcome::Refused(refusal) = shaped {
-        return Outcome::Refused(refusal);
-    }
-    let checked = sourced::check_tree(b.axes, key, own, begin, total);
-    if let Outcome::Refused(refusal) = checked {
-        return Outcome::Refused(refusal);
-    }
+    lookup::shape_outcome(b, numbers)?;
+    sourced::check_tree(b.axes, key, own, begin, total)?;
     if room < key.len() {
-        return Outcome::Refused(Refusal::Room(8));
+        return Err(Refusal::Room(8));
     }
-    Outcome::Done
+    Ok(())
 }
 
 // Near work of any tree with targets, or with its sources as targets where there are none. The counts end as the targets of each node.
@@ -123,21 +103,17 @@ pub fn get_near_work(
     total: &[usize],
     targets: &[f64],
     counts: &mut [usize],
-) -> WorkAnswer
+) -> Result<u64, Refusal>
     ensures answer { result ≡ work_answer b (columns key.now own.now begin.now total.now) targets.now (length counts.old) }
     ensures counts { counts.new ≡ counts_left b (columns key.now own.now begin.now total.now) targets.now (length counts.old) }
-    ensures bounded { (n : ℕ) → result ≡ WorkAnswer.Work n → n ≤ most_work }
+    ensures bounded { IfOk result (λ n. n ≤ most_work) }
 {
     let checked = room_outcome(b, key, own, begin, total, targets.len(), counts.len());
     slices::clear_usize(counts);
-    if let Outcome::Refused(refusal) = checked {
-        return WorkAnswer::Refused(refusal);
-    }
-    let counted = fill_counts(b, key, own, targets, counts);
-    if let Outcome::Refused(refusal) = counted {
+    checked?;
+    if let Err(refusal) = fill_counts(b, key, own, targets, counts) {
         slices::clear_usize(counts);
-        return WorkAnswer::Refused(refusal);
+        return Err(refusal);
     }
-    let work = sum_up(b.axes, key, own, total, counts);
-    WorkAnswer::Work(work)
+    Ok(sum_up(b.axes, key, own, total, counts))
 }

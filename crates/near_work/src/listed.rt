@@ -7,8 +7,6 @@ ghost use Rattle.rows.specs.Written.{Written};
 ghost use Rattle.near_pass.specs.Sums.{row_sources, work_of, most_work, Weights};
 ghost use Rattle.near_work.specs.Work.{Beside};
 
-use tree::Found;
-
 // What the node with key k owns, 0 if there is none.
 fn own_of(axes: usize, key: &[u64], own: &[usize], k: u64) -> usize
     requires { Beside axes key.now own.now }
@@ -16,8 +14,8 @@ fn own_of(axes: usize, key: &[u64], own: &[usize], k: u64) -> usize
 {
     let found = tree::find_node(axes, key, k);
     match found {
-        Found::At(node) => own[node],
-        Found::Nothing => 0,
+        Some(node) => own[node],
+        None => 0,
     }
 }
 
@@ -27,10 +25,8 @@ fn row_sources(axes: usize, key: &[u64], own: &[usize], row: &[u64]) -> u64
     ensures { result ≡ row_sources key.now own.now row.now }
 {
     let mut sources: u64 = 0;
-    let mut i: usize = 0;
-    while i < row.len() {
-        sources += own_of(axes, key, own, row[i]) as u64;
-        i += 1;
+    for k in row {
+        sources += own_of(axes, key, own, *k) as u64;
     }
     sources
 }
@@ -71,10 +67,8 @@ pub fn near_work(
     ensures bounded { result ≤ most_work }
 {
     let mut work: u64 = 0;
-    let mut node: usize = 0;
-    while node < key.len() {
+    for node in 0..key.len() {
         work += work_of(axes, key, own, counts, starts, flat, node);
-        node += 1;
     }
     work
 }

@@ -2,24 +2,23 @@
 use mathlib.Core.Path.{◌≡◌, refl, sym, ap, ap₂, ◌∙◌, subst}
 use mathlib.Core.Bool.{Bool, true, false, cond}
 use mathlib.Core.List.{List, [], ◌∷◌, ◌++◌, map, append-nil}
-use Prim.Native.Nat.{ℕ, zero, suc, ◌+◌, ◌*◌, ◌-◌, ◌/◌, ◌%◌, ◌^◌, ◌≤◌, ◌<◌}
+use Prim.Native.Nat.{ℕ, suc, ◌+◌, ◌^◌, ◌≤◌, ◌<◌}
 use native.Mathlib.Omega.{arith}
-use native.Mathlib.Nat.{zero-add, not-suc-le-zero}
+use native.Mathlib.Nat.{zero-add}
 use native.Mathlib.Decide.{dec_lt}
 use lib.Dec.{ltb}
 use lib.IntN.{ℤ, pos, ◌+ℤ◌, nat_abs}
 use lib.ListN.{length, get_or, set, replicate}
 use borrow.Author.Tests.{lt-ltb}
 use Rattle.slices.specs.Lists.{range, filter, filled}
-use Rattle.slices.specs.Every.{every}
 use Rattle.slices.proofs.Lists.{range-append, length-range, filter-append, filter-shorter, get_or-filled}
 use Rattle.slices.proofs.Every.{every-all, every-same}
 use Rattle.codes.specs.Anchors.{Bytes2}
 use Rattle.codes.proofs.Codes.{encode_same}
 use Rattle.codes.proofs.Entries.{tabled, length-tabled}
-use Rattle.morton.specs.Keys.{neighbours_room, level_of, code_of, key, ValidKey}
+use Rattle.morton.specs.Keys.{neighbours_room, level_of, key, ValidKey}
 use Rattle.morton.specs.Anchors.{encode, anchors, key_at, on_level}
-use Rattle.neighbours.specs.Directions.{directions, direction_row, none, ahead, is_anchor, stays, moved, on_box, toward, neighbours}
+use Rattle.neighbours.specs.Directions.{directions, direction_row, none, ahead, is_anchor, stays, moved, on_box, toward}
 use Rattle.neighbours.specs.Steps.{unit_row}
 use Rattle.anchors.proofs.Placing.{past-filled, anchors-at, anchors-length, anchor-small}
 use Rattle.neighbours.proofs.Steps.{stays-lt}
@@ -32,9 +31,9 @@ use Rattle.morton.proofs.Runs.{Held, held_none, held_more}
 pub rows_few : (d : ℕ) → length (directions d) ≤ neighbours_room 3
 rows_few d = omega (arith, rows-number d, neighbours-most d)
 
--- a row's number is below the count that the code has
-pub in_rows : (d : ℕ) (rows : List (List ℤ)) (count i : ℕ) → rows ≡ directions d → count ≡ neighbours_room d → i < count → (i < length rows) × (i < length (directions d))
-in_rows d rows count i e n h = (omega (arith, ap length e, rows-number d), omega (arith, rows-number d))
+-- a row that the loop is at is one of the document's
+pub in_rows : (d : ℕ) (rows : List (List ℤ)) (i : ℕ) → rows ≡ directions d → i < length rows → i < length (directions d)
+in_rows d rows i e h = omega (arith, ap length e)
 
 module _ (d k level : ℕ) (v : ValidKey d k) (el : level ≡ level_of k) (from : List ℕ) (ef : from ≡ filled 3 (anchors d k)) (i : ℕ) (row : List ℤ) (er : row ≡ direction_row d i) where
   from_at : (a : ℕ) → a < d → get_or from a 0 ≡ get_or (anchors d k) a 0

@@ -14,7 +14,7 @@ use Rattle.slices.proofs.Every.{every-at, every-all}
 use Rattle.slices.proofs.Members.{map-mem, mem-map, filter-mem, mem-filter, range-mem, mem-range, filter-distinct, map-distinct, range-distinct}
 use Rattle.codes.proofs.Codes.{anchor-lt}
 use Rattle.codes.proofs.Entries.{tabled}
-use Rattle.morton.specs.Keys.{key, level_of, code_of, ValidKey, axes_known}
+use Rattle.morton.specs.Keys.{level_of, code_of, ValidKey, axes_known}
 use Rattle.morton.specs.Anchors.{anchor, anchors, on_level, within1, near, touching}
 use Rattle.neighbours.specs.Directions.{directions, direction_row, ahead, moved, on_box, toward, neighbours, none}
 use Rattle.morton.proofs.Nearness.{within, within-lo, within-hi}

@@ -1,11 +1,10 @@
 -- Document 01's proved table, as one statement over the key and depth definitions.
 use mathlib.Core.Path.{◌≡◌, refl}
-use mathlib.Core.Bool.{Bool, true, false}
-use mathlib.Core.List.{List, [], ◌∷◌, map}
-use Prim.Native.Nat.{ℕ, zero, suc}
+use mathlib.Core.Bool.{false}
+use mathlib.Core.List.{[], ◌∷◌}
 use Rattle.slices.specs.Lists.{range, filter}
 use Rattle.slices.specs.Every.{every}
-use Rattle.morton.specs.Keys.{valid, parent, children, child_index, level_of, code_of, ancestors}
+use Rattle.morton.specs.Keys.{valid, parent, children, child_index}
 use Rattle.morton.specs.Anchors.{key_at, encode, spread, anchor}
 use Rattle.neighbours.specs.Directions.{neighbours}
 use Rattle.morton.specs.Depth.{reference_depth, depth_from}

@@ -1,17 +1,15 @@
 -- The direction rows, tied once over d to the touching rule: each step is -1, 0 or 1; each way of stepping so on every axis, but for standing still, is one row, and no row is another.
 use mathlib.Core.Path.{◌≡◌, refl, sym, ap, ap₂, ◌∙◌}
 use mathlib.Core.Bool.{Bool, true, false, ◌&&◌, ◌||◌, not}
-use mathlib.Core.List.{List, [], ◌∷◌}
-use mathlib.Core.Logic.{◌≢◌}
-use Prim.Native.Nat.{ℕ, zero, suc, ◌+◌, ◌*◌, ◌-◌, ◌/◌, ◌%◌, ◌^◌, ◌≤◌, ◌<◌}
+use Prim.Native.Nat.{ℕ, zero, suc, ◌+◌, ◌*◌, ◌/◌, ◌%◌, ◌^◌, ◌≤◌, ◌<◌}
 use native.Mathlib.Omega.{arith}
-use native.Mathlib.Nat.{not-suc-le-zero, mul-le-mul_right, suc-mul, mul-add-div_right, mul-add-mod_self_right, div-eq_of_lt, mod-eq_of_lt, add-zero, one-le-pow}
+use native.Mathlib.Nat.{not-suc-le-zero, mul-le-mul_right, mul-add-div_right, mul-add-mod_self_right, div-eq_of_lt, mod-eq_of_lt, add-zero, one-le-pow}
 use native.Mathlib.Decide.{dec_lt}
-use lib.Dec.{leb, ltb, eqb}
+use lib.Dec.{eqb}
 use lib.IntN.{ℤ, pos, negsuc}
 use lib.ListN.{length, get_or}
 use borrow.Author.Tests.{eqb-true, eq-eqb, ne_eqb, not-true}
-use Rattle.slices.specs.Lists.{any, range, Mem}
+use Rattle.slices.specs.Lists.{any, range}
 use Rattle.slices.specs.Every.{every}
 use Rattle.slices.proofs.Tests.{and_l, and_r, clash, or-not}
 use Rattle.slices.proofs.Counts.{any-elim}

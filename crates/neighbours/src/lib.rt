@@ -3,17 +3,16 @@
 // The direction rows of `morton_constants.rs`, in its order, and the neighbours of a cell along them.
 ghost use Rattle.std.specs.Prelude.{◌≡◌, true, ℕ, ◌≤◌, ◌<◌, get_or};
 ghost use Rattle.slices.specs.Lists.{filled};
-ghost use Rattle.refusal.specs.declared.Outcome.TheVariants.{Done};
 ghost use Rattle.codes.specs.Anchors.{Bytes2};
 ghost use Rattle.morton.specs.Keys.{ValidKey};
 ghost use Rattle.neighbours.specs.Directions.{directions, stays as stays_on, moved as moved_along, neighbours as neighbours_of};
 ghost use Rattle.neighbours.specs.Steps.{unit_row, raised as raised_step};
-ghost use Rattle.morton.specs.Answers.{listed};
+ghost use Rattle.morton.specs.Answers.{key_list};
 ghost use Rattle.neighbours.specs.Answer.{neighbours_answer};
 
 use axes::{One, Three, Two};
 use morton::{KeyList, keys};
-use refusal::Outcome;
+use refusal::Refusal;
 
 // A row has a step for each of three axes, 0 past the number of axes.
 const DIRECTION_VECTORS_1D: [[i64; 3]; One::NEIGHBOURS] = [[-1, 0, 0], [1, 0, 0]];
@@ -75,9 +74,7 @@ fn stays(axes: usize, level: u64, from: [u64; 3], row: [i64; 3]) -> bool
     ensures { result ≡ stays_on axes level from row }
 {
     let end: u64 = 1 << level;
-    let mut n = axes;
-    while 0 < n {
-        n -= 1;
+    for n in (0..axes).rev() {
         let up = from[n] + raised(row[n]);
         if up < 1 {
             return false;
@@ -95,10 +92,8 @@ fn moved(axes: usize, level: u64, from: [u64; 3], row: [i64; 3]) -> [u64; 3]
     ensures { result ≡ filled 3 (moved_along axes from row) }
 {
     let mut to = [0u64; 3];
-    let mut a: usize = 0;
-    while a < axes {
+    for a in 0..axes {
         to[a] = from[a] + raised(row[a]) - 1;
-        a += 1;
     }
     to
 }
@@ -106,36 +101,26 @@ fn moved(axes: usize, level: u64, from: [u64; 3], row: [i64; 3]) -> [u64; 3]
 // The neighbours of a valid key along the direction rows of its number of axes.
 fn list_along(rows: &[[i64; 3]], axes: usize, key: u64) -> KeyList
     requires { ValidKey axes key × (rows.now ≡ directions axes) }
-    ensures { result ≡ listed Done (neighbours_of axes key) }
+    ensures { result ≡ key_list (neighbours_of axes key) }
 {
-    let count = axes::neighbours_of(axes);
     let level = keys::level_of(key);
     let from = anchors::anchors_of(axes, key);
     let mut found = [0u64; Three::NEIGHBOURS];
     let mut len: usize = 0;
-    let mut i: usize = 0;
-    while i < count {
-        let row = rows[i];
-        if stays(axes, level, from, row) {
-            let to = moved(axes, level, from, row);
+    for row in rows {
+        if stays(axes, level, from, *row) {
+            let to = moved(axes, level, from, *row);
             found[len] = anchors::key_at(axes, to, level);
             len += 1;
-            i += 1;
-        } else {
-            i += 1;
         }
     }
-    KeyList {
-        outcome: Outcome::Done,
-        keys: found,
-        len,
-    }
+    KeyList { keys: found, len }
 }
 
 // The neighbours of a valid key, by its number of axes.
-fn list_neighbours(axes: usize, key: u64) -> KeyList
+pub fn list_neighbours(axes: usize, key: u64) -> KeyList
     requires { ValidKey axes key }
-    ensures { result ≡ listed Done (neighbours_of axes key) }
+    ensures { result ≡ key_list (neighbours_of axes key) }
 {
     match axes {
         1 => {
@@ -154,12 +139,9 @@ fn list_neighbours(axes: usize, key: u64) -> KeyList
 }
 
 // The cells of the box that touch a cell, without it, in the order of the direction rows.
-pub fn get_neighbours(axes: usize, key: u64) -> KeyList
+pub fn get_neighbours(axes: usize, key: u64) -> Result<KeyList, Refusal>
     ensures { result ≡ neighbours_answer axes key }
 {
-    let checked = keys::check_key(axes, key);
-    match checked {
-        Outcome::Refused(refusal) => keys::refused_list(refusal),
-        Outcome::Done => list_neighbours(axes, key),
-    }
+    keys::check_key(axes, key)?;
+    Ok(list_neighbours(axes, key))
 }

@@ -1,11 +1,16 @@
 -- The answer from how a build has started.
-use mathlib.Core.Path.{◌≡◌, refl, ap, ◌∙◌}
+use mathlib.Core.Path.{◌≡◌, sym, ap, ◌∙◌}
 use Prim.Native.Nat.{ℕ}
-use Rattle.refusal.specs.declared.Outcome.{Outcome}
-use Rattle.refusal.specs.declared.Outcome.TheVariants.{Done, Refused}
-use Rattle.node_count.specs.Counts.{nodes_or}
+use Rattle.filling.specs.declared.Started.{Started}
+use Rattle.refusal.specs.declared.Refusal.{Refusal}
+use Rattle.refusal.specs.Chain.{◌then◌}
+use Rattle.refusal.proofs.Chain.{after-refused, answered}
+use Rattle.refusal.specs.Outcome.{Answer, Outcome, ending}
+use Rattle.std.specs.Prelude.{Err, Ok}
 
--- the number matters only where nothing is refused
-pub answer-so : (o p : Outcome) (n m : ℕ) → o ≡ p → (o ≡ Done → n ≡ m) → nodes_or o n ≡ nodes_or p m
-answer-so Done p n m e f = ap (nodes_or Done) (f refl) ∙ ap (λ (q : Outcome). nodes_or q m) e
-answer-so (Refused r) p n m e f = ap (λ (q : Outcome). nodes_or q m) e
+module _ (a : Answer Started) (o : Outcome) (m : ℕ) (e : ending a ≡ o) where
+  pub count-refused : (r : Refusal) → a ≡ Err r → Err r ≡ o then Ok m
+  count-refused r is = sym (after-refused o (Ok m) r (sym e ∙ ap (λ (b : Answer Started). ending b) is))
+
+  pub count-so : (s : Started) → a ≡ Ok s → s.nodes ≡ m → Ok s.nodes ≡ o then Ok m
+  count-so s is h = answered o s.nodes m (sym e ∙ ap (λ (b : Answer Started). ending b) is) h

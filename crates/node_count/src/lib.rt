@@ -3,30 +3,11 @@
 // How many nodes a build has, with no node column: the tree is grown as in a build, and its nodes are counted and forgotten.
 ghost use Rattle.std.specs.Prelude.{◌≡◌, length, replicate};
 ghost use Rattle.build.specs.Asked.{asks_at, asks_for, asks_on_grid};
-ghost use Rattle.node_count.specs.Counts.{nodes_or, nodes_answer};
+ghost use Rattle.node_count.specs.Counts.{nodes_answer};
 
-use build::Started;
 use grids::Grid;
-use refusal::{Outcome, Refusal};
+use refusal::Refusal;
 use space::Box;
-
-// The number of nodes, or why there is no tree.
-#[derive(Clone, Copy)]
-pub enum Counted {
-    Nodes(usize),
-    Refused(Refusal),
-}
-
-// The answer from what has started.
-fn answer_of(started: Started) -> Counted
-    ensures { result ≡ nodes_or started.outcome started.nodes }
-{
-    let outcome = started.outcome;
-    if let Outcome::Refused(refusal) = outcome {
-        return Counted::Refused(refusal);
-    }
-    Counted::Nodes(started.nodes)
-}
 
 // Counts the nodes of the tree with these targets, or, where it is `sited`, with those of the grid.
 fn count(
@@ -40,7 +21,7 @@ fn count(
     keep: bool,
     work: &mut [u64],
     indices: &mut [usize],
-) -> Counted
+) -> Result<usize, Refusal>
     ensures value { result ≡ nodes_answer (asks_at b limit order keep sources.now targets.now sited grid) work.old indices.old }
     ensures work_after { work.new ≡ replicate (length work.old) 0 }
     ensures indices_after { indices.new ≡ replicate (length indices.old) 0 }
@@ -56,7 +37,7 @@ fn count(
         limit,
         order,
         keep,
-        build::MOST_NODES,
+        tree::MOST_NODES,
         work,
         indices,
         &mut key,
@@ -64,7 +45,7 @@ fn count(
     );
     slices::clear(work);
     slices::clear_usize(indices);
-    answer_of(started)
+    Ok(started?.nodes)
 }
 
 // How many nodes the tree of the sources has that `build_tree` builds of the same arguments, or why it has none: both slices are room for the work, and 0 throughout after it.
@@ -78,7 +59,7 @@ pub fn count_nodes(
     refine: bool,
     work: &mut [u64],
     indices: &mut [usize],
-) -> Counted
+) -> Result<usize, Refusal>
     ensures answer { result ≡ nodes_answer (asks_for b sources.now targets.now limit order keep refine) work.old indices.old }
     ensures work { work.new ≡ replicate (length work.old) 0 }
     ensures indices { indices.new ≡ replicate (length indices.old) 0 }
@@ -110,7 +91,7 @@ pub fn count_nodes_on_grid(
     refine: bool,
     work: &mut [u64],
     indices: &mut [usize],
-) -> Counted
+) -> Result<usize, Refusal>
     ensures answer { result ≡ nodes_answer (asks_on_grid b sources.now grid limit order keep refine) work.old indices.old }
     ensures work { work.new ≡ replicate (length work.old) 0 }
     ensures indices { indices.new ≡ replicate (length indices.old) 0 }

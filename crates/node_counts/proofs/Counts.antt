@@ -1,5 +1,5 @@
 -- Counts kept or cleared node by node; and that a salvage's own counts are these.
-use mathlib.Core.Path.{◌≡◌, refl, sym, ap, ap₂, ◌∙◌}
+use mathlib.Core.Path.{◌≡◌, sym, ap, ap₂, ◌∙◌}
 use mathlib.Core.Bool.{Bool, true, false, ◌&&◌, cond}
 use mathlib.Core.List.{List, map}
 use Prim.Native.Nat.{ℕ, ◌+◌, ◌-◌, ◌≤◌, ◌<◌}
@@ -12,7 +12,7 @@ use lib.Seq.{get_or-set_same, get_or-set_other, ext_get_or}
 use borrow.Author.Tests.{le-leb, lt-leb}
 use Rattle.slices.specs.Lists.{range}
 use Rattle.slices.proofs.Lists.{length-range, get_or-range, get_d_map}
-use Rattle.tree.specs.Nodes.{leaf, own_of}
+use Rattle.tree.specs.Nodes.{leaf}
 use Rattle.salvaged.specs.Nodes.{Input}
 use Rattle.salvaged.specs.Columns.{new_keys, old_own, old_begin, new_count, new_own}
 use Rattle.node_counts.specs.Counts.{count_at, counts_kept}
@@ -35,9 +35,6 @@ pub record Settled (d : ℕ) (key begin own₀ : List ℕ) (entries : ℕ) (own 
   pub rest : (p : ℕ) → q ≤ p → get_or own p 0 ≡ get_or own₀ p 0
 
 module _ (d : ℕ) (key begin own₀ : List ℕ) (entries : ℕ) where
-  pub settled-none : Settled d key begin own₀ entries own₀ 0
-  settled-none = record { within = omega arith; owns = refl; done = λ p l. absurd (omega arith); rest = λ p l. refl }
-
   module _ (own : List ℕ) (q : ℕ) (s : Settled d key begin own₀ entries own q) (l : q < length key) where
     pub settled_same : leaf d key (get_or key q 0) ≡ true → leb (get_or begin q 0 + get_or own q 0) entries ≡ true → Settled d key begin own₀ entries own (q + 1)
     unfolding count_at

@@ -1,5 +1,5 @@
 -- The counts of a salvage, from what the first rows say.
-use Rattle.std.specs.Prelude.{◌≡◌, Bool, ◌&&◌, cond, List, map, ℕ, ◌+◌, leb, length, get_or}
+use Rattle.std.specs.Prelude.{◌≡◌, ◌&&◌, cond, List, map, ℕ, ◌+◌, leb, length, get_or}
 use Rattle.slices.specs.Lists.{range}
 use Rattle.tree.specs.Nodes.{leaf}
 use Rattle.tree.specs.Finding.{TreeKeys}

@@ -19,18 +19,9 @@ pub fn keep_counts(axes: usize, key: &[u64], begin: &[usize], own: &mut [usize],
     requires { Countable axes key.now begin.now own.old }
     ensures { own.new ≡ counts_kept axes key.now begin.now own.old entries }
 {
-    let mut q = 0;
-    while q < key.len() {
-        if tree::is_leaf(axes, key, q) {
-            if run_fits(begin[q], own[q], entries) {
-                q += 1;
-            } else {
-                own[q] = 0;
-                q += 1;
-            }
-        } else {
+    for q in 0..key.len() {
+        if !tree::is_leaf(axes, key, q) || !run_fits(begin[q], own[q], entries) {
             own[q] = 0;
-            q += 1;
         }
     }
 }

@@ -4,5 +4,4 @@ pub mod Near
 pub mod Roots
 pub mod Nodes
 pub mod Putting
-pub mod Ordered
 pub mod Marking

@@ -1,18 +1,17 @@
 -- The positions that a bit marks, put one after the other; and sums over them.
 use mathlib.Core.Path.{◌≡◌, refl, sym, ap, ◌∙◌, subst}
-use mathlib.Core.Bool.{Bool, true, false}
 use mathlib.Core.List.{List, [], ◌∷◌, ◌++◌, map}
-use Prim.Native.Nat.{ℕ, zero, suc, ◌+◌, ◌*◌, ◌-◌, ◌/◌, ◌%◌, ◌^◌, ◌≤◌, ◌<◌, zero-le}
+use Prim.Native.Nat.{ℕ, zero, suc, ◌+◌, ◌*◌, ◌-◌, ◌%◌, ◌^◌, ◌≤◌, ◌<◌, zero-le}
 use native.Mathlib.Omega.{arith}
 use native.Mathlib.Numerals.{add-one}
 use native.Mathlib.Nat.{add-zero}
 use lib.Dec.{eqb}
 use lib.ListN.{length, get_or, take, set, length-append, length-map, length-set}
-use lib.Seq.{get_or-take, length-take-le, take-set-le, take-suc-set}
+use lib.Seq.{length-take-le, take-set-le, take-suc-set}
 use Rattle.slices.specs.Lists.{filter, range, sum}
 use Rattle.slices.proofs.Lists.{get_d_map}
 use Rattle.slices.proofs.Sums.{sum-take, sum-whole, sum-all}
-use Rattle.sourced.specs.Room.{Holds, Puts}
+use Rattle.sourced.specs.Room.{Puts}
 use Rattle.links.proofs.Children.{filter-here, filter-past}
 use Rattle.around.specs.Masks.{bit_of}
 use Rattle.around.specs.Parting.{key_of, near_at, far_at, Parts}
@@ -95,13 +94,6 @@ module _ (f : ℕ → ℕ) (xs : List ℕ) where
     summing-all h =
         let e : i ≡ length (map f xs) = omega (arith, length-map xs f, g.upto) in
         g.adds ∙ ap (λ (n : ℕ). sum (take n (map f xs))) e ∙ sum-all (map f xs)
-
--- the positions that are summed are the first of a slice
-pub first-length : (near : List ℕ) (t : ℕ) → t ≤ length near → length (take t near) ≡ t
-first-length near t h = length-take-le t near h
-
-pub entry_at : (nodes near : List ℕ) (t : ℕ) (column : List ℕ) (i : ℕ) → i < t → get_or column (get_or nodes (get_or near i 0) 0) 0 ≡ get_or column (get_or nodes (get_or (take t near) i 0) 0) 0
-entry_at nodes near t column i h = ap (λ x. get_or column (get_or nodes x 0) 0) (sym (get_or-take t near i 0 h))
 
 -- ---- for a node, from the numbers of its parent's level, which stand from a up to e in the stack
 module _ (d : ℕ) (keys own : List ℕ) (t : SoundTree d keys own) (i : ℕ) (pos : 0 < i) (l : i < length keys) (stack held : List ℕ) (s : Stack d keys own (parent d (get_or keys i 0)) stack held)

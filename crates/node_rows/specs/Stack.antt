@@ -3,8 +3,6 @@ use Rattle.std.specs.Prelude.{◌≡◌, List, map, ℕ, ◌*◌, ◌-◌, ◌�
 use Rattle.morton.specs.Keys.{level_of, parent, ValidKey}
 use Rattle.tree.specs.Nodes.{cell_at}
 use Rattle.places.specs.Places.{place_of}
-use Rattle.sourced.specs.Room.{Puts}
-use Rattle.sourced.specs.Room.{PutsRow}
 use Rattle.around.specs.Around.{near_nodes, nodes_in, places_in, masks_in, FrameIn, Kept}
 use Rattle.around.specs.Parting.{key_of, Parting, Parts, Positions, Splits}
 
@@ -71,7 +69,3 @@ NearIn d keys own q layer near t = NearFound d keys own q (nodes_in layer) (plac
 -- and of those near node i, in its parent's frame
 abbrev pub NearNode : ℕ → List ℕ → List ℕ → ℕ → List ℕ → List ℕ → ℕ → Type 0
 NearNode d keys own i stack near t = NearIn d keys own (get_or keys i 0) (level_at stack (level_of (get_or keys i 0) - 1)) near t
-
--- whatever row was put from n up to m in some order stands there in its own
-abbrev pub Sorted : ℕ → ℕ → List ℕ → List ℕ → Type 0
-Sorted n m out out' = (row before : List ℕ) → length before ≡ length out → PutsRow row before n out m → Puts before n row out' m

@@ -15,12 +15,10 @@ fn mark_near(masks: &[usize], c: usize, s: u64, near: &mut [usize]) -> usize
     ensures { Marked masks.now s near.new result c }
 {
     let mut t: usize = 0;
-    let mut j: usize = 0;
-    while j < c {
+    for j in 0..c {
         let bit = (masks[j] >> s) % 2;
         near[t] = j;
         t += bit;
-        j += 1;
     }
     t
 }
@@ -52,10 +50,8 @@ fn sum_at(nodes: &[usize], near: &[usize], t: usize, column: &[usize]) -> usize
     ensures { result ≡ sum (entries_at nodes.now near.now t column.now) }
 {
     let mut r: usize = 0;
-    let mut i: usize = 0;
-    while i < t {
-        r += column[nodes[near[i]]];
-        i += 1;
+    for at in &near[..t] {
+        r += column[nodes[*at]];
     }
     r
 }

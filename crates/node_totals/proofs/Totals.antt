@@ -1,13 +1,11 @@
 -- Totals node by node.
-use mathlib.Core.Path.{◌≡◌, refl, sym, ap, ◌∙◌}
-use mathlib.Core.Bool.{true}
-use mathlib.Core.List.{List, map}
-use Prim.Native.Nat.{ℕ, suc, ◌+◌, ◌-◌, ◌≤◌, ◌<◌}
+use mathlib.Core.Path.{◌≡◌, sym, ap, ◌∙◌}
+use mathlib.Core.List.{List}
+use Prim.Native.Nat.{ℕ, ◌+◌, ◌-◌, ◌≤◌, ◌<◌}
 use native.Mathlib.Omega.{arith}
 use native.Mathlib.Decide.{dec_lt}
-use lib.ListN.{length, get_or, set, take, length-set, length-map}
+use lib.ListN.{length, get_or, set, length-set, length-map}
 use lib.Seq.{get_or-set_same, get_or-set_other, ext_get_or}
-use Rattle.slices.specs.Lists.{sum}
 use Rattle.slices.proofs.Lists.{get_d_map}
 use Rattle.slices.proofs.Sums.{sum_mono, sum-whole}
 use Rattle.tree.specs.Order.{end_of}
@@ -56,9 +54,6 @@ pub record Filled (d : ℕ) (key begin : List ℕ) (sources : ℕ) (total : List
   pub done : (own : List ℕ) → Counted d key begin sources own → (p : ℕ) → p < q → get_or total p 0 ≡ total_in d key own (get_or key p 0)
 
 module _ (d : ℕ) (key begin : List ℕ) (sources : ℕ) where
-  pub filled_none : (total : List ℕ) → length total ≡ length key → Filled d key begin sources total 0
-  filled_none total e = record { within = omega arith; placed = e; done = λ own c p l. absurd (omega arith) }
-
   module _ (total : List ℕ) (q : ℕ) (s : Filled d key begin sources total q) (l : q < length key) where
     filled_more : (x : ℕ) → ((own : List ℕ) → Counted d key begin sources own → x ≡ total_in d key own (get_or key q 0)) → Filled d key begin sources (set total q x) (q + 1)
     filled_more x h = record { within = omega arith; placed = length-set total q x ∙ s.placed; done = λ own c p g. go own c p g (dec_lt p q) }

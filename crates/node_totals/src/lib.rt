@@ -10,15 +10,9 @@ pub fn fill_totals(axes: usize, key: &[u64], begin: &[usize], sources: usize, to
     requires { Totallable axes key.now begin.now sources total.old }
     ensures { (own : List ℕ) → Counted axes key.now begin.now sources own → total.new ≡ total_column axes key.now own }
 {
-    let mut q = 0;
-    while q < key.len() {
+    for q in 0..key.len() {
         let end = tree::end_of(axes, key, q);
-        if end < key.len() {
-            total[q] = begin[end] - begin[q];
-            q += 1;
-        } else {
-            total[q] = sources - begin[q];
-            q += 1;
-        }
+        let past = if end < key.len() { begin[end] } else { sources };
+        total[q] = past - begin[q];
     }
 }

@@ -9,8 +9,6 @@ use lib.ListN.{length}
 use borrow.Author.Tests.{eq-eqb, ne_eqb, eqb-true, lt-ltb, le-ltb, ltb-true}
 use Rattle.refusal.specs.declared.Refusal.{Refusal}
 use Rattle.refusal.specs.declared.Refusal.TheVariants.{Shape, Count, Source, Tree, NotBuilt}
-use Rattle.refusal.specs.declared.Outcome.{Outcome}
-use Rattle.refusal.specs.declared.Outcome.TheVariants.{Done, Refused}
 use Rattle.refusal.specs.declared.Wall.{Wall}
 use Rattle.refusal.specs.Chain.{ask, ◌then◌}
 use Rattle.refusal.proofs.Chain.{asked, both-done}
@@ -27,6 +25,8 @@ use Rattle.was_built.specs.Build.{asks_alone, is_build}
 use Rattle.was_built.proofs.Judged.{Are, are}
 use Rattle.one_more.specs.More.{More, judged}
 use Rattle.one_more.specs.Steps.{Sound}
+use Rattle.std.specs.Prelude.{Err}
+use Rattle.refusal.specs.Outcome.{Outcome, accepted}
 
 module _ (q : More) where
   abbrev formed : Bool
@@ -38,27 +38,27 @@ module _ (q : More) where
   abbrev within : Bool
   within = inside (frame_of q.box) q.point
 
-  pub box-refused : (r : Refusal) → box_outcome q.box ≡ Refused r → Refused r ≡ judged q
+  pub box-refused : (r : Refusal) → box_outcome q.box ≡ Err r → Err r ≡ judged q
   unfolding judged
   box-refused r e = rw e
 
-  module _ (o : box_outcome q.box ≡ Done) where
-    pub ragged : (length q.sources % q.box.axes ≡ 0 → ⊥) → Refused Shape ≡ judged q
+  module _ (o : box_outcome q.box ≡ accepted) where
+    pub ragged : (length q.sources % q.box.axes ≡ 0 → ⊥) → Err Shape ≡ judged q
     unfolding judged
     ragged h = rw (o, ne_eqb (length q.sources % q.box.axes) 0 h)
 
     module _ (whole : length q.sources % q.box.axes ≡ 0) where
-      pub many : most_points ≤ rows_of q.box q.sources → Refused Count ≡ judged q
+      pub many : most_points ≤ rows_of q.box q.sources → Err Count ≡ judged q
       unfolding judged
       many h = rw (o, eq-eqb (length q.sources % q.box.axes) 0 whole, le-ltb (rows_of q.box q.sources) most_points h)
 
       module _ (few : rows_of q.box q.sources < most_points) where
-        pub not-formed : well_formed q.box.axes q.tree.keys q.tree.own q.tree.begin q.tree.total ≡ false → Refused Tree ≡ judged q
+        pub not-formed : well_formed q.box.axes q.tree.keys q.tree.own q.tree.begin q.tree.total ≡ false → Err Tree ≡ judged q
         unfolding judged
         not-formed e = rw (o, eq-eqb (length q.sources % q.box.axes) 0 whole, lt-ltb (rows_of q.box q.sources) most_points few, e)
 
         module _ (tree : well_formed q.box.axes q.tree.keys q.tree.own q.tree.begin q.tree.total ≡ true) where
-          pub not-built : is_build q.box q.limit q.keep q.sources q.tree q.order ≡ false → Refused NotBuilt ≡ judged q
+          pub not-built : is_build q.box q.limit q.keep q.sources q.tree q.order ≡ false → Err NotBuilt ≡ judged q
           unfolding judged
           not-built e = rw (o, eq-eqb (length q.sources % q.box.axes) 0 whole, lt-ltb (rows_of q.box q.sources) most_points few, tree, e)
 
@@ -67,7 +67,7 @@ module _ (q : More) where
             unfolding judged
             by-point = rw (o, eq-eqb (length q.sources % q.box.axes) 0 whole, lt-ltb (rows_of q.box q.sources) most_points few, tree, is)
 
-  pub sound : judged q ≡ Done → length q.point ≡ 3 → Sound q.box q.sources q.point
+  pub sound : judged q ≡ accepted → length q.point ≡ 3 → Sound q.box q.sources q.point
   unfolding judged is_build
   sound h long =
       let wall = Source (first_wall (rows_of q.box q.sources) (frame_of q.box) q.point) in
@@ -94,7 +94,7 @@ module _ (q : More) where
       then ask formed Tree
 
   -- the tree handed in is the build of the former sources
-  pub handed-in : judged q ≡ Done → Are (asks_alone q.box q.limit q.keep q.sources) q.tree q.order
+  pub handed-in : judged q ≡ accepted → Are (asks_alone q.box q.limit q.keep q.sources) q.tree q.order
   unfolding judged is_build
   handed-in h =
       let all = both-done (first then ask built NotBuilt) (ask within (Source (first_wall (rows_of q.box q.sources) (frame_of q.box) q.point))) h in
@@ -107,9 +107,9 @@ formed-is d t r k e = sym (e ∙ ap (λ (x : Bool). x && t) k)
 
 -- the new source is outside, or inside
 module _ (b : Box) (point : List Float) (n : ℕ) (f : Frame) (e : f ≡ frame_of b) where
-  pub point-out : (w : Wall) → w ≡ first_wall n f point → inside f point ≡ false → Refused (Source w) ≡ ask (inside (frame_of b) point) (Source (first_wall n (frame_of b) point))
-  point-out w h o = ap (λ (x : Wall). Refused (Source x)) (h ∙ ap (λ (g : Frame). first_wall n g point) e)
+  pub point-out : (w : Wall) → w ≡ first_wall n f point → inside f point ≡ false → Err (Source w) ≡ ask (inside (frame_of b) point) (Source (first_wall n (frame_of b) point))
+  point-out w h o = ap (λ (x : Wall). Err (Source x)) (h ∙ ap (λ (g : Frame). first_wall n g point) e)
       ∙ sym (ap (λ (t : Bool). ask t (Source (first_wall n (frame_of b) point))) (ap (λ (g : Frame). inside g point) (sym e) ∙ o))
 
-  pub point-in : inside f point ≡ true → Done ≡ ask (inside (frame_of b) point) (Source (first_wall n (frame_of b) point))
+  pub point-in : inside f point ≡ true → accepted ≡ ask (inside (frame_of b) point) (Source (first_wall n (frame_of b) point))
   point-in o = sym (ap (λ (t : Bool). ask t (Source (first_wall n (frame_of b) point))) (ap (λ (g : Frame). inside g point) (sym e) ∙ o))

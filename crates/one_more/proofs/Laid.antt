@@ -11,7 +11,6 @@ use lib.ListN.{length, get_or, take, drop, length-append, length-drop, drop_of_l
 use lib.Seq.{slice, ext_get_or, length-slice, length-take-le, get_or-append-add}
 use borrow.Author.Tests.{eq-eqb}
 use borrow.Rule.Slice.PartMut.{put_mid}
-use Rattle.refusal.specs.declared.Outcome.TheVariants.{Done}
 use Rattle.slices.specs.Order.{ascending}
 use Rattle.slices.proofs.Parts.{put-tail}
 use Rattle.slices.proofs.Tests.{lt-or-le}
@@ -26,6 +25,7 @@ use Rattle.laying.specs.Layout.{Laid, CodesLaid, PointsLaid}
 use Rattle.one_more.specs.More.{longer_of}
 use Rattle.one_more.specs.Steps.{Sound}
 use Rattle.one_more.proofs.Longer.{known, rows-longer, former-code, last_code, new-inside, one-row, no_rows, no-codes}
+use Rattle.refusal.specs.Outcome.{accepted}
 
 module _ (b : Box) (sources point : List Float) (s : Sound b sources point) where
   new-insides : rows_inside b (take b.axes point) ≡ rows_of b (take b.axes point)
@@ -35,7 +35,7 @@ module _ (b : Box) (sources point : List Float) (s : Sound b sources point) wher
       ∙ ap (λ (t : Bool). cond t 1 0) (new-inside b sources point s) ∙ sym (one-row b sources point s)
 
   -- nothing is outside
-  pub all_in : inside_outcome b sources (take b.axes point) ≡ Done
+  pub all_in : inside_outcome b sources (take b.axes point) ≡ accepted
   unfolding inside_outcome
   all_in = rw (eq-eqb (rows_inside b sources) (rows_of b sources) s.insides, eq-eqb (rows_inside b (take b.axes point)) (rows_of b (take b.axes point)) new-insides)
 

@@ -6,10 +6,8 @@ use Prim.Native.Nat.{ℕ, ◌+◌, ◌*◌, ◌-◌, ◌^◌, ◌<◌}
 use native.Mathlib.Omega.{arith}
 use lib.ListN.{length, take, replicate, length-append}
 use lib.Seq.{take_at, get_or-append-add}
-use Rattle.refusal.specs.declared.Outcome.{Outcome}
-use Rattle.refusal.specs.declared.Outcome.TheVariants.{Done}
 use Rattle.refusal.specs.Left.{left}
-use Rattle.refusal.proofs.Chain.{both-done}
+use Rattle.refusal.proofs.Chain.{both-done, after-done}
 use Rattle.slices.specs.Lists.{Mem}
 use Rattle.morton.specs.Keys.{axes_known}
 use Rattle.axes.proofs.Known.{axes-known}
@@ -18,7 +16,6 @@ use Rattle.space.specs.Cells.{frame_of, code16}
 use Rattle.space.proofs.Refusals.{fine}
 use Rattle.tree.specs.Nodes.{leaf}
 use Rattle.tree.specs.Columns.{Columns, columns}
-use Rattle.tree.specs.Order.{depth_of}
 use Rattle.tree.specs.WellFormed.{well_formed}
 use Rattle.tree.proofs.Rules.{Formed, all-facts}
 use Rattle.tree.proofs.Verdict.{formed-of}
@@ -26,6 +23,7 @@ use Rattle.rows.specs.Demand3.{Runs, Once, Near, Far, Few}
 use Rattle.rows.specs.Lists.{u_rows, v_rows}
 use Rattle.rows.proofs.Demand3.{demand-3}
 use Rattle.growth.specs.declared.Rule.{Rule}
+use Rattle.growth.specs.Grown.{grown}
 use Rattle.growth.specs.Nodes.{nodes}
 use Rattle.growth.specs.Columns.{own_column}
 use Rattle.growth.proofs.Arranged.{Codes}
@@ -34,9 +32,8 @@ use Rattle.further.specs.Further.{further, TreeOf, beside_parent, DeepestHolder,
 use Rattle.further.proofs.Holder.{tree-holder}
 use Rattle.further.proofs.Rows.{stays, v-same, leaf-stays, u_same}
 use Rattle.further.proofs.Build.{build-tree}
-use Rattle.build.specs.declared.Built.TheVariants.{Tree}
 use Rattle.build.specs.Asked.{rule_of, built_keys, built_own, built_begins, built_totals, built_columns}
-use Rattle.build.specs.Outcomes.{Rooms, tree_or, build_check, room_of}
+use Rattle.build.specs.Outcomes.{Rooms, build_check, room_of}
 use Rattle.build.proofs.Growing.{codes-lt}
 use Rattle.build.proofs.Returned.{built-formed}
 use Rattle.was_built.proofs.Judged.{alone-keys, alone-own}
@@ -44,6 +41,8 @@ use Rattle.one_more.specs.More.{More, longer_of, longer_build, judged, more_chec
 use Rattle.one_more.specs.Steps.{Sound}
 use Rattle.one_more.proofs.Judging.{sound, handed-in}
 use Rattle.one_more.proofs.Longer.{codes-longer}
+use Rattle.std.specs.Prelude.{Ok}
+use Rattle.refusal.specs.Outcome.{Outcome, accepted}
 
 -- the tree in the slices after the call: as many entries of each column as nodes are answered
 module _ (q : More) (r : Rooms) where
@@ -66,7 +65,7 @@ module _ (q : More) (r : Rooms) where
     pub few : Few q.box.axes after.keys (v_rows q.box.axes after)
 
 -- a slice's first entries, after a call that was not refused, are the answer
-first-entries : (o : Outcome) (n m : ℕ) (answer : List ℕ) → o ≡ Done → length answer ≡ m → take m (left o n answer) ≡ answer
+first-entries : (o : Outcome) (n m : ℕ) (answer : List ℕ) → o ≡ accepted → length answer ≡ m → take m (left o n answer) ≡ answer
 first-entries o n m answer e l = ap (λ (x : Outcome). take m (left x n answer)) e ∙ take_at answer (replicate (n - length answer) 0) m l
 
 -- the columns of a build, as the tree of its sources
@@ -74,8 +73,8 @@ tree_of : (g : Rule) (codes keys own : List ℕ) → axes_known g.axes ≡ true 
 tree_of g codes keys own known k o =
     subst (λ (ks : List ℕ). TreeOf g codes ks own) (sym k) (subst (λ (os : List ℕ). TreeOf g codes (nodes g codes []) os) (sym o) (build-tree g codes known))
 
-module _ (q : More) (r : Rooms) (done : more_check q r ≡ Done) (long : length q.point ≡ 3) where
-  judged-done : judged q ≡ Done
+module _ (q : More) (r : Rooms) (done : more_check q r ≡ accepted) (long : length q.point ≡ 3) where
+  judged-done : judged q ≡ accepted
   judged-done = (both-done (judged q) (build_check (longer_build q) r) done).0
 
   s : Sound q.box q.sources q.point
@@ -91,8 +90,8 @@ module _ (q : More) (r : Rooms) (done : more_check q r ≡ Done) (long : length 
   lengths = all-facts _ _ _ _ _ fresh-formed
 
   -- so many nodes are answered
-  pub answered : more_answer q r ≡ Tree (nodes_after q r) (depth_of (built_keys (longer_build q)))
-  answered = ap (λ (x : Outcome). tree_or x (built_keys (longer_build q))) done
+  pub answered : more_answer q r ≡ Ok (grown (built_keys (longer_build q)))
+  answered = after-done (more_check q r) (Ok (grown (built_keys (longer_build q)))) done
 
   -- its columns are those of the fresh build of the longer list
   pub is-fresh : after q r ≡ built_columns (longer_build q)

@@ -1,7 +1,6 @@
 -- Document 02, order 7: one further source, numbered after the last, in a tree built without targets. The result is the build of the longer list.
-use Rattle.std.specs.Prelude.{Bool, List, ◌++◌, ℕ, ◌%◌, eqb, ltb, Float, length, take}
+use Rattle.std.specs.Prelude.{Bool, List, ◌++◌, ℕ, ◌%◌, eqb, ltb, Float, length, take, Ok}
 use Rattle.refusal.specs.declared.Refusal.TheVariants.{Shape, Count, Source, Tree, NotBuilt}
-use Rattle.refusal.specs.declared.Outcome.{Outcome}
 use Rattle.refusal.specs.Chain.{ask, ◌then◌}
 use Rattle.refusal.specs.Left.{left}
 use Rattle.space.specs.declared.Box.{Box}
@@ -11,10 +10,12 @@ use Rattle.space.specs.Rows.{most_points, rows_of}
 use Rattle.space.specs.Walls.{first_wall}
 use Rattle.tree.specs.Columns.{Columns}
 use Rattle.tree.specs.WellFormed.{well_formed}
-use Rattle.build.specs.declared.Built.{Built}
+use Rattle.growth.specs.declared.Grown.{Grown}
+use Rattle.growth.specs.Grown.{grown}
 use Rattle.build.specs.Asked.{Asked, built_keys, built_own, built_begins, built_totals, built_order}
-use Rattle.build.specs.Outcomes.{tree_or, Rooms, build_check}
+use Rattle.build.specs.Outcomes.{Rooms, build_check}
 use Rattle.was_built.specs.Build.{asks_alone, is_build}
+use Rattle.refusal.specs.Outcome.{Answer, Outcome}
 
 -- what is asked: the box, the limit, the flag and the former sources of a build, the new source, and the tree and order column that were built
 pub record More : Type 0 where
@@ -58,8 +59,8 @@ module _ (q : More) where
     more_check = judged then build_check longer_build r
 
     -- the number of nodes and the depth, or the refusal
-    abbrev pub more_answer : Built
-    more_answer = tree_or more_check (built_keys longer_build)
+    abbrev pub more_answer : Answer Grown
+    more_answer = more_check then Ok (grown (built_keys longer_build))
 
     -- what is left in each of the slices; all of the work is 0
     abbrev pub order_more : List ℕ

@@ -1,8 +1,8 @@
 #![tactic(auto)]
 
 // One source more in a tree built without targets: document 02, order 7. The tree is judged, and the tree of the longer list is grown.
-ghost use Rattle.std.specs.Prelude.{◌≡◌, [], suc, ◌*◌, ◌≤◌, length, replicate};
-ghost use Rattle.refusal.specs.declared.Outcome.TheVariants.{Done};
+ghost use Rattle.std.specs.Prelude.{◌≡◌, [], suc, ◌*◌, ◌≤◌, length, replicate, IfOk};
+ghost use Rattle.refusal.specs.Outcome.{ending};
 ghost use Rattle.refusal.specs.declared.Refusal.TheVariants.{Source};
 ghost use Rattle.refusal.specs.Chain.{ask};
 ghost use Rattle.space.specs.Cells.{frame_of, inside};
@@ -11,26 +11,26 @@ ghost use Rattle.space.specs.Walls.{first_wall};
 ghost use Rattle.tree.specs.Columns.{columns};
 ghost use Rattle.laying.specs.Layout.{PointsLaid};
 ghost use Rattle.build.specs.Outcomes.{build_outcome, build_answer, rooms, order_left, keys_left, own_left, begins_left, totals_left};
-ghost use Rattle.build.specs.Steps.{is_done, TreeStarted};
+ghost use Rattle.build.specs.Steps.{TreeStarted};
 ghost use Rattle.was_built.specs.Build.{asks_alone};
 ghost use Rattle.one_more.specs.More.{asks_more, longer_of, judged, more_answer, order_more, keys_more, own_more, begins_more, totals_more};
 ghost use Rattle.one_more.specs.Steps.{Sound};
 
-use build::{Built, Started};
-use growth::Rule;
-use refusal::{Outcome, Refusal};
+use filling::Started;
+use growth::{Grown, Rule};
+use refusal::Refusal;
 use space::Box;
 
 // Whether the new source is outside: the wall of source n.
-fn point_outcome(b: Box, point: [f64; 3], n: usize) -> Outcome
+fn point_outcome(b: Box, point: [f64; 3], n: usize) -> Result<(), Refusal>
     requires { b.axes ≤ 3 }
     ensures { result ≡ ask (inside (frame_of b) point) (Source (first_wall n (frame_of b) point)) }
 {
     let f = space::frame_of(b);
-    if !space::locate(f, &point, 0).inside {
-        return Outcome::Refused(Refusal::Source(space::wall_of(f, &point, 0, n)));
+    if space::locate(f, &point, 0).is_none() {
+        return Err(Refusal::Source(space::wall_of(f, &point, 0, n)));
     }
-    Outcome::Done
+    Ok(())
 }
 
 // The refusals before the room is asked. The work holds anything after them.
@@ -46,28 +46,25 @@ fn judge(
     total: &[usize],
     indices: &[usize],
     work: &mut [u64],
-) -> Outcome
+) -> Result<(), Refusal>
     ensures { result ≡ judged (asks_more b sources.now point limit keep (columns key.now own.now begin.now total.now) indices.now) }
 {
-    let boxed = space::box_outcome(b);
-    if let Outcome::Refused(refusal) = boxed {
-        return Outcome::Refused(refusal);
-    }
+    space::box_outcome(b)?;
     let axes = b.axes;
     if sources.len() % axes != 0 {
-        return Outcome::Refused(Refusal::Shape);
+        return Err(Refusal::Shape);
     }
     let n = sources.len() / axes;
     if laying::MOST_POINTS <= n {
-        return Outcome::Refused(Refusal::Count);
+        return Err(Refusal::Count);
     }
     if !tree::is_well_formed(axes, key, own, begin, total) {
-        return Outcome::Refused(Refusal::Tree);
+        return Err(Refusal::Tree);
     }
     if !was_built::is_build_in(
         b, limit, keep, sources, key, own, begin, total, indices, work,
     ) {
-        return Outcome::Refused(Refusal::NotBuilt);
+        return Err(Refusal::NotBuilt);
     }
     point_outcome(b, point, n)
 }
@@ -77,7 +74,8 @@ fn code_all(b: Box, sources: &[f64], point: &[f64], work: &mut [u64])
     requires { Sound b sources.now point.now × (2 * suc (rows_of b sources.now) ≤ length work.old) }
     ensures { PointsLaid b (longer_of b sources.now point.now) [] work.new }
 {
-    laying::code_points(b, sources, &point[..b.axes], &mut work[1..]);
+    // None is outside: there is no refusal.
+    let _ = laying::code_points(b, sources, &point[..b.axes], &mut work[1..]);
 }
 
 // Grows the tree of the longer list, with the marks of its rows in `mark`. After a refusal the slices hold anything.
@@ -92,21 +90,19 @@ fn start(
     indices: &mut [usize],
     key: &mut [u64],
     mark: &mut [usize],
-) -> Started
+) -> Result<Started, Refusal>
     requires { Sound b sources.now point.now × (room ≤ 1048576) × (room ≤ length key.old) × (room ≤ length mark.old) }
-    ensures outcome_value { result.outcome ≡ build_outcome (asks_alone b limit keep (longer_of b sources.now point.now))
+    ensures outcome_value { ending result ≡ build_outcome (asks_alone b limit keep (longer_of b sources.now point.now))
         (length work.old) (length indices.old) room }
-    ensures put_value { result.put ≡ is_done result.outcome }
-    ensures tree_started { result.outcome ≡ Done
-        → TreeStarted (asks_alone b limit keep (longer_of b sources.now point.now))
-        room result.rows result.nodes work.new indices.new key.new mark.new }
+    ensures tree_started { IfOk result (λ s. TreeStarted (asks_alone b limit keep (longer_of b sources.now point.now))
+        room s.rows s.nodes work.new indices.new key.new mark.new) }
 {
     let rows = sources.len() / b.axes + 1;
     if work.len() < rows + rows {
-        return build::unstarted(Refusal::Room(1));
+        return Err(Refusal::Room(1));
     }
     if indices.len() < rows {
-        return build::unstarted(Refusal::Room(2));
+        return Err(Refusal::Room(2));
     }
     code_all(b, sources, point, work);
     let g = Rule {
@@ -133,7 +129,7 @@ fn raise(
     own: &mut [usize],
     begin: &mut [usize],
     total: &mut [usize],
-) -> Built
+) -> Result<Grown, Refusal>
     requires { Sound b sources.now point.now }
     ensures value { result ≡ build_answer (asks_alone b limit keep (longer_of b sources.now point.now))
         (rooms work.old indices.old key.old own.old begin.old total.old) }
@@ -149,22 +145,11 @@ fn raise(
     ensures total_after { total.new ≡ totals_left (asks_alone b limit keep (longer_of b sources.now point.now))
         (rooms work.old indices.old key.old own.old begin.old total.old) }
 {
-    let room = build::node_room(key.len(), own.len(), begin.len(), total.len());
+    let room = tree::node_room(key.len(), own.len(), begin.len(), total.len());
     let started = start(
         b, sources, point, limit, keep, room, work, indices, key, total,
     );
-    let depth = filling::fill_or_clear(
-        started.put,
-        started.rows,
-        started.nodes,
-        work,
-        indices,
-        key,
-        own,
-        begin,
-        total,
-    );
-    build::answer_of(started, depth)
+    filling::fill_or_clear(started, work, indices, key, own, begin, total)
 }
 
 // The tree of the former sources and one more, from the tree that was built of the former without targets: columns and order column are read, and the
@@ -186,7 +171,7 @@ pub fn add_source(
     new_own: &mut [usize],
     new_begin: &mut [usize],
     new_total: &mut [usize],
-) -> Built
+) -> Result<Grown, Refusal>
     ensures value { result ≡ more_answer (asks_more b sources.now point limit keep (columns key.now own.now begin.now total.now) indices.now)
         (rooms work.old new_indices.old new_key.old new_own.old new_begin.old new_total.old) }
     ensures work_after { work.new ≡ replicate (length work.old) 0 }
@@ -204,10 +189,10 @@ pub fn add_source(
     let judged = judge(
         b, sources, point, limit, keep, key, own, begin, total, indices, work,
     );
-    if let Outcome::Refused(refusal) = judged {
+    if let Err(refusal) = judged {
         filling::clear_keys(work, new_indices, new_key);
-        filling::clear_columns(new_own, new_begin, new_total);
-        return Built::Refused(refusal);
+        tree::clear_columns(new_own, new_begin, new_total);
+        return Err(refusal);
     }
     raise(
         b,

@@ -2,27 +2,26 @@
 use mathlib.Core.Path.{◌≡◌, refl, sym, ap, ◌∙◌, subst}
 use mathlib.Core.Bool.{Bool, true, false, cond, true≢false}
 use mathlib.Core.List.{List}
-use Prim.Native.Nat.{ℕ, ◌+◌, ◌*◌, ◌%◌, ◌^◌, ◌≤◌, ◌<◌}
+use Prim.Native.Nat.{ℕ, ◌*◌, ◌%◌, ◌^◌, ◌≤◌, ◌<◌}
 use native.Mathlib.Nat.{le_of_eq, mod-lt}
 use native.Mathlib.Omega.{arith}
 use lib.ListN.{take}
-use lib.Pow.{low, pow_pos, pow_mono}
+use lib.Pow.{low, pow_pos}
 use Rattle.morton.specs.Keys.{level_of, code_of, child, ValidKey}
 use Rattle.morton.specs.Depth.{reference_depth}
 use Rattle.morton.proofs.Arithmetic.{one_shifted}
 use Rattle.refine.specs.Counts.{targets_in}
 use Rattle.refine.specs.Refinement.{splits_by}
-use Rattle.refine.specs.Sums.{Summed, OfSources}
-use Rattle.space.specs.declared.Frame.{Frame}
+use Rattle.refine.specs.Sums.{OfSources}
 use Rattle.grids.specs.declared.spans.Span.{Span}
 use Rattle.grids.specs.Grids.{product}
-use Rattle.grids.specs.Ranges.{Fitting, grid_codes}
+use Rattle.grids.specs.Ranges.{grid_codes}
 use Rattle.grids.specs.Spans.{length_on, Spanned, Parted, HalfTaken, Counts}
 use Rattle.grids.proofs.Halves.{half-spanned, span_counts, span-targets}
 use Rattle.growth.specs.declared.Rule.{Rule}
 use Rattle.parting.specs.declared.Sizes.{Sizes}
 use Rattle.parting.specs.Cells.{Points}
-use Rattle.parting.specs.Setting.{Setting, setting, Refined, Given, CountsPoints}
+use Rattle.parting.specs.Setting.{setting, Refined, Given, CountsPoints}
 use Rattle.parting.specs.Spans.{At, SpanAt, Over, SpanOver, Descended}
 use Rattle.parting.proofs.Digits.{child-code}
 

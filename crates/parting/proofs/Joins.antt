@@ -1,14 +1,13 @@
 -- Lists one after the other, made from ranges and filters.
 use mathlib.Core.Path.{◌≡◌, refl, sym, ap, ap₂, ◌∙◌}
 use mathlib.Core.Bool.{Bool, true, false, ◌&&◌, cond}
-use mathlib.Core.List.{List, [], ◌∷◌, ◌++◌, map, append-nil, append_assoc}
+use mathlib.Core.List.{List, [], ◌∷◌, ◌++◌, map, append-nil}
 use Prim.Native.Nat.{ℕ, zero, suc, ◌+◌, ◌*◌, ◌≤◌, ◌<◌}
 use native.Mathlib.Omega.{arith}
 use native.Mathlib.Nat.{zero-add}
-use lib.Dec.{eqb}
 use lib.ListN.{length, get_or, take, drop, length-append}
 use lib.Seq.{take-suc, drop-cons}
-use Rattle.slices.specs.Lists.{filter, count, sum, range, concat_map, Mem}
+use Rattle.slices.specs.Lists.{filter, sum, range, concat_map, Mem}
 use Rattle.slices.proofs.Counts.{here, there, sum-range}
 use Rattle.slices.proofs.Lists.{concat_map-append, range-append, get_or-range, length-range}
 use Rattle.slices.proofs.Sums.{sum-take}

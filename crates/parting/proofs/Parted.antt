@@ -1,32 +1,26 @@
 -- A cell's sources, dealt by pairs of digits: children in order, and the children of a child that splits.
-use mathlib.Core.Path.{◌≡◌, refl, sym, ap, ap₂, ◌∙◌, subst, fun_ext}
+use mathlib.Core.Path.{◌≡◌, refl, sym, ap, ◌∙◌}
 use mathlib.Core.Bool.{Bool, true, false, ◌&&◌, cond}
-use mathlib.Core.List.{List, [], ◌∷◌, ◌++◌, map, append-nil}
-use mathlib.Core.Logic.{◌⊎◌, inl, inr, ⊎_elim}
+use mathlib.Core.List.{List, [], ◌∷◌, ◌++◌, append-nil}
+use mathlib.Core.Logic.{⊎_elim}
 use Prim.Native.Nat.{ℕ, zero, suc, ◌+◌, ◌*◌, ◌-◌, ◌/◌, ◌%◌, ◌^◌, ◌≤◌, ◌<◌}
 use native.Mathlib.Omega.{arith}
 use native.Mathlib.Nat.{mod-lt}
 use lib.Dec.{eqb}
-use lib.ListN.{length, get_or, length-map}
-use lib.Pow.{pow_pos, high}
+use lib.ListN.{length, get_or}
+use lib.Pow.{pow_pos}
 use borrow.Author.Tests.{eq-eqb, eqb-true, ne_eqb}
-use Rattle.slices.specs.Lists.{filter, count, sum, range, concat_map, Mem}
-use Rattle.slices.proofs.Tests.{same_test, clash, refute, both, and_l, and_r, lt-or-le}
-use Rattle.slices.proofs.Counts.{count-ext}
-use Rattle.slices.proofs.Lists.{length-filter}
+use Rattle.slices.specs.Lists.{filter, range, concat_map}
+use Rattle.slices.proofs.Tests.{same_test, clash, both, and_l, and_r, lt-or-le}
 use Rattle.slices.proofs.Members.{mem-range}
-use Rattle.morton.specs.Keys.{level_of, child, children, holds}
-use Rattle.refine.specs.Counts.{count_at, sources_in}
+use Rattle.morton.specs.Keys.{level_of, child, holds}
 use Rattle.growth.specs.declared.Rule.{Rule}
 use Rattle.growth.specs.Columns.{indices_in}
-use Rattle.growth.proofs.Arranged.{length-indices, indices-hold}
-use Rattle.dealing.specs.Dealt.{of_place, in_place, dealt, place_of, word_of}
-use Rattle.dealing.proofs.Laws.{dealt-map}
-use Rattle.parting.specs.Pairs.{bits_of}
-use Rattle.parting.specs.Cells.{Points, splitting, size_of, within, by_child, child_part, dealt_out}
-use Rattle.parting.specs.Parts.{PairsPlaced, PairsCounted}
-use Rattle.parting.proofs.Joins.{filter_same, filter-twice, filter_map, concat-same, concat-map, concat-none, concat-cons, range-parts, range_cons, mem-from}
-use Rattle.parting.proofs.Digits.{pair_of, pair-many, pair_parts, first_small, second-small, holds-first, holds-pair, word-bits}
+use Rattle.dealing.specs.Dealt.{of_place, dealt}
+use Rattle.parting.specs.Cells.{Points, splitting, within, by_child, child_part, dealt_out}
+use Rattle.parting.specs.Parts.{PairsPlaced}
+use Rattle.parting.proofs.Joins.{filter_same, filter-twice, concat-same, concat-map, concat-none, concat-cons, range-parts, range_cons, mem-from}
+use Rattle.parting.proofs.Digits.{pair_of, pair-many, pair_parts, first_small, second-small, holds-first, holds-pair}
 
 -- c·m + b below m tells c and b
 first_of : (a b c e m : ℕ) → b < m → e < m → a * m + b ≡ c * m + e → a ≡ c

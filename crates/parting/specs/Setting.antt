@@ -6,7 +6,6 @@ use Rattle.morton.specs.Depth.{reference_depth}
 use Rattle.refine.specs.Refinement.{splits_for_targets}
 use Rattle.refine.specs.Sums.{Sums}
 use Rattle.space.specs.declared.Frame.{Frame}
-use Rattle.space.specs.declared.Rows.TheVariants.{Inside}
 use Rattle.space.specs.Rows.{first_outside}
 use Rattle.grids.specs.declared.Grid.{Grid}
 use Rattle.grids.specs.Grids.{points_of, listed}
@@ -14,6 +13,7 @@ use Rattle.grids.specs.Ranges.{Fitting, grid_codes}
 use Rattle.growth.specs.declared.Rule.{Rule}
 use Rattle.parting.specs.declared.Sizes.{Sizes}
 use Rattle.parting.specs.Cells.{Points, splitting, size_of}
+use Rattle.space.specs.Inside.{all_inside}
 
 -- how many sources and used targets there are, the room for rows, the reference depth, whether the targets are those of a grid, and of which;
 -- and the sums of the sources. The span of a cell is no part of it.
@@ -39,7 +39,7 @@ aims_at z beyond = cond z.gridded (grid_codes z.frame z.grid) (take z.targets be
 pub record Gridded (d : ℕ) (f : Frame) (g : Grid) : Type 0 where
   pub fits : Fitting f g
   pub axes : f.axes ≡ d
-  pub inside : first_outside (points_of f.axes g) f (listed f.axes g) ≡ Inside
+  pub inside : first_outside (points_of f.axes g) f (listed f.axes g) ≡ all_inside
 
 -- what refinement asks: few targets, ascending or those of a grid, and the sums of these sources at the reference depth
 pub record Refined (g : Rule) (z : Setting) (sources targets : List ℕ) : Type 0 where

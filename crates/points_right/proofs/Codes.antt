@@ -8,21 +8,21 @@ use lib.Ieee.{Float}
 use lib.ListN.{get_or, drop}
 use lib.Dec.{eqb}
 use Rattle.morton.specs.Keys.{deepest, level_of, code_of, above, holds}
-use Rattle.space.specs.declared.Cell.TheVariants.{Number, Outside}
 use Rattle.space.specs.declared.Box.{Box}
 use Rattle.space.specs.declared.Frame.{Frame}
-use Rattle.space.specs.Cells.{frame_of, inside, code16, code_or, point_code}
+use Rattle.space.specs.Cells.{frame_of, inside, code16, kept, point_code}
 use Rattle.space.specs.Rows.{rows_of, rows_inside, codes16}
 use Rattle.space.proofs.Batches.{code-at-row, row_inside}
 use Rattle.points_right.specs.Points.{held_code, point_in, code_in, RunRight, PointsRight}
+use Rattle.std.specs.Prelude.{None, Some}
 
 -- a cell holds a point's code, or the point is outside
 module _ (f : Frame) (points : List Float) (k i : ℕ) where
-  pub in-none : point_code f (drop (i * f.axes) points) ≡ Outside → false ≡ point_in f points k i
+  pub in-none : point_code f (drop (i * f.axes) points) ≡ None → false ≡ point_in f points k i
   unfolding point_in
   in-none e = sym (ap (held_code f.axes k) e)
 
-  pub in_code : (code : ℕ) → point_code f (drop (i * f.axes) points) ≡ Number code → eqb (above f.axes (deepest - level_of k) code) (code_of k) ≡ point_in f points k i
+  pub in_code : (code : ℕ) → point_code f (drop (i * f.axes) points) ≡ Some code → eqb (above f.axes (deepest - level_of k) code) (code_of k) ≡ point_in f points k i
   unfolding point_in
   in_code code e = sym (ap (held_code f.axes k) e)
 
@@ -30,13 +30,13 @@ module _ (f : Frame) (points : List Float) (k i : ℕ) where
   unfolding point_in
   in-inside h = go (inside f (drop (i * f.axes) points)) h
     where
-      go : (b : Bool) → held_code f.axes k (code_or b (code16 f (drop (i * f.axes) points))) ≡ true → b ≡ true
+      go : (b : Bool) → held_code f.axes k (kept b (code16 f (drop (i * f.axes) points))) ≡ true → b ≡ true
       go true e = refl
       go false e = e
 
   pub inside-in : inside f (drop (i * f.axes) points) ≡ true → point_in f points k i ≡ holds f.axes k (code16 f (drop (i * f.axes) points))
   unfolding point_in
-  inside-in e = ap (λ (b : Bool). held_code f.axes k (code_or b (code16 f (drop (i * f.axes) points)))) e
+  inside-in e = ap (λ (b : Bool). held_code f.axes k (kept b (code16 f (drop (i * f.axes) points)))) e
 
 -- the same runs are right by two tests that agree on the points
 module _ (n : ℕ) (held other : ℕ → ℕ → Bool) (same : (k i : ℕ) → i < n → held k i ≡ other k i) where

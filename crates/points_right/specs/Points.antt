@@ -1,17 +1,15 @@
 -- Document 02, orders 7 and 9: when the order column of a tree holds these points, asked of each place by itself.
 -- A point goes by its number, of n; `held k i` says whether point i lies in cell k.
-use Rattle.std.specs.Prelude.{◌≡◌, Bool, true, false, List, ℕ, suc, ◌+◌, ◌*◌, ◌≤◌, ◌<◌, Float, length, get_or, drop}
+use Rattle.std.specs.Prelude.{◌≡◌, Bool, true, false, List, ℕ, suc, ◌+◌, ◌*◌, ◌≤◌, ◌<◌, Float, length, get_or, drop, None, Option, Some}
 use Rattle.slices.specs.Lists.{sum}
 use Rattle.morton.specs.Keys.{holds}
 use Rattle.space.specs.declared.Frame.{Frame}
-use Rattle.space.specs.declared.Cell.{Cell}
-use Rattle.space.specs.declared.Cell.TheVariants.{Number, Outside}
 use Rattle.space.specs.Cells.{point_code}
 
 -- a cell holds a point that is inside by its code, and none that is outside
-abbrev pub held_code : ℕ → ℕ → Cell → Bool
-held_code d k (Number code) = holds d k code
-held_code d k Outside = false
+abbrev pub held_code : ℕ → ℕ → Option ℕ → Bool
+held_code d k (Some code) = holds d k code
+held_code d k None = false
 
 -- point i of a flat slice lies in cell k
 unfoldable pub point_in : Frame → List Float → ℕ → ℕ → Bool

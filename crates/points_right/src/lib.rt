@@ -9,14 +9,14 @@ ghost use Rattle.tree.specs.WellFormed.{well_formed};
 ghost use Rattle.sums.specs.Tells.{Tells};
 ghost use Rattle.points_right.specs.Points.{point_in, RunRight, PointsRight};
 
-use space::{Box, Cell, Frame};
+use space::{Box, Frame};
 
 // Whether point i lies in the cell with key k.
 fn is_held(f: Frame, points: &[f64], k: u64, i: usize) -> bool
     requires { (1 ≤ f.axes) × (f.axes ≤ 3) × (i * f.axes + f.axes ≤ length points.now) × (level_of k ≤ 16) }
     ensures { result ≡ point_in f points.now k i }
 {
-    let Cell::Number(code) = space::code_at(f, points, i * f.axes) else {
+    let Some(code) = space::code_at(f, points, i * f.axes) else {
         return false;
     };
     let shift = f.axes as u64 * (16 - k % 32768);
@@ -37,8 +37,7 @@ fn run_right(
     ensures { Tells (RunRight n (point_in f points.now) order.now k from to) result }
 {
     let mut low = 0;
-    let mut p = from;
-    while p < to {
+    for p in from..to {
         let i = order[p];
         if i < low {
             return false;
@@ -50,7 +49,6 @@ fn run_right(
             return false;
         }
         low = i + 1;
-        p += 1;
     }
     true
 }
@@ -77,14 +75,12 @@ pub fn points_right(
         return false;
     }
     let f = space::frame_of(b);
-    let mut node = 0;
-    while node < key.len() {
+    for node in 0..key.len() {
         let from = begin[node];
         let to = from + own[node];
         if !run_right(f, points, n, order, key[node], from, to) {
             return false;
         }
-        node += 1;
     }
     true
 }

@@ -5,7 +5,7 @@ use Rattle.tree.specs.Columns.{Columns}
 use Rattle.build.specs.Asked.{Asked, asks_for, built_columns}
 use Rattle.build.specs.Outcomes.{build_outcome}
 use Rattle.survey.specs.declared.Survey.{Survey}
-use Rattle.survey.specs.File.{file_outcome, survey, source_rows, target_rows}
+use Rattle.survey.specs.File.{file_outcome, said, source_rows, target_rows}
 use Rattle.report.specs.Report.{text_or, tree_text}
 
 -- the build of a survey, with the refinement flag set
@@ -28,4 +28,4 @@ survey_text s sources targets = survey_text_in 8176 4088 2048 s sources targets
 
 -- the listing of a file, or the first refusal on the way
 abbrev pub file_text : List ℕ → List ℕ
-file_text file = text_or (file_outcome file) (survey_text (survey file) (source_rows file) (target_rows file))
+file_text file = text_or (file_outcome file) (survey_text (said file) (source_rows file) (target_rows file))

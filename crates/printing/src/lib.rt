@@ -2,18 +2,14 @@
 
 // What is printed for a survey file: its listing, or the first refusal.
 ghost use Rattle.std.specs.Prelude.{◌≡◌, length};
-ghost use Rattle.tree.specs.Columns.{columns};
+ghost use Rattle.tree.specs.Columns.{columns, node_room};
 ghost use Rattle.text.specs.Listing.{text_answer, text_left};
-ghost use Rattle.build.specs.Outcomes.{node_room};
 ghost use Rattle.printing.specs.Printed.{columns_text, survey_text_in, survey_text, file_text};
 
-use build::Built;
-use refusal::Outcome;
 use space::Box;
 use std::io;
 use std::io::Print;
 use survey::Survey;
-use text::Text;
 
 // Writes the text of a tree with its targets, with room for 8,192 entries a list and for the counts of 2,048 nodes.
 fn list_columns(
@@ -25,7 +21,7 @@ fn list_columns(
     total: &[usize],
     targets: &[f64],
     out: &mut [u8],
-) -> Text
+) -> Option<usize>
     ensures answer { result ≡ text_answer (length out.old)
         (columns_text b (columns key.now own.now begin.now total.now) targets.now sources) }
     ensures text { out.new ≡ text_left (length out.old)
@@ -65,7 +61,7 @@ fn list_built(
     begin: &mut [usize],
     total: &mut [usize],
     out: &mut [u8],
-) -> Text
+) -> Option<usize>
     ensures answer { result ≡ text_answer (length out.old) (survey_text_in (length work.old) (length indices.old)
         (node_room (length key.old) (length own.old) (length begin.old) (length total.old)) survey sources.now targets.now) }
     ensures text { out.new ≡ text_left (length out.old) (survey_text_in (length work.old) (length indices.old)
@@ -88,22 +84,25 @@ fn list_built(
         total,
     );
     match built {
-        Built::Refused(refusal) => text::write_refusal(refusal, out),
-        Built::Tree(nodes, _) => list_columns(
-            b,
-            survey.sources,
-            &key[..nodes],
-            &own[..nodes],
-            &begin[..nodes],
-            &total[..nodes],
-            targets,
-            out,
-        ),
+        Err(refusal) => text::write_refusal(refusal, out),
+        Ok(grown) => {
+            let nodes = grown.nodes;
+            list_columns(
+                b,
+                survey.sources,
+                &key[..nodes],
+                &own[..nodes],
+                &begin[..nodes],
+                &total[..nodes],
+                targets,
+                out,
+            )
+        }
     }
 }
 
 // The same with room for 2,048 nodes.
-fn list_survey(survey: Survey, sources: &[f64], targets: &[f64], out: &mut [u8]) -> Text
+fn list_survey(survey: Survey, sources: &[f64], targets: &[f64], out: &mut [u8]) -> Option<usize>
     ensures answer { result ≡ text_answer (length out.old) (survey_text survey sources.now targets.now) }
     ensures text { out.new ≡ text_left (length out.old) (survey_text survey sources.now targets.now) }
 {
@@ -127,18 +126,17 @@ fn list_survey(survey: Survey, sources: &[f64], targets: &[f64], out: &mut [u8])
     )
 }
 
-// Reads a survey file, and writes its listing or the first refusal.
-pub fn list_file(file: &[u8], out: &mut [u8]) -> Text
+// Reads a survey file, and writes its listing or the first refusal. Answers the text's length, or none if it has no room.
+pub fn list_file(file: &[u8], out: &mut [u8]) -> Option<usize>
     ensures answer { result ≡ text_answer (length out.old) (file_text file.now) }
     ensures text { out.new ≡ text_left (length out.old) (file_text file.now) }
 {
     let mut sources = [0.0f64; 4088];
     let mut targets = [0.0f64; 4088];
-    let survey = survey::read_survey(file, &mut sources, &mut targets);
-    let outcome = survey.outcome;
-    match outcome {
-        Outcome::Refused(refusal) => text::write_refusal(refusal, out),
-        Outcome::Done => {
+    let read = survey::read_survey(file, &mut sources, &mut targets);
+    match read {
+        Err(refusal) => text::write_refusal(refusal, out),
+        Ok(survey) => {
             let b = survey.b;
             let m = survey.sources * b.axes;
             let n = survey.targets * b.axes;
@@ -153,7 +151,7 @@ pub fn print_listing(rt: &impl Print, file: &[u8], out: &mut [u8]) -> io::Result
 {
     let text = list_file(file, out);
     match text {
-        Text::Length(len) => rt.write_all(&out[..len]),
-        Text::Short => Ok(()),
+        Some(len) => rt.write_all(&out[..len]),
+        None => Ok(()),
     }
 }

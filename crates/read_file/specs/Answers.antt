@@ -1,31 +1,19 @@
 -- What the reader answers, and what it leaves in the lent slices: document 02, order 6.
-use Rattle.std.specs.Prelude.{List, ℕ, length}
-use Rattle.refusal.specs.declared.Outcome.{Outcome}
-use Rattle.refusal.specs.declared.Outcome.TheVariants.{Done, Refused}
+use Rattle.std.specs.Prelude.{List, ℕ, length, Ok}
+use Rattle.refusal.specs.Chain.{◌then◌}
 use Rattle.refusal.specs.Left.{left}
 use Rattle.tree_file.specs.Contents.{Contents}
 use Rattle.tree_file.specs.Trailer.{tree_in}
 use Rattle.file_judged.specs.Rooms.{Rooms, read_check}
 use Rattle.read_file.specs.declared.ReadTree.{ReadTree}
+use Rattle.refusal.specs.Outcome.{Answer}
 
--- a number of the tree, 0 after a refusal
-abbrev pub told : Outcome → ℕ → ℕ
-told Done n = n
-told (Refused r) n = 0
+-- the numbers of axes, nodes, sources and keys in U and V
+abbrev pub numbers_of : Contents → ReadTree
+numbers_of t = record { axes = t.axes; nodes = length t.keys; sources = length t.order; u = length t.u_keys; v = length t.v_keys }
 
--- how the reading ended, and the numbers of axes, nodes, sources and keys in U and V
-abbrev pub read_or : Outcome → Contents → ReadTree
-read_or o t = record {
-  outcome = o;
-  axes = told o t.axes;
-  nodes = told o (length t.keys);
-  sources = told o (length t.order);
-  u = told o (length t.u_keys);
-  v = told o (length t.v_keys);
-}
-
-abbrev pub reading_answer : List ℕ → Rooms → ReadTree
-reading_answer file r = read_or (read_check file r) (tree_in file)
+abbrev pub reading_answer : List ℕ → Rooms → Answer ReadTree
+reading_answer file r = read_check file r then Ok (numbers_of (tree_in file))
 
 -- a column of the tree in a slice of so many entries, and then 0; 0 throughout after a refusal
 abbrev pub reading_left : List ℕ → Rooms → ℕ → List ℕ → List ℕ

@@ -1,9 +1,6 @@
 -- Lent slices that have room for what a file holds; for the house.
 use Rattle.std.specs.Prelude.{List, ℕ, ◌≤◌, length}
-use Rattle.refusal.specs.declared.Refusal.{Refusal}
-use Rattle.refusal.specs.declared.Outcome.TheVariants.{Refused}
 use Rattle.tree_file.specs.Trailer.{column_in}
-use Rattle.read_file.specs.declared.ReadTree.{ReadTree}
 
 -- the order column and the node columns
 pub record Columned (file order key own begin total : List ℕ) : Type 0 where
@@ -19,7 +16,3 @@ pub record Listed (file us uk vs vk : List ℕ) : Type 0 where
   pub u_keys : length (column_in file 7) ≤ length uk
   pub v_starts : length (column_in file 8) ≤ length vs
   pub v_keys : length (column_in file 9) ≤ length vk
-
--- 0 throughout after a refusal
-abbrev pub refused_by : Refusal → ReadTree
-refused_by r = record { outcome = Refused r; axes = 0; nodes = 0; sources = 0; u = 0; v = 0 }

@@ -1,5 +1,5 @@
 -- The counts around a cell, asked of sums: the laws on counts serve whichever sources the sums are of.
-use mathlib.Core.Path.{◌≡◌, ◌∙◌}
+use mathlib.Core.Path.{◌≡◌}
 use mathlib.Core.List.{List}
 use mathlib.Core.Logic.{⊎_elim}
 use Prim.Native.Nat.{ℕ, ◌+◌, ◌*◌, ◌^◌, ◌≤◌, ◌<◌}
@@ -8,7 +8,8 @@ use lib.ListN.{get_or}
 use Rattle.slices.proofs.Tests.{lt-or-le}
 use Rattle.morton.specs.declared.KeyList.{KeyList}
 use Rattle.morton.specs.Keys.{level_of, ValidKey}
-use Rattle.neighbours.specs.Answer.{neighbours_answer}
+use Rattle.morton.specs.Answers.{key_list}
+use Rattle.neighbours.specs.Directions.{neighbours}
 use Rattle.refine.specs.declared.Around.{Around}
 use Rattle.refine.specs.Counts.{sources_in}
 use Rattle.refine.specs.Refinement.{lifted, counts_around, around_by, Refinable}
@@ -33,7 +34,7 @@ module _ (d depth k : ℕ) (sums : List ℕ) (v : ValidKey d k) where
   refinable : (sources : List ℕ) → Sums d depth sources sums → Refinable d k depth sources
   refinable sources s = record { good = v; deep = s.deep; few = s.few }
 
-  pub start : (list : KeyList) (cell own : ℕ) → list ≡ neighbours_answer d k → cell ≡ lifted d depth k → Found d depth sums cell own
+  pub start : (list : KeyList) (cell own : ℕ) → list ≡ key_list (neighbours d k) → cell ≡ lifted d depth k → Found d depth sums cell own
       → CountingBySums d depth sums k list.keys list.len own (own * own) 0
   start list cell own e l f sources s =
       counting-start d depth k sources (refinable sources s) list cell own e l (f sources s)

@@ -50,8 +50,8 @@ module _ (d sources : ℕ) where
         same = ap (depth_from d sources (16 - (k + 1))) (sym f) ∙ sym (next (16 - (k + 1)) k h) ∙ ap (λ (n : ℕ). depth_from d sources n k) (sym e) ∙ s.same;
       }
 
-  pub seek-end : (k : ℕ) → Sought k → 16 ≤ k → k ≡ reference_depth d sources
-  seek-end k s h = let e : 16 - k ≡ 0 = omega (arith, s.high) in sym (last k) ∙ ap (λ (n : ℕ). depth_from d sources n k) (sym e) ∙ s.same
+  pub seek-end : (k : ℕ) → Sought k → 16 ≤ k → 16 ≡ reference_depth d sources
+  seek-end k s h = let e : 16 ≡ k = omega (arith, s.high) in e ∙ sym (last k) ∙ ap (λ (n : ℕ). depth_from d sources n k) (let z : 0 ≡ 16 - k = omega arith in z) ∙ s.same
 
   -- r is the least depth of k .. k + left at which the cells are enough, or the last of these
   pub record Least (left k r : ℕ) : Type 0 where

@@ -5,23 +5,18 @@ use mathlib.Core.List.{List, ◌∷◌, map}
 use Prim.Native.Nat.{ℕ, suc, ◌+◌, ◌*◌, ◌^◌, ◌≤◌, ◌<◌}
 use native.Mathlib.Omega.{arith}
 use lib.ListN.{length, get_or, length-map}
-use Rattle.refusal.specs.declared.Refusal.TheVariants.{Dims, Key}
-use Rattle.refusal.specs.declared.Outcome.TheVariants.{Done}
-use Rattle.refusal.specs.Chain.{ask, ◌then◌}
-use Rattle.slices.specs.Lists.{sum, filled, filter, range}
+use Rattle.slices.specs.Lists.{filled, filter, range}
 use Rattle.slices.proofs.Lists.{get_or-filled, filter-shorter, length-range}
 use Rattle.slices.proofs.Sorted.{count-le}
 use Rattle.morton.specs.declared.KeyList.{KeyList}
 use Rattle.morton.specs.Keys.{level_of, code_of, ValidKey, axes_known, valid}
 use Rattle.neighbours.specs.Directions.{directions, on_box, toward, neighbours}
-use Rattle.morton.specs.Answers.{listed}
-use Rattle.neighbours.specs.Answer.{neighbours_answer}
-use Rattle.morton.proofs.Checks.{facts-valid}
+use Rattle.morton.specs.Answers.{key_list}
 use Rattle.neighbours.proofs.Along.{rows_few}
 use Rattle.neighbours.proofs.Laws.{neighbours-are}
 use Rattle.refine.specs.declared.Around.{Around}
 use Rattle.refine.specs.Counts.{count_at, sources_in}
-use Rattle.refine.specs.Refinement.{lifted, peers, counts_around, squares, around_by, Refinable}
+use Rattle.refine.specs.Refinement.{lifted, counts_around, around_by, Refinable}
 use Rattle.refine.proofs.Summing.{map_at, square-small, Summed, summed-first, summed-more, summed-fits, summed-all}
 
 -- a cell has no more codes than there are
@@ -39,13 +34,6 @@ neighbours-few d k =
       length-range 0 (length (directions d)),
       rows_few d,
     )
-
--- the neighbours of a valid key are not refused
-passes : (a b : Bool) → a ≡ true → b ≡ true → (ask a Dims then ask b Key) ≡ Done
-passes a b p q = rw (p, q)
-
-neighbours-given : (d k : ℕ) → ValidKey d k → neighbours_answer d k ≡ listed Done (neighbours d k)
-neighbours-given d k v = let f = facts-valid d k v in ap (λ o. listed o (neighbours d k)) (passes (axes_known d) (valid d k) f.0 f.1)
 
 -- the count found for a peer
 abbrev pub seen : ℕ → ℕ → List ℕ → ℕ → ℕ
@@ -78,14 +66,13 @@ module _ (d depth k : ℕ) (sources : List ℕ) (g : Refinable d k depth sources
   pub own-fits : (cell own : ℕ) → cell ≡ lifted d depth k → own ≡ sources_in d sources cell → own * own < 2 ^ 64
   own-fits cell own l h = let o : own ≡ look k = h ∙ ap (sources_in d sources) l in omega (arith, square-small own (omega (arith, few-seen k)))
 
-  pub counting-start : (list : KeyList) (cell own : ℕ) → list ≡ neighbours_answer d k → cell ≡ lifted d depth k → own ≡ sources_in d sources cell
+  pub counting-start : (list : KeyList) (cell own : ℕ) → list ≡ key_list (neighbours d k) → cell ≡ lifted d depth k → own ≡ sources_in d sources cell
       → Counting d depth sources k list.keys list.len own (own * own) 0
   counting-start list cell own e l h =
-      let f : list ≡ listed Done (neighbours d k) = e ∙ neighbours-given d k g.good in
       let o : own ≡ look k = h ∙ ap (sources_in d sources) l in
       record {
-        keys = ap (λ (a : KeyList). a.keys) f;
-        all = ap (λ (a : KeyList). a.len) f;
+        keys = ap (λ (a : KeyList). a.keys) e;
+        all = ap (λ (a : KeyList). a.len) e;
         within = omega arith;
         summed = rw (counts_are d depth sources k, o) (summed-first (look k) (map look (neighbours d k)) (few-seen k));
       }

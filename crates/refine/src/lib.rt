@@ -27,15 +27,13 @@ pub fn reference_depth(axes: usize, sources: usize) -> u64
     requires { axes ≤ 3 }
     ensures { result ≡ reference_depth axes sources }
 {
-    let mut depth: u64 = 1;
-    while depth < 16 {
+    for depth in 1..16 {
         let cells: u64 = 1 << (axes as u64 * depth);
         if sources as u64 <= cells {
             return depth;
         }
-        depth += 1;
     }
-    depth
+    16
 }
 
 // The larger of the cell limit and order^d, for any limit.
@@ -43,13 +41,7 @@ pub fn near_limit(axes: usize, limit: usize, order: usize) -> usize
     requires { (axes ≤ 3) × (order ≤ 64) }
     ensures { result ≡ near_limit axes limit order }
 {
-    let mut nodes: usize = 1;
-    let mut a: usize = 0;
-    while a < axes {
-        nodes = nodes * order;
-        a += 1;
-    }
-    if nodes < limit { limit } else { nodes }
+    limit.max(order.pow(axes as u32))
 }
 
 // How many codes of a sorted slice lie in a cell: from its first code at level 16 up to the next cell's first.
@@ -88,18 +80,16 @@ fn count_around(axes: usize, key: u64, depth: u64, sums: &[usize]) -> Around
     requires { ValidKey axes key × Summed axes depth sums.now }
     ensures { OfSources axes depth sums.now (λ sources. result ≡ around_by (counts_around axes depth sources key)) }
 {
-    let list = neighbours::get_neighbours(axes, key);
+    let list = neighbours::list_neighbours(axes, key);
     let others = list.keys;
     let len = list.len;
     let own = sums::sources_in(axes, depth, sums, lifted(axes, key, depth));
     let mut sum = own;
     let mut squares = own * own;
-    let mut i: usize = 0;
-    while i < len {
+    for i in 0..len {
         let found = sums::sources_in(axes, depth, sums, lifted(axes, others[i], depth));
         sum += found;
         squares += found * found;
-        i += 1;
     }
     Around {
         peers: len + 1,

@@ -14,11 +14,9 @@ fn count_cells(shift: u64, codes: &[u64], counts: &mut [usize])
     ensures { CellCounts shift codes.now counts.new }
 {
     slices::clear_usize(counts);
-    let mut i: usize = 0;
-    while i < codes.len() {
-        let cell = (codes[i] >> shift) as usize;
+    for code in codes {
+        let cell = (*code >> shift) as usize;
         counts[cell] += 1;
-        i += 1;
     }
 }
 
@@ -28,11 +26,9 @@ fn add_up(column: &mut [usize])
     ensures { RunningSums column.old column.new }
 {
     let mut run: usize = 0;
-    let mut i: usize = 0;
-    while i < column.len() {
-        run += column[i];
-        column[i] = run;
-        i += 1;
+    for entry in column.iter_mut() {
+        run += *entry;
+        *entry = run;
     }
 }
 

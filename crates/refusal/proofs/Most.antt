@@ -4,9 +4,9 @@ use native.Mathlib.Omega.{arith}
 use lib.ListN.{length}
 use Rattle.refusal.specs.declared.Refusal.{Refusal}
 use Rattle.refusal.specs.declared.Refusal.TheVariants.{Dims, Box, Shape, Count, Order, Source, Point, Room, Key, Root, Deep, Unstored, Tree, NotLeaf, File, Grid, Section, NotBuilt, Partial, Reading}
-use Rattle.refusal.specs.declared.Outcome.{Outcome}
-use Rattle.refusal.specs.declared.Outcome.TheVariants.{Done, Refused}
 use Rattle.refusal.specs.Numbers.{number_of, values_of, outcome_number}
+use Rattle.refusal.specs.Outcome.{Outcome}
+use Rattle.std.specs.Prelude.{Err, Ok}
 
 both : (r : Refusal) → (number_of r ≤ 20) × (length (values_of r) ≤ 3)
 both Dims = (omega arith, omega arith)
@@ -34,5 +34,5 @@ pub values-most : (r : Refusal) → length (values_of r) ≤ 3
 values-most r = (both r).1
 
 pub number-most : (o : Outcome) → outcome_number o ≤ 20
-number-most Done = omega arith
-number-most (Refused r) = (both r).0
+number-most (Ok tt) = omega arith
+number-most (Err r) = (both r).0

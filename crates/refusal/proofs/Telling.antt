@@ -7,8 +7,8 @@ use Rattle.refusal.specs.declared.Wall.{Wall}
 use Rattle.refusal.specs.declared.Told.{Told}
 use Rattle.refusal.specs.declared.Refusal.{Refusal}
 use Rattle.refusal.specs.declared.Refusal.TheVariants.{Dims, Box, Shape, Count, Order, Source, Point, Room, Key, Root, Deep, Unstored, Tree, NotLeaf, File, Grid, Section, NotBuilt, Partial, Reading}
-use Rattle.refusal.specs.declared.Outcome.{Outcome}
 use Rattle.refusal.specs.Numbers.{number_of, values_of, outcome_number, outcome_values, tells}
+use Rattle.refusal.specs.Outcome.{Outcome}
 
 -- what is told of a refusal is told of one that equals it, and so of an outcome
 pub tells-same : (r s : Refusal) (t : Told) → r ≡ s → t ≡ tells (number_of s) (values_of s) → t ≡ tells (number_of r) (values_of r)

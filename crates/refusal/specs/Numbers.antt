@@ -1,10 +1,9 @@
 -- Document 01, "Refusal numbers", and the numbers 16 to 20 of document 02, with order 5: the number of each refusal, and its values.
-use Rattle.std.specs.Prelude.{List, [], ◌∷◌, ℕ, length, get_or}
+use Rattle.std.specs.Prelude.{List, [], ◌∷◌, ℕ, length, get_or, Err, Ok}
 use Rattle.refusal.specs.declared.Told.{Told}
 use Rattle.refusal.specs.declared.Refusal.{Refusal}
 use Rattle.refusal.specs.declared.Refusal.TheVariants.{Dims, Box, Shape, Count, Order, Source, Point, Room, Key, Root, Deep, Unstored, Tree, NotLeaf, File, Grid, Section, NotBuilt, Partial, Reading}
-use Rattle.refusal.specs.declared.Outcome.{Outcome}
-use Rattle.refusal.specs.declared.Outcome.TheVariants.{Done, Refused}
+use Rattle.refusal.specs.Outcome.{Outcome}
 
 abbrev pub number_of : Refusal → ℕ
 number_of Dims = 1
@@ -53,12 +52,12 @@ values_of (Reading index) = index ∷ []
 
 -- 0 and no values for a call that was not refused
 abbrev pub outcome_number : Outcome → ℕ
-outcome_number Done = 0
-outcome_number (Refused refusal) = number_of refusal
+outcome_number (Ok tt) = 0
+outcome_number (Err refusal) = number_of refusal
 
 abbrev pub outcome_values : Outcome → List ℕ
-outcome_values Done = []
-outcome_values (Refused refusal) = values_of refusal
+outcome_values (Ok tt) = []
+outcome_values (Err refusal) = values_of refusal
 
 -- a number and how many values go with it, with the first three of them, 0 past the last
 abbrev pub tells : ℕ → List ℕ → Told

@@ -39,13 +39,6 @@ pub enum Refusal {
     Reading(usize),
 }
 
-// How a call ended, beside an answer that holds an array.
-#[derive(Clone, Copy)]
-pub enum Outcome {
-    Done,
-    Refused(Refusal),
-}
-
 // What is told of a refusal: its number, how many values go with it, and the values: the index, which slice is short or 0; the
 // axis and the reason of a wall, 0 where there is none.
 #[derive(Clone, Copy)]
@@ -112,17 +105,17 @@ pub fn tell(refusal: Refusal) -> Told
 }
 
 // The same of an outcome: 0 throughout where the call was not refused.
-pub fn tell_outcome(outcome: Outcome) -> Told
+pub fn tell_outcome(outcome: Result<(), Refusal>) -> Told
     ensures { result ≡ tells (outcome_number outcome) (outcome_values outcome) }
 {
     match outcome {
-        Outcome::Done => Told {
+        Ok(()) => Told {
             number: 0,
             count: 0,
             value: 0,
             axis: 0,
             reason: 0,
         },
-        Outcome::Refused(refusal) => tell(refusal),
+        Err(refusal) => tell(refusal),
     }
 }

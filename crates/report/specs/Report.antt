@@ -1,7 +1,5 @@
 -- Document 01, "The survey file and the listing": what is printed of a tree.
-use Rattle.std.specs.Prelude.{List, map, ℕ, Float}
-use Rattle.refusal.specs.declared.Outcome.{Outcome}
-use Rattle.refusal.specs.declared.Outcome.TheVariants.{Done, Refused}
+use Rattle.std.specs.Prelude.{List, map, ℕ, Float, Err, Ok}
 use Rattle.refusal.specs.Chain.{◌then◌}
 use Rattle.refusal.specs.Left.{left}
 use Rattle.space.specs.declared.Box.{Box}
@@ -10,11 +8,12 @@ use Rattle.interaction.specs.Answers.{lists_check}
 use Rattle.near_work.specs.Work.{weights}
 use Rattle.near_work.specs.Answers.{work_check}
 use Rattle.text.specs.Listing.{refusal_line, tree_listing}
+use Rattle.refusal.specs.Outcome.{Outcome}
 
 -- a text, or the one line of the refusal that stands in its way
 abbrev pub text_or : Outcome → List ℕ → List ℕ
-text_or Done text = text
-text_or (Refused r) text = refusal_line r
+text_or (Ok tt) text = text
+text_or (Err r) text = refusal_line r
 
 module _ (b : Box) (t : Columns) (targets : List Float) where
   -- the refusals of the lists, then those of near work: a target that lookup refuses ends the listing; so much room for U and V starts and keys, and for counts

@@ -7,12 +7,9 @@ ghost use Rattle.interaction.specs.Answers.{u_starts_left, u_keys_left, v_starts
 ghost use Rattle.text.specs.Listing.{text_answer, text_left};
 ghost use Rattle.report.specs.Report.{tree_text, text_counts};
 
-use interaction::ListsAnswer;
-use near_work::WorkAnswer;
 use space::Box;
-use text::Text;
 
-// Writes the text of a tree grown from so many sources, over its lists and the targets of each node, which are left in the other slices.
+// Writes the text of a tree grown from so many sources, over its lists and the targets of each node, which are left in the other slices. Answers its length, or none if it has no room.
 pub fn list_tree(
     b: Box,
     sources: usize,
@@ -27,7 +24,7 @@ pub fn list_tree(
     v_keys: &mut [u64],
     counts: &mut [usize],
     out: &mut [u8],
-) -> Text
+) -> Option<usize>
     ensures answer { result ≡ text_answer (length out.old) (tree_text b (columns key.now own.now begin.now total.now) targets.now
         (length u_starts.old) (length u_keys.old) (length v_starts.old) (length v_keys.old) (length counts.old) sources) }
     ensures text { out.new ≡ text_left (length out.old) (tree_text b (columns key.now own.now begin.now total.now) targets.now
@@ -47,14 +44,14 @@ pub fn list_tree(
     let listed = interaction::get_interaction_lists(
         axes, key, own, begin, total, u_starts, u_keys, v_starts, v_keys,
     );
-    if let ListsAnswer::Refused(refusal) = listed {
+    if let Err(refusal) = listed {
         slices::clear_usize(counts);
         return text::write_refusal(refusal, out);
     }
     let answer = near_work::get_near_work(b, key, own, begin, total, targets, counts);
     match answer {
-        WorkAnswer::Refused(refusal) => text::write_refusal(refusal, out),
-        WorkAnswer::Work(work) => {
+        Err(refusal) => text::write_refusal(refusal, out),
+        Ok(work) => {
             let depth = tree::depth_of(key);
             text::write_listing(
                 axes, depth, sources, work, key, own, u_starts, u_keys, v_starts, v_keys, out,

@@ -1,8 +1,8 @@
 -- The loop from a node up to the root: what was added so far, and what is still to come, are all.
 use mathlib.Core.Path.{◌≡◌, refl, sym, ap, ap₂, ◌∙◌, subst}
-use mathlib.Core.Bool.{Bool, true, false}
-use mathlib.Core.List.{List, [], ◌∷◌, map}
-use Prim.Native.Nat.{ℕ, zero, suc, ◌+◌, ◌-◌, ◌*◌, ◌^◌, ◌≤◌, ◌<◌, zero-le}
+use mathlib.Core.Bool.{false}
+use mathlib.Core.List.{List, map}
+use Prim.Native.Nat.{ℕ, zero, suc, ◌+◌, ◌-◌, ◌*◌, ◌≤◌, ◌<◌, zero-le}
 use native.Mathlib.Omega.{arith}
 use native.Mathlib.Numerals.{add-one}
 use native.Mathlib.Nat.{le_refl}
@@ -12,25 +12,23 @@ use lib.Seq.{length-take-le}
 use mir.Syntax.{w64}
 use mir.Val.{SFits, to_z, of_z}
 use mir.Facts.{to_z-of_z}
-use Rattle.slices.specs.Lists.{sum, Mem}
+use Rattle.slices.specs.Lists.{sum}
 use Rattle.slices.proofs.Tests.{clash}
-use Rattle.morton.specs.Keys.{level_of, parent, upwards, ancestors, ValidKey}
+use Rattle.morton.specs.Keys.{level_of, parent, upwards, ValidKey}
 use Rattle.morton.proofs.Cells.{level-parent}
 use Rattle.tree.specs.Nodes.{stored}
 use Rattle.tree.specs.WellFormed.{most_sources}
 use Rattle.tree.specs.Finding.{FoundNode}
-use Rattle.tree.specs.declared.Found as F
-use Rattle.tree.specs.declared.Found.TheVariants.{At, Nothing}
 use Rattle.tree.proofs.Stored.{mem-stored}
 use Rattle.tree.proofs.Leaves.{place_is}
 use Rattle.rows.specs.Written.{row_at, row_of}
 use Rattle.sums.specs.Adding.{added, addedℤ}
 use Rattle.sums.specs.Sums.{node_readings}
-use Rattle.sums.specs.Right.{StartsRight}
 use Rattle.sums.proofs.Flat.{climbs}
 use Rattle.row_sums.specs.Readings.{largest, Read, Columns, sources_in}
 use Rattle.row_sums.specs.Climb.{Climb, far_readings, far_cells, far_count}
 use Rattle.row_sums.proofs.Whole.{sum-size, word_holds, read_back}
+use Rattle.std.specs.Prelude.{None, Some, Option}
 
 module _ (d : ℕ) (keys total begin order : List ℕ) (readings : List ℤ) (starts flat : List ℕ) where
   abbrev row : ℕ → List ℕ
@@ -166,8 +164,8 @@ module _ (d : ℕ) (keys total begin order : List ℕ) (readings : List ℤ) (st
           omega (arith, size', met-few),
         )
 
-        module _ (deep : 0 < level_of k) (up : ℕ) (is-parent : up ≡ parent d k) (a : F.Found) (h : FoundNode d keys up a) where
-          pub climb-more : (j : ℕ) → a ≡ At j → Climbing node s' c' j × (level_of (get_or keys j 0) < level_of k)
+        module _ (deep : 0 < level_of k) (up : ℕ) (is-parent : up ≡ parent d k) (a : Option ℕ) (h : FoundNode d keys up a) where
+          pub climb-more : (j : ℕ) → a ≡ Some j → Climbing node s' c' j × (level_of (get_or keys j 0) < level_of k)
           climb-more j q =
               let (l, same) = subst (FoundNode d keys up) q h in
               let key-is : get_or keys j 0 ≡ parent d k = same ∙ is-parent in (
@@ -182,7 +180,7 @@ module _ (d : ℕ) (keys total begin order : List ℕ) (readings : List ℤ) (st
                 omega (arith, ap level_of key-is, level-parent d k),
               )
 
-          pub climb-lost : a ≡ Nothing → ⊥
+          pub climb-lost : a ≡ None → ⊥
           climb-lost q =
               let none : stored keys up ≡ false = subst (FoundNode d keys up) q h p.columns.ordered in
               clash (mem-stored keys (parent d k) (p.parents k (at, i.within, refl) deep)) (subst (λ x. stored keys x ≡ false) is-parent none)

@@ -1,6 +1,5 @@
 -- Counts of a row's keys, found by key.
 use mathlib.Core.Path.{◌≡◌, refl, sym, ap, ◌∙◌, subst}
-use mathlib.Core.Bool.{Bool, true, false}
 use mathlib.Core.List.{List, map}
 use Prim.Native.Nat.{ℕ, suc, ◌+◌, ◌≤◌, ◌<◌, zero-le}
 use native.Mathlib.Omega.{arith}
@@ -12,20 +11,19 @@ use Rattle.slices.proofs.Lists.{get_d_map}
 use Rattle.slices.proofs.Sums.{sum-take, sum-whole}
 use Rattle.tree.specs.Nodes.{own_of}
 use Rattle.tree.specs.Finding.{FoundNode}
-use Rattle.tree.specs.declared.Found as F
-use Rattle.tree.specs.declared.Found.TheVariants.{At, Nothing}
 use Rattle.tree.proofs.Stored.{own_at}
 use Rattle.row_sums.specs.Readings.{Counts, sources_in}
 use Rattle.row_sums.proofs.Found.{own-none}
+use Rattle.std.specs.Prelude.{None, Some, Option}
 
-module _ (d : ℕ) (keys count : List ℕ) (c : Counts d keys count) (k : ℕ) (a : F.Found) (h : FoundNode d keys k a) where
-  pub count-in : (i : ℕ) → a ≡ At i → i < length count
+module _ (d : ℕ) (keys count : List ℕ) (c : Counts d keys count) (k : ℕ) (a : Option ℕ) (h : FoundNode d keys k a) where
+  pub count-in : (i : ℕ) → a ≡ Some i → i < length count
   count-in i e = omega (arith, (subst (FoundNode d keys k) e h).0, c.counts)
 
-  pub count-is : (i : ℕ) → a ≡ At i → get_or count i 0 ≡ own_of keys count k
+  pub count-is : (i : ℕ) → a ≡ Some i → get_or count i 0 ≡ own_of keys count k
   count-is i e = let (l, q) = subst (FoundNode d keys k) e h in sym (ap (own_of keys count) (sym q) ∙ own_at keys count c.distinct c.counts i l)
 
-  pub count_none : a ≡ Nothing → 0 ≡ own_of keys count k
+  pub count_none : a ≡ None → 0 ≡ own_of keys count k
   count_none e = sym (own-none keys count k (subst (FoundNode d keys k) e h c.ordered))
 
 pub record Counting (keys count row : List ℕ) (sources i : ℕ) : Type 0 where

@@ -2,7 +2,7 @@
 use mathlib.Core.Path.{◌≡◌, refl, sym, ap, ap₂, ◌∙◌, subst}
 use mathlib.Core.Bool.{Bool, true, false, ◌||◌, cond}
 use mathlib.Core.List.{List, [], ◌∷◌}
-use Prim.Native.Nat.{ℕ, zero, suc, ◌+◌, ◌*◌, ◌≤◌, ◌<◌}
+use Prim.Native.Nat.{ℕ, ◌*◌, ◌≤◌, ◌<◌}
 use native.Mathlib.Omega.{arith}
 use lib.Dec.{eqb}
 use lib.IntN.{ℤ, pos, nat_abs}
@@ -10,19 +10,18 @@ use lib.ListN.{length, get_or}
 use borrow.Author.Tests.{eqb-true, eq-eqb}
 use mir.Syntax.{w64}
 use mir.Val.{to_z, of_z}
-use Rattle.slices.specs.Lists.{any, range, Mem}
+use Rattle.slices.specs.Lists.{any, range}
 use Rattle.slices.proofs.Tests.{refute, clash}
 use Rattle.tree.specs.Nodes.{stored, own_of}
 use Rattle.tree.specs.WellFormed.{most_sources}
 use Rattle.tree.specs.Finding.{FoundNode}
-use Rattle.tree.specs.declared.Found as F
-use Rattle.tree.specs.declared.Found.TheVariants.{At, Nothing}
 use Rattle.tree.proofs.Stored.{own_at, stored-mem}
 use Rattle.sums.specs.Adding.{added, addedℤ}
 use Rattle.sums.specs.Sums.{reading_at, node_readings}
 use Rattle.row_sums.specs.Readings.{largest, Read, Readable, Columns}
 use Rattle.row_sums.proofs.Whole.{read_back}
 use Rattle.row_sums.proofs.Runs.{run-size}
+use Rattle.std.specs.Prelude.{None, Some, Option}
 
 -- a key that no node has
 pub own-none : (keys own : List ℕ) (x : ℕ) → stored keys x ≡ false → own_of keys own x ≡ 0
@@ -45,11 +44,11 @@ module _ (d : ℕ) (keys count begin order : List ℕ) (readings : List ℤ) (c 
   begin-of : (x i : ℕ) → i < length keys → get_or keys i 0 ≡ x → own_of keys begin x ≡ get_or begin i 0
   begin-of x i l e = subst (λ y. own_of keys begin y ≡ get_or begin i 0) e (own_at keys begin c.distinct c.begins i l)
 
-  found-facts : (x : ℕ) (a : F.Found) → FoundNode d keys x a → (i : ℕ) → a ≡ At i → (i < length keys) × (get_or keys i 0 ≡ x)
+  found-facts : (x : ℕ) (a : Option ℕ) → FoundNode d keys x a → (i : ℕ) → a ≡ Some i → (i < length keys) × (get_or keys i 0 ≡ x)
   found-facts x a h i e = subst (FoundNode d keys x) e h
 
   -- a node that is found
-  module _ (x : ℕ) (a : F.Found) (h : FoundNode d keys x a) (i : ℕ) (e : a ≡ At i) where
+  module _ (x : ℕ) (a : Option ℕ) (h : FoundNode d keys x a) (i : ℕ) (e : a ≡ Some i) where
     pub in_begin : i < length begin
     in_begin = omega (arith, c.begins, (found-facts x a h i e).0)
 
@@ -74,7 +73,7 @@ module _ (d : ℕ) (keys count begin order : List ℕ) (readings : List ℤ) (c 
   unfolding node_readings added range
   none-readings x e = ap (λ n. addedℤ f (range (own_of keys begin x) n)) e
 
-  pub none_is : (x : ℕ) (a : F.Found) → FoundNode d keys x a → a ≡ Nothing → (pos 0 ≡ node_readings keys count begin order readings x) × (nat_abs (pos 0) ≤ own_of keys count x * largest)
+  pub none_is : (x : ℕ) (a : Option ℕ) → FoundNode d keys x a → a ≡ None → (pos 0 ≡ node_readings keys count begin order readings x) × (nat_abs (pos 0) ≤ own_of keys count x * largest)
   none_is x a h e =
       let none : stored keys x ≡ false = subst (FoundNode d keys x) e h c.ordered in
       (sym (none-readings x (own-none keys count x none)), omega arith)

@@ -1,8 +1,8 @@
 -- The loop along a row, through a reader: after some keys the sum is that of what they have.
-use mathlib.Core.Path.{◌≡◌, refl, sym, ap, ◌∙◌, subst}
+use mathlib.Core.Path.{◌≡◌, refl, sym, ap, ◌∙◌}
 use mathlib.Core.Bool.{Bool, true, false}
 use mathlib.Core.List.{List, [], ◌∷◌, map}
-use Prim.Native.Nat.{ℕ, zero, suc, ◌+◌, ◌-◌, ◌*◌, ◌^◌, ◌≤◌, ◌<◌, suc-le-suc, zero-le}
+use Prim.Native.Nat.{ℕ, zero, suc, ◌-◌, ◌*◌, ◌≤◌, ◌<◌, zero-le}
 use native.Mathlib.Omega.{arith}
 use native.Mathlib.Nat.{not-suc-le-zero, le_of_suc-le-suc}
 use lib.Dec.{ltb}
@@ -17,9 +17,9 @@ use Rattle.slices.specs.Lists.{sum}
 use Rattle.slices.proofs.Sums.{sum-term}
 use Rattle.tree.specs.Nodes.{own_of}
 use Rattle.tree.specs.WellFormed.{most_sources}
-use Rattle.row_reader.specs.Steps.{step_at, pick}
+use Rattle.std.specs.Prelude.{cond, None, Option, Some}
+use Rattle.row_reader.specs.Steps.{step_at}
 use Rattle.row_reader.specs.declared.Step.{Step}
-use Rattle.row_reader.specs.declared.Step.TheVariants.{Key, Done}
 use Rattle.sums.specs.Adding.{added, addedℤ}
 use Rattle.sums.specs.Sums.{node_readings}
 use Rattle.row_sums.specs.Readings.{largest, Read, Columns, sources_in}
@@ -32,17 +32,20 @@ pub record Stepped (row : List ℕ) (at k next : ℕ) : Type 0 where
   pub key : get_or row at 0 ≡ k
   pub after : next ≡ suc at
 
-pub stepped : (row : List ℕ) (at : ℕ) (s : Step) → s ≡ step_at row at → (k next : ℕ) → s ≡ Key k next → Stepped row at k next
-stepped row at s is k next e = go (ltb at (length row)) refl (sym is ∙ e)
+abbrev met : List ℕ → ℕ → Step
+met row at = record { key = get_or row at 0; next = suc at }
+
+pub stepped : (row : List ℕ) (at : ℕ) (s : Option Step) → s ≡ step_at row at → (step : Step) → s ≡ Some step → Stepped row at step.key step.next
+stepped row at s is step e = go (ltb at (length row)) refl (sym is ∙ e)
   where
-    go : (b : Bool) → ltb at (length row) ≡ b → pick b (Key (get_or row at 0) (suc at)) Done ≡ Key k next → Stepped row at k next
-    go true l q = record { within = ltb-true at (length row) l; key = cc; after = cc }
+    go : (b : Bool) → ltb at (length row) ≡ b → cond b (Some (met row at)) None ≡ Some step → Stepped row at step.key step.next
+    go true l q = let m : met row at ≡ step = cc in record { within = ltb-true at (length row) l; key = ap (λ s. s.key) m; after = ap (λ s. s.next) (sym m) }
     go false l q = let z : ◌≡◌ {A = ℕ} 0 1 = cc in absurd (omega arith)
 
-pub ended : (row : List ℕ) (at : ℕ) (s : Step) → s ≡ step_at row at → s ≡ Done → length row ≤ at
+pub ended : (row : List ℕ) (at : ℕ) (s : Option Step) → s ≡ step_at row at → s ≡ None → length row ≤ at
 ended row at s is e = go (ltb at (length row)) refl (sym is ∙ e)
   where
-    go : (b : Bool) → ltb at (length row) ≡ b → pick b (Key (get_or row at 0) (suc at)) Done ≡ Done → length row ≤ at
+    go : (b : Bool) → ltb at (length row) ≡ b → cond b (Some (met row at)) None ≡ None → length row ≤ at
     go true l q = let z : ◌≡◌ {A = ℕ} 0 1 = cc in absurd (omega arith)
     go false l q = ltb-false at (length row) l
 

@@ -1,5 +1,5 @@
 -- What the far rows of a cell and its ancestors have, by rows handed in and a column of totals.
-use Rattle.std.specs.Prelude.{◌≡◌, true, List, map, ℕ, ◌+◌, ◌≤◌, ◌<◌, ℤ, length, get_or}
+use Rattle.std.specs.Prelude.{List, map, ℕ, ◌≤◌, ◌<◌, ℤ, length, get_or}
 use Rattle.slices.specs.Lists.{sum, Mem}
 use Rattle.morton.specs.Keys.{level_of, parent, ancestors, ValidKey}
 use Rattle.tree.specs.WellFormed.{most_sources}

@@ -1,5 +1,5 @@
 -- What a sum of readings asks: places, indices and readings that fit together.
-use Rattle.std.specs.Prelude.{◌≡◌, Bool, true, List, map, ℕ, ◌+◌, ◌≤◌, ◌<◌, ℤ, pos, nat_abs, length, get_or}
+use Rattle.std.specs.Prelude.{◌≡◌, true, List, map, ℕ, ◌+◌, ◌≤◌, ◌<◌, ℤ, pos, nat_abs, length, get_or}
 use Rattle.slices.specs.Lists.{sum, Distinct}
 use Rattle.tree.specs.Nodes.{own_of}
 use Rattle.morton.specs.Keys.{axes_known}

@@ -11,8 +11,6 @@ ghost use Rattle.row_sums.specs.Readings.{largest, Read, Readable, Counts, Colum
 ghost use Rattle.row_sums.specs.Climb.{Climb, far_readings, far_cells};
 
 use morton::keys;
-use row_reader::Step;
-use tree::Found;
 
 // The readings of the sources at so many places, from one on.
 fn run_sum(indices: &[usize], readings: &[i64], from: usize, count: usize) -> i64
@@ -21,10 +19,8 @@ fn run_sum(indices: &[usize], readings: &[i64], from: usize, count: usize) -> i6
     ensures bounded { nat_abs result ≤ count * largest }
 {
     let mut sum: i64 = 0;
-    let mut i: usize = 0;
-    while i < count {
+    for i in 0..count {
         sum += readings[indices[from + i]];
-        i += 1;
     }
     sum
 }
@@ -45,8 +41,8 @@ fn node_sum(
 {
     let found = tree::find_node(axes, key, k);
     match found {
-        Found::At(node) => run_sum(indices, readings, begin[node], count[node]),
-        Found::Nothing => 0,
+        Some(node) => run_sum(indices, readings, begin[node], count[node]),
+        None => 0,
     }
 }
 
@@ -68,14 +64,11 @@ pub fn row_sum(
 {
     let mut sum: i64 = 0;
     let mut at: usize = 0;
-    loop {
-        let step = row_reader::read(row, at);
-        let Step::Key(k, next) = step else {
-            return sum;
-        };
-        sum += node_sum(axes, key, count, begin, indices, readings, k);
-        at = next;
+    while let Some(step) = row_reader::read(row, at) {
+        sum += node_sum(axes, key, count, begin, indices, readings, step.key);
+        at = step.next;
     }
+    sum
 }
 
 // What the node with key k has by a column of counts; 0 if there is none.
@@ -85,8 +78,8 @@ fn count_of(axes: usize, key: &[u64], count: &[usize], k: u64) -> usize
 {
     let found = tree::find_node(axes, key, k);
     match found {
-        Found::At(node) => count[node],
-        Found::Nothing => 0,
+        Some(node) => count[node],
+        None => 0,
     }
 }
 
@@ -96,10 +89,8 @@ pub fn row_count(axes: usize, key: &[u64], count: &[usize], row: &[u64]) -> usiz
     ensures { result ≡ sources_in key.now count.now row.now }
 {
     let mut sources: usize = 0;
-    let mut i: usize = 0;
-    while i < row.len() {
-        sources += count_of(axes, key, count, row[i]);
-        i += 1;
+    for &k in row {
+        sources += count_of(axes, key, count, k);
     }
     sources
 }
@@ -142,7 +133,7 @@ pub fn far_sum(
             return Far { sum, cells };
         }
         let found = tree::find_node(axes, key, keys::parent_of(axes, k));
-        let Found::At(up) = found else {
+        let Some(up) = found else {
             return Far { sum, cells };
         };
         at = up;

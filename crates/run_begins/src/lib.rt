@@ -12,10 +12,8 @@ pub fn fill_begins(own: &[usize], begin: &mut [usize])
     ensures { begin.new ≡ begin_column own.now }
 {
     let mut run = 0;
-    let mut q = 0;
-    while q < own.len() {
+    for q in 0..own.len() {
         begin[q] = run;
         run += own[q];
-        q += 1;
     }
 }

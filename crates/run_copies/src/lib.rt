@@ -10,11 +10,7 @@ fn copy_run(order: &[usize], from: usize, n: usize, out: &mut [usize], at: usize
     requires { (from + n ≤ length order.now) × (at + n ≤ length out.old) }
     ensures { take (at + n) out.new ≡ take at out.old ++ take n (drop from order.now) }
 {
-    let mut j = 0;
-    while j < n {
-        out[at + j] = order[from + j];
-        j += 1;
-    }
+    out[at..at + n].copy_from_slice(&order[from..from + n]);
 }
 
 // Each run in turn, and 0 in the unused rest.
@@ -23,15 +19,11 @@ pub fn copy_runs(begin: &[usize], own: &[usize], order: &[usize], out: &mut [usi
     ensures { out.new ≡ filled (length out.old) (runs order.now begin.now own.now) }
 {
     let mut at = 0;
-    let mut q = 0;
-    while q < own.len() {
+    for q in 0..own.len() {
         let n = own[q];
         if 0 < n {
             copy_run(order, begin[q], n, out, at);
             at += n;
-            q += 1;
-        } else {
-            q += 1;
         }
     }
     slices::clear_from_usize(out, at);

@@ -10,11 +10,9 @@ use lib.Seq.{take_at, length-take-le}
 use borrow.Author.Tests.{leb-true, eqb-true, le-leb, lt-leb}
 use Rattle.refusal.specs.declared.Refusal.{Refusal}
 use Rattle.refusal.specs.declared.Refusal.TheVariants.{Dims, Shape, Tree, Room}
-use Rattle.refusal.specs.declared.Outcome.{Outcome}
-use Rattle.refusal.specs.declared.Outcome.TheVariants.{Done, Refused}
 use Rattle.refusal.specs.Chain.{ask, ◌then◌}
 use Rattle.refusal.specs.Left.{left}
-use Rattle.refusal.proofs.Chain.{asked, both-done}
+use Rattle.refusal.proofs.Chain.{asked, both-done, after-done}
 use Rattle.slices.specs.Lists.{sum, filled}
 use Rattle.slices.proofs.Tests.{and_l, and_r}
 use Rattle.morton.specs.Keys.{axes_known}
@@ -24,11 +22,10 @@ use Rattle.tree.specs.WellFormed.{most_sources, formed}
 use Rattle.tree.proofs.Verdict.{formed-of}
 use Rattle.sourced.specs.Room.{Holds}
 use Rattle.salvaged.specs.declared.Salvaged.{Salvaged}
-use Rattle.salvaged.specs.declared.Salvaged.TheVariants.{Tree as NewTree, Refused as NotSalvaged}
 use Rattle.salvaged.specs.Nodes.{Input}
 use Rattle.salvaged.specs.Columns.{new_keys, new_own, new_sources, new_begins, new_totals, new_order_of, old_begin}
 use Rattle.salvaged.specs.Changes.{changed_keys, change_codes}
-use Rattle.salvaged.specs.Answers.{Rooms, node_room, salvage_check, counts_or}
+use Rattle.salvaged.specs.Answers.{Rooms, node_room, salvage_check, counts}
 use Rattle.salvaged.proofs.Formed.{well-formed, own-length, begins-length}
 use Rattle.salvaged.proofs.Listed.{codes-length}
 use Rattle.node_totals.specs.Totals.{Counted, Totallable}
@@ -36,6 +33,8 @@ use Rattle.kept_sources.specs.Rows.{Readable}
 use Rattle.salvage_start.specs.Started.{Filled, start_check, StartedWith}
 use Rattle.salvage_start.proofs.Filling.{keys-tree}
 use Rattle.salvage_list.specs.Listed.{Listable, Listed}
+use Rattle.refusal.specs.Outcome.{Answer, Outcome, accepted}
+use Rattle.std.specs.Prelude.{Err, Ok}
 
 -- ---- the refusals
 
@@ -44,18 +43,18 @@ module _ (i : Input) (r : Rooms) where
   unfolding salvage_check start_check
   last-check = refl
 
-  pub start-refused : (o : Outcome) (x : Refusal) → o ≡ start_check i r.order (node_room r) → o ≡ Refused x → salvage_check i r ≡ Refused x
+  pub start-refused : (o : Outcome) (x : Refusal) → o ≡ start_check i r.order (node_room r) → o ≡ Err x → salvage_check i r ≡ Err x
   start-refused o x e f = last-check ∙ ap (λ (p : Outcome). p then ask (leb (length (changed_keys i)) (min r.codes r.changed)) (Room 10)) (sym e ∙ f)
 
-  module _ (o : Outcome) (e : o ≡ start_check i r.order (node_room r)) (f : o ≡ Done) where
+  module _ (o : Outcome) (e : o ≡ start_check i r.order (node_room r)) (f : o ≡ accepted) where
     then-last : (b : Bool) → leb (length (changed_keys i)) (min r.codes r.changed) ≡ b → salvage_check i r ≡ ask b (Room 10)
     then-last b q = last-check ∙ ap₂ (λ (p : Outcome) (b : Bool). p then ask b (Room 10)) (sym e ∙ f) q
 
     module _ (codes changed : List ℕ) (c : ℕ) (l : Listed i codes changed c) (kc : length codes ≡ r.codes) (kk : length changed ≡ r.changed) where
-      pub list-short : min (length codes) (length changed) < c → salvage_check i r ≡ Refused (Room 10)
+      pub list-short : min (length codes) (length changed) < c → salvage_check i r ≡ Err (Room 10)
       list-short h = then-last false (lt-leb (length (changed_keys i)) (min r.codes r.changed) (omega (arith, l.keys.counted)))
 
-      pub list-fits : c ≤ min (length codes) (length changed) → salvage_check i r ≡ Done
+      pub list-fits : c ≤ min (length codes) (length changed) → salvage_check i r ≡ accepted
       list-fits h = then-last true (le-leb (length (changed_keys i)) (min r.codes r.changed) (omega (arith, l.keys.counted)))
 
 -- the list where it fits
@@ -71,7 +70,7 @@ pub record Passed (i : Input) (places : ℕ) : Type 0 where
   pub few : new_sources i ≤ most_sources
   pub placed : new_sources i ≤ places
 
-pub passed : (i : Input) (places room : ℕ) (o : Outcome) → o ≡ start_check i places room → o ≡ Done → Passed i places
+pub passed : (i : Input) (places room : ℕ) (o : Outcome) → o ≡ start_check i places room → o ≡ accepted → Passed i places
 unfolding start_check
 passed i places room o e f =
     let b = (both-done _ (ask (leb (length (new_keys i)) room) (Room 3)) (sym e ∙ f)).0 in
@@ -148,21 +147,20 @@ module _ (i : Input) (places room n s : ℕ) (key own begin : List ℕ) (p : Pas
 
 -- ---- the slices at the end
 
-pub left-refused : (o : Outcome) (x : Refusal) → o ≡ Refused x → (n : ℕ) (xs ys : List ℕ) (m : ℕ) → m ≡ n → ys ≡ replicate m 0 → ys ≡ left o n xs
+pub left-refused : (o : Outcome) (x : Refusal) → o ≡ Err x → (n : ℕ) (xs ys : List ℕ) (m : ℕ) → m ≡ n → ys ≡ replicate m 0 → ys ≡ left o n xs
 left-refused o x z n xs ys m k e = e ∙ ap (λ (j : ℕ). replicate j 0) k ∙ sym (ap (λ (p : Outcome). left p n xs) z)
 
-pub left-filled : (o : Outcome) → o ≡ Done → (n : ℕ) (xs ys : List ℕ) → ys ≡ filled n xs → ys ≡ left o n xs
+pub left-filled : (o : Outcome) → o ≡ accepted → (n : ℕ) (xs ys : List ℕ) → ys ≡ filled n xs → ys ≡ left o n xs
 left-filled o z n xs ys e = e ∙ sym (ap (λ (p : Outcome). left p n xs) z)
 
-pub left-part : (o : Outcome) → o ≡ Done → (m n : ℕ) (xs s ys : List ℕ) → n ≡ length xs → take n s ≡ xs → length s ≡ m → ys ≡ take n s ++ replicate (length s - n) 0 → ys ≡ left o m xs
+pub left-part : (o : Outcome) → o ≡ accepted → (m n : ℕ) (xs s ys : List ℕ) → n ≡ length xs → take n s ≡ xs → length s ≡ m → ys ≡ take n s ++ replicate (length s - n) 0 → ys ≡ left o m xs
 left-part o z m n xs s ys e q k h =
     h ∙ ap (λ (zs : List ℕ). zs ++ replicate (length s - n) 0) q ∙ ap (λ (j : ℕ). xs ++ replicate (j - n) 0) k ∙ ap (λ (j : ℕ). xs ++ replicate (m - j) 0) e
     ∙ sym (ap (λ (p : Outcome). left p m xs) z)
 
-module _ (i : Input) (r : Rooms) (o : Outcome) where
-  pub answer-refused : (x : Refusal) → o ≡ Refused x → NotSalvaged x ≡ counts_or i r o
-  answer-refused x z = sym (ap (counts_or i r) z)
-
-  pub answer-done : o ≡ Done → (n s c : ℕ) → n ≡ length (new_keys i) → s ≡ new_sources i → c ≡ length (changed_keys i) → NewTree n s c ≡ counts_or i r o
-  answer-done z n s c en es ec =
-      ap (λ (x : ℕ). NewTree x s c) en ∙ ap₂ (λ (x y : ℕ). NewTree (length (new_keys i)) x y) es ec ∙ sym (ap (counts_or i r) z)
+pub answer-done : (i : Input) (o : Outcome) → o ≡ accepted → (n s c : ℕ) → n ≡ length (new_keys i) → s ≡ new_sources i → c ≡ length (changed_keys i) → Ok (record { nodes = n; sources = s; changes = c }) ≡ o then Ok (counts i)
+answer-done i o z n s c en es ec =
+    ap (λ (x : ℕ). tree x s c) en ∙ ap₂ (λ (x y : ℕ). tree (length (new_keys i)) x y) es ec ∙ sym (after-done o (Ok (counts i)) z)
+  where
+    tree : ℕ → ℕ → ℕ → Answer Salvaged
+    tree n s c = Ok (record { nodes = n; sources = s; changes = c })

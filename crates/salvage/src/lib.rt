@@ -1,32 +1,13 @@
 #![tactic(auto)]
 
 // Salvage of columns: document 02, order 8.
-ghost use Rattle.std.specs.Prelude.{◌≡◌, ◌++◌, ◌-◌, min, length, take, replicate};
+ghost use Rattle.std.specs.Prelude.{◌≡◌, ◌++◌, ◌-◌, length, take, replicate};
 ghost use Rattle.salvaged.specs.Nodes.{input};
 ghost use Rattle.salvaged.specs.Answers.{salvage_answer, order_left, keys_left, own_left, begins_left, totals_left, codes_left, changed_left};
 ghost use Rattle.salvage.specs.Rooms.{rooms};
 
-use refusal::{Outcome, Refusal};
+use refusal::Refusal;
 use salvaged::Salvaged;
-
-pub const MOST_NODES: usize = 1048576;
-
-// The smaller of two numbers.
-fn smaller(a: usize, b: usize) -> usize
-    ensures { result ≡ min a b }
-{
-    if a < b { a } else { b }
-}
-
-// How many entries of the node columns count.
-fn node_room(key: usize, own: usize, begin: usize, total: usize) -> usize
-    ensures { result ≡ min 1048576 (min key (min own (min begin total))) }
-{
-    smaller(
-        MOST_NODES,
-        smaller(key, smaller(own, smaller(begin, total))),
-    )
-}
 
 // Clears the order column, the keys and the change list.
 fn clear_keys(order: &mut [usize], key: &mut [u64], codes: &mut [u64], changed: &mut [u64])
@@ -39,17 +20,6 @@ fn clear_keys(order: &mut [usize], key: &mut [u64], codes: &mut [u64], changed: 
     slices::clear(key);
     slices::clear(codes);
     slices::clear(changed);
-}
-
-// Clears the columns beside the keys.
-fn clear_columns(own: &mut [usize], begin: &mut [usize], total: &mut [usize])
-    ensures own_after { own.new ≡ replicate (length own.old) 0 }
-    ensures begin_after { begin.new ≡ replicate (length begin.old) 0 }
-    ensures total_after { total.new ≡ replicate (length total.old) 0 }
-{
-    slices::clear_usize(own);
-    slices::clear_usize(begin);
-    slices::clear_usize(total);
 }
 
 // Sets the node columns to 0 from n on.
@@ -80,7 +50,7 @@ fn clear_list(n: usize, codes: &mut [u64], changed: &mut [u64])
     slices::clear_from(changed, n);
 }
 
-// The tree that can be had from damaged columns, and the list of what was changed: the valid keys, the root and all missing ancestors in order, a repeated key with its first row.
+// The tree that can be had from damaged columns, and the list of what was changed: the valid keys, the root and all missing ancestors in order, a repeated key with its first row. Answers how many nodes, sources and changes there are.
 pub fn salvage(
     axes: usize,
     key: &[u64],
@@ -94,7 +64,7 @@ pub fn salvage(
     new_total: &mut [usize],
     codes: &mut [u64],
     changed: &mut [u64],
-) -> Salvaged
+) -> Result<Salvaged, Refusal>
     ensures value { result ≡ salvage_answer (input axes key.now own.now begin.now indices.now)
         (rooms new_indices.old new_key.old new_own.old new_begin.old new_total.old codes.old changed.old) }
     ensures new_indices_after { new_indices.new ≡ order_left (input axes key.now own.now begin.now indices.now)
@@ -112,7 +82,7 @@ pub fn salvage(
     ensures changed_after { changed.new ≡ changed_left (input axes key.now own.now begin.now indices.now)
         (rooms new_indices.old new_key.old new_own.old new_begin.old new_total.old codes.old changed.old) }
 {
-    let room = node_room(
+    let room = tree::node_room(
         new_key.len(),
         new_own.len(),
         new_begin.len(),
@@ -130,14 +100,15 @@ pub fn salvage(
         new_own,
         new_begin,
     );
-    let outcome = started.outcome;
-    if let Outcome::Refused(refusal) = outcome {
-        clear_keys(new_indices, new_key, codes, changed);
-        clear_columns(new_own, new_begin, new_total);
-        return Salvaged::Refused(refusal);
-    }
-    let n = started.nodes;
-    let sources = started.sources;
+    let s = match started {
+        Ok(s) => s,
+        Err(refusal) => {
+            clear_keys(new_indices, new_key, codes, changed);
+            tree::clear_columns(new_own, new_begin, new_total);
+            return Err(refusal);
+        }
+    };
+    let n = s.nodes;
     let changes = salvage_list::list(
         axes,
         key,
@@ -152,19 +123,23 @@ pub fn salvage(
         codes,
         changed,
     );
-    if smaller(codes.len(), changed.len()) < changes {
+    if codes.len().min(changed.len()) < changes {
         clear_keys(new_indices, new_key, codes, changed);
-        clear_columns(new_own, new_begin, new_total);
-        return Salvaged::Refused(Refusal::Room(10));
+        tree::clear_columns(new_own, new_begin, new_total);
+        return Err(Refusal::Room(10));
     }
     node_totals::fill_totals(
         axes,
         &new_key[..n],
         &new_begin[..n],
-        sources,
+        s.sources,
         &mut new_total[..n],
     );
     clear_nodes(n, new_key, new_own, new_begin, new_total);
     clear_list(changes, codes, changed);
-    Salvaged::Tree(n, sources, changes)
+    Ok(Salvaged {
+        nodes: n,
+        sources: s.sources,
+        changes,
+    })
 }

@@ -3,7 +3,6 @@ use mathlib.Core.Path.{◌≡◌, refl}
 use mathlib.Core.List.{[], ◌∷◌}
 use Prim.Native.Nat.{ℕ}
 use Rattle.refusal.specs.declared.Refusal.TheVariants.{Room}
-use Rattle.refusal.specs.declared.Outcome.TheVariants.{Done, Refused}
 use Rattle.slices.specs.Lists.{any, sum, filter, range, concat_map}
 use Rattle.slices.specs.Order.{ascending}
 use Rattle.morton.specs.Keys.{upwards}
@@ -14,6 +13,8 @@ use Rattle.salvaged.specs.Nodes.{Input, input, put, put_all, kept_keys}
 use Rattle.salvaged.specs.Columns.{new_keys, new_count, new_own, new_order_of}
 use Rattle.salvaged.specs.Changes.{keys_where, change_codes, changed_keys}
 use Rattle.salvaged.specs.Answers.{Rooms, salvage_check}
+use Rattle.refusal.specs.Outcome.{accepted}
+use Rattle.std.specs.Prelude.{Err}
 
 -- of two rows with one key, and runs that both fit, the first is kept
 abbrev twice : Input
@@ -77,18 +78,18 @@ abbrev rooms_of : (order nodes changes : ℕ) → Rooms
 rooms_of order nodes changes = record { order = order; keys = nodes; own = nodes; begins = nodes; totals = nodes; codes = changes; changed = changes }
 
 -- one source, two nodes and two changes are enough room, and one less of any is too little; the first in this order is told
-twice-done : salvage_check twice (rooms_of 1 2 2) ≡ Done
+twice-done : salvage_check twice (rooms_of 1 2 2) ≡ accepted
 unfolding salvage_check changed_keys keys_where new_own new_count begin_column sum leaf any own_of node_number ascending range kept_keys put_all put before filter concat_map upwards
 twice-done = refl
 
-no-order : salvage_check twice (rooms_of 0 1 1) ≡ Refused (Room 2)
+no-order : salvage_check twice (rooms_of 0 1 1) ≡ Err (Room 2)
 unfolding salvage_check changed_keys keys_where new_own new_count begin_column sum leaf any own_of node_number ascending range kept_keys put_all put before filter concat_map upwards
 no-order = refl
 
-no-nodes : salvage_check twice (rooms_of 1 1 1) ≡ Refused (Room 3)
+no-nodes : salvage_check twice (rooms_of 1 1 1) ≡ Err (Room 3)
 unfolding salvage_check changed_keys keys_where new_own new_count begin_column sum leaf any own_of node_number ascending range kept_keys put_all put before filter concat_map upwards
 no-nodes = refl
 
-no-changes : salvage_check twice (rooms_of 1 2 1) ≡ Refused (Room 10)
+no-changes : salvage_check twice (rooms_of 1 2 1) ≡ Err (Room 10)
 unfolding salvage_check changed_keys keys_where new_own new_count begin_column sum leaf any own_of node_number ascending range kept_keys put_all put before filter concat_map upwards
 no-changes = refl

@@ -9,8 +9,6 @@ use lib.ListN.{length}
 use borrow.Author.Tests.{le-leb, leb-true, eq-eqb}
 use Rattle.refusal.specs.declared.Refusal.{Refusal}
 use Rattle.refusal.specs.declared.Refusal.TheVariants.{Dims, Shape, Tree as NoTree, Room}
-use Rattle.refusal.specs.declared.Outcome.{Outcome}
-use Rattle.refusal.specs.declared.Outcome.TheVariants.{Done}
 use Rattle.refusal.specs.Chain.{ask, ◌then◌}
 use Rattle.refusal.specs.Left.{left}
 use Rattle.refusal.proofs.Chain.{asked, both-done, after-done}
@@ -22,17 +20,19 @@ use Rattle.tree.specs.WellFormed.{most_sources, well_formed}
 use Rattle.tree.proofs.Rules.{Formed, all-facts}
 use Rattle.rows.specs.Lists.{u_row, v_row}
 use Rattle.rows.specs.Demand3.{Runs, Once, Near, Far, Few}
-use Rattle.salvaged.specs.declared.Salvaged.TheVariants.{Tree}
+use Rattle.salvaged.specs.declared.Salvaged.{Salvaged}
 use Rattle.salvaged.specs.Nodes.{Input}
 use Rattle.salvaged.specs.Columns.{new_keys, new_own, new_sources, new_begins, new_totals, new_order_of}
 use Rattle.salvaged.specs.Changes.{changed_keys, change_codes}
-use Rattle.salvaged.specs.Answers.{Rooms, node_room, salvage_check, counts_or}
+use Rattle.salvaged.specs.Answers.{Rooms, node_room, salvage_check, counts}
 use Rattle.salvaged.proofs.Formed as F
 use Rattle.salvaged.proofs.Again.{again, Unchanged, comes_back, salvaged-formed}
 use Rattle.salvage_promises.specs.Promises.{GivenBack}
+use Rattle.refusal.specs.Outcome.{Answer, Outcome, accepted}
+use Rattle.std.specs.Prelude.{Ok}
 
 -- one more check that passes
-one_more : (o : Outcome) (t : Bool) (f : Refusal) → o ≡ Done → t ≡ true → o then ask t f ≡ Done
+one_more : (o : Outcome) (t : Bool) (f : Refusal) → o ≡ accepted → t ≡ true → o then ask t f ≡ accepted
 one_more o t f d e = after-done o (ask t f) d ∙ ap (λ (b : Bool). ask b f) e
 
 module _ (i : Input) (r : Rooms) where
@@ -44,7 +44,7 @@ module _ (i : Input) (r : Rooms) where
     pub nodes : length (new_keys i) ≤ node_room r
 
   -- the six checks, where each passes
-  all_pass : Passes → length (changed_keys i) ≤ min r.codes r.changed → salvage_check i r ≡ Done
+  all_pass : Passes → length (changed_keys i) ≤ min r.codes r.changed → salvage_check i r ≡ accepted
   unfolding salvage_check
   all_pass p c =
       one_more _ (leb (length (changed_keys i)) (min r.codes r.changed)) (Room 10)
@@ -59,7 +59,7 @@ module _ (i : Input) (r : Rooms) where
       (le-leb (length (changed_keys i)) (min r.codes r.changed) c)
 
   -- and what a call that was not refused has passed
-  pub all-passed : salvage_check i r ≡ Done → Passes
+  pub all-passed : salvage_check i r ≡ accepted → Passes
   unfolding salvage_check
   all-passed done =
       let a = (both-done _ (ask (leb (length (changed_keys i)) (min r.codes r.changed)) (Room 10)) done).0 in
@@ -93,7 +93,7 @@ module _ (i : Input) (r : Rooms) where
     }
 
     -- a sound input is taken, with no room for changes at all
-    pub taken : salvage_check i r ≡ Done
+    pub taken : salvage_check i r ≡ accepted
     taken = all_pass passes (subst (λ (l : List ℕ). length l ≤ min r.codes r.changed) (sym same.changes) (omega arith))
 
     stays : (n : ℕ) (answer column : List ℕ) → answer ≡ column → left (salvage_check i r) n answer ≡ filled n column
@@ -103,7 +103,7 @@ module _ (i : Input) (r : Rooms) where
     pub given_back : GivenBack i r total
     given_back = record {
       check = taken;
-      answer = ap (counts_or i r) taken ∙ counted;
+      answer = after-done (salvage_check i r) (Ok (counts i)) taken ∙ counted;
       order = stays r.order (new_order_of i) i.order same.order;
       keys = stays r.keys (new_keys i) i.key same.keys;
       own = stays r.own (new_own i) i.own same.own;
@@ -113,15 +113,18 @@ module _ (i : Input) (r : Rooms) where
       changed = stays r.changed (changed_keys i) [] same.changes ∙ filled_none r.changed;
     }
       where
-        counted : Tree (length (new_keys i)) (new_sources i) (length (changed_keys i)) ≡ Tree (length i.key) (sum i.own) 0
+        tree : ℕ → ℕ → ℕ → Answer Salvaged
+        tree n s c = Ok (record { nodes = n; sources = s; changes = c })
+
+        counted : ◌≡◌ {A = Answer Salvaged} (Ok (counts i)) (Ok (record { nodes = length i.key; sources = sum i.own; changes = 0 }))
         counted =
-            ap (λ (l : List ℕ). Tree (length l) (new_sources i) (length (changed_keys i))) same.keys
-            ∙ ap (λ (l : List ℕ). Tree (length i.key) (sum l) (length (changed_keys i))) same.own
-            ∙ ap (λ (l : List ℕ). Tree (length i.key) (sum i.own) (length l)) same.changes
+            ap (λ (l : List ℕ). tree (length l) (new_sources i) (length (changed_keys i))) same.keys
+            ∙ ap (λ (l : List ℕ). tree (length i.key) (sum l) (length (changed_keys i))) same.own
+            ∙ ap (λ (l : List ℕ). tree (length i.key) (sum i.own) (length l)) same.changes
 
 -- ---- of a call that was not refused
 
-module _ (i : Input) (r : Rooms) (done : salvage_check i r ≡ Done) where
+module _ (i : Input) (r : Rooms) (done : salvage_check i r ≡ accepted) where
   p : Passes i r
   p = all-passed i r done
 
@@ -134,7 +137,7 @@ module _ (i : Input) (r : Rooms) (done : salvage_check i r ≡ Done) where
   meets-demand-3 = F.demand-3 i p.known p.few
 
   -- what it gave is taken again by the same rooms, and given back as it is
-  pub taken-again : salvage_check (again i) r ≡ Done
+  pub taken-again : salvage_check (again i) r ≡ accepted
   taken-again = taken (again i) r p.known (new_totals i) (salvaged-formed i r done) (F.order-length i) p.order p.nodes
 
   pub given-back-again : GivenBack (again i) r (new_totals i)

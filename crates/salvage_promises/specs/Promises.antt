@@ -1,15 +1,14 @@
 -- What is promised of columns that are sound already, and the change list read as pairs: document 02, order 8.
-use Rattle.std.specs.Prelude.{◌≡◌, List, [], ◌∷◌, map, ℕ, length, replicate}
+use Rattle.std.specs.Prelude.{◌≡◌, List, [], ◌∷◌, map, ℕ, length, replicate, Ok}
 use Rattle.slices.specs.Lists.{sum, filled}
-use Rattle.refusal.specs.declared.Outcome.TheVariants.{Done}
-use Rattle.salvaged.specs.declared.Salvaged.TheVariants.{Tree}
 use Rattle.salvaged.specs.Nodes.{Input}
 use Rattle.salvaged.specs.Answers.{Rooms, salvage_check, salvage_answer, order_left, keys_left, own_left, begins_left, totals_left, codes_left, changed_left}
+use Rattle.refusal.specs.Outcome.{accepted}
 
 -- the call is not refused and leaves the input's own columns, each with 0 in the unused rest, and an empty list
 pub record GivenBack (i : Input) (r : Rooms) (total : List ℕ) : Type 0 where
-  pub check : salvage_check i r ≡ Done
-  pub answer : salvage_answer i r ≡ Tree (length i.key) (sum i.own) 0
+  pub check : salvage_check i r ≡ accepted
+  pub answer : salvage_answer i r ≡ Ok (record { nodes = length i.key; sources = sum i.own; changes = 0 })
   pub order : order_left i r ≡ filled r.order i.order
   pub keys : keys_left i r ≡ filled r.keys i.key
   pub own : own_left i r ≡ filled r.own i.own

@@ -1,12 +1,12 @@
 -- The nodes of a salvage with their counts, and the refusals up to the room for them.
 use Rattle.std.specs.Prelude.{◌≡◌, ◌&&◌, List, map, ℕ, ◌≤◌, ◌<◌, leb, eqb, length, take}
 use Rattle.refusal.specs.declared.Refusal.TheVariants.{Dims, Shape, Tree, Room}
-use Rattle.refusal.specs.declared.Outcome.{Outcome}
 use Rattle.refusal.specs.Chain.{ask, ◌then◌}
 use Rattle.morton.specs.Keys.{axes_known}
 use Rattle.tree.specs.WellFormed.{most_sources}
 use Rattle.salvaged.specs.Nodes.{Input}
 use Rattle.salvaged.specs.Columns.{new_keys, new_own, new_sources, old_begin}
+use Rattle.refusal.specs.Outcome.{Outcome}
 
 -- so many entries of each of three columns may be used
 pub record Roomy (room : ℕ) (key own begin : List ℕ) : Type 0 where

@@ -1,14 +1,14 @@
 #![tactic(auto)]
 
 // The nodes of a salvage with their counts, and the refusals up to the room for them.
-ghost use Rattle.std.specs.Prelude.{◌≡◌, min};
+ghost use Rattle.std.specs.Prelude.{◌≡◌, min, IfOk};
+ghost use Rattle.refusal.specs.Outcome.{ending};
 ghost use Rattle.slices.specs.Lists.{sum};
-ghost use Rattle.refusal.specs.declared.Outcome.TheVariants.{Done, Refused};
 ghost use Rattle.salvaged.specs.Nodes.{input};
 ghost use Rattle.kept_sources.specs.Rows.{Readable};
 ghost use Rattle.salvage_start.specs.Started.{Roomy, Filled, start_check, StartedWith};
 
-use refusal::{Outcome, Refusal};
+use refusal::Refusal;
 
 pub const MOST_SOURCES: usize = 1048576;
 
@@ -51,34 +51,20 @@ fn sum_own(own: &[usize]) -> usize
     ensures { result ≡ min (sum own.now) 1048577 }
 {
     let mut run = 0;
-    let mut q = 0;
-    while q < own.len() {
-        if MOST_SOURCES - run < own[q] {
+    for &n in own {
+        if MOST_SOURCES - run < n {
             return MOST_SOURCES + 1;
         }
-        run += own[q];
-        q += 1;
+        run += n;
     }
     run
 }
 
-// Whether the nodes are put, and how many nodes and sources there are.
+// How many nodes are put, and how many sources they have.
 #[derive(Clone, Copy)]
 pub struct Started {
-    pub outcome: Outcome,
     pub nodes: usize,
     pub sources: usize,
-}
-
-// A refusal: nothing is counted.
-fn unstarted(refusal: Refusal) -> Started
-    ensures { result.outcome ≡ Refused refusal }
-{
-    Started {
-        outcome: Outcome::Refused(refusal),
-        nodes: 0,
-        sources: 0,
-    }
 }
 
 // Checks the call with so many places and so much room, and puts the nodes. After a refusal the slices hold anything.
@@ -93,40 +79,33 @@ pub fn start(
     new_key: &mut [u64],
     new_own: &mut [usize],
     new_begin: &mut [usize],
-) -> Started
+) -> Result<Started, Refusal>
     requires { Roomy room new_key.old new_own.old new_begin.old }
-    ensures outcome_value { result.outcome ≡ start_check (input axes key.now own.now begin.now order.now) places room }
-    ensures started_with { result.outcome ≡ Done → StartedWith (input axes key.now own.now begin.now order.now) places room result.nodes result.sources new_key.new new_own.new new_begin.new }
+    ensures outcome_value { ending result ≡ start_check (input axes key.now own.now begin.now order.now) places room }
+    ensures started_with { IfOk result (λ s. StartedWith (input axes key.now own.now begin.now order.now) places room s.nodes s.sources new_key.new new_own.new new_begin.new) }
 {
     if !axes::axes_known(axes) {
-        return unstarted(Refusal::Dims);
+        return Err(Refusal::Dims);
     }
     if own.len() != key.len() {
-        return unstarted(Refusal::Shape);
+        return Err(Refusal::Shape);
     }
     if begin.len() != key.len() {
-        return unstarted(Refusal::Shape);
+        return Err(Refusal::Shape);
     }
     let n = fill_nodes(
         axes, key, own, begin, order, room, new_key, new_own, new_begin,
     );
     if room < n {
-        let counted = kept_sources::sources_outcome(axes, key, own, begin, order, places);
-        if let Outcome::Refused(refusal) = counted {
-            return unstarted(refusal);
-        }
-        return unstarted(Refusal::Room(3));
+        kept_sources::sources_outcome(axes, key, own, begin, order, places)?;
+        return Err(Refusal::Room(3));
     }
     let sources = sum_own(&new_own[..n]);
     if MOST_SOURCES < sources {
-        return unstarted(Refusal::Tree);
+        return Err(Refusal::Tree);
     }
     if places < sources {
-        return unstarted(Refusal::Room(2));
+        return Err(Refusal::Room(2));
     }
-    Started {
-        outcome: Outcome::Done,
-        nodes: n,
-        sources,
-    }
+    Ok(Started { nodes: n, sources })
 }

@@ -7,8 +7,6 @@ use lib.Dec.{leb, eqb}
 use lib.ListN.{length}
 use borrow.Author.Tests.{leb-true}
 use Rattle.refusal.specs.declared.Refusal.TheVariants.{Dims, Shape, Tree as NoTree, Room}
-use Rattle.refusal.specs.declared.Outcome.{Outcome}
-use Rattle.refusal.specs.declared.Outcome.TheVariants.{Done}
 use Rattle.refusal.specs.Chain.{ask, ◌then◌}
 use Rattle.refusal.proofs.Chain.{asked, both-done}
 use Rattle.slices.specs.Lists.{sum}
@@ -20,6 +18,7 @@ use Rattle.salvaged.specs.Changes.{changed_keys, change_codes}
 use Rattle.salvaged.specs.Answers.{Rooms, node_room, salvage_check}
 use Rattle.salvaged.proofs.Formed.{well-formed, order-length}
 use Rattle.salvaged.proofs.Same as S
+use Rattle.refusal.specs.Outcome.{accepted}
 
 -- what it gave, as an input
 abbrev pub again : Input → Input
@@ -52,7 +51,7 @@ again-same i known few = comes_back (again i) known (new_totals i) (well-formed 
 
 -- ---- of a call that was not refused
 
-module _ (i : Input) (r : Rooms) (done : salvage_check i r ≡ Done) where
+module _ (i : Input) (r : Rooms) (done : salvage_check i r ≡ accepted) where
   parts : (axes_known i.axes ≡ true) × (new_sources i ≤ most_sources)
   unfolding salvage_check
   parts =

@@ -1,17 +1,15 @@
 -- Document 02, order 8: the refusals in order, and what a salvage answers and leaves in the slices lent to it.
-use Rattle.std.specs.Prelude.{◌&&◌, List, ℕ, min, leb, eqb, length}
+use Rattle.std.specs.Prelude.{◌&&◌, List, ℕ, min, leb, eqb, length, Ok}
 use Rattle.refusal.specs.declared.Refusal.TheVariants.{Dims, Shape, Tree as NoTree, Room}
-use Rattle.refusal.specs.declared.Outcome.{Outcome}
-use Rattle.refusal.specs.declared.Outcome.TheVariants.{Done, Refused}
 use Rattle.refusal.specs.Chain.{ask, ◌then◌}
 use Rattle.refusal.specs.Left.{left}
 use Rattle.morton.specs.Keys.{axes_known}
 use Rattle.tree.specs.WellFormed.{most_sources}
 use Rattle.salvaged.specs.declared.Salvaged.{Salvaged}
-use Rattle.salvaged.specs.declared.Salvaged.TheVariants.{Tree, Refused as NotSalvaged}
 use Rattle.salvaged.specs.Nodes.{Input}
 use Rattle.salvaged.specs.Columns.{new_keys, new_own, new_begins, new_totals, new_order_of, new_sources}
 use Rattle.salvaged.specs.Changes.{change_codes, changed_keys}
+use Rattle.refusal.specs.Outcome.{Answer, Outcome}
 
 -- how many entries the lent slices have
 pub record Rooms : Type 0 where
@@ -27,6 +25,10 @@ pub record Rooms : Type 0 where
 abbrev pub node_room : Rooms → ℕ
 node_room r = min 1048576 (min r.keys (min r.own (min r.begins r.totals)))
 
+-- how many nodes, sources and changes there are
+abbrev pub counts : Input → Salvaged
+counts i = record { nodes = length (new_keys i); sources = new_sources i; changes = length (changed_keys i) }
+
 module _ (i : Input) (r : Rooms) where
   -- 1; 3 when the key, count and begin columns differ in length; 13 when the total would exceed 1,048,576; 8 with value 2 for the order, 3 for the node columns, 10 for the change list
   unfoldable pub salvage_check : Outcome
@@ -39,12 +41,8 @@ module _ (i : Input) (r : Rooms) where
       then ask (leb (length (changed_keys i)) (min r.codes r.changed)) (Room 10)
 
   -- how many nodes, sources and changes, or the refusal
-  abbrev pub counts_or : Outcome → Salvaged
-  counts_or Done = Tree (length (new_keys i)) (new_sources i) (length (changed_keys i))
-  counts_or (Refused refusal) = NotSalvaged refusal
-
-  abbrev pub salvage_answer : Salvaged
-  salvage_answer = counts_or salvage_check
+  abbrev pub salvage_answer : Answer Salvaged
+  salvage_answer = salvage_check then Ok (counts i)
 
   -- what is left in each of the slices
   abbrev pub order_left : List ℕ

@@ -1,11 +1,11 @@
 #![tactic(auto)]
 
 // What a salvage of columns answers. The definitions stand in specs/, the laws of the salvaged tree in proofs/.
-use refusal::Refusal;
 
-// How many nodes, sources and changes there are, or the refusal.
+// How many nodes, sources and changes there are.
 #[derive(Clone, Copy)]
-pub enum Salvaged {
-    Tree(usize, usize, usize),
-    Refused(Refusal),
+pub struct Salvaged {
+    pub nodes: usize,
+    pub sources: usize,
+    pub changes: usize,
 }

@@ -13,10 +13,11 @@ use lib.Seq.{drop-drop, drop-cons, set_at}
 use borrow.Author.Tests.{lt-ltb, le-ltb, ltb-true, ltb-false}
 use Rattle.refusal.specs.declared.Wall.{Wall}
 use Rattle.space.specs.declared.Frame.{Frame}
-use Rattle.space.specs.declared.Rows.TheVariants.{Inside, Outside}
 use Rattle.space.specs.Cells.{inside, code16}
 use Rattle.space.specs.Walls.{first_wall}
 use Rattle.space.specs.Rows.{inside_rows, codes16, or_inside, row_wall, first_outside, coded}
+use Rattle.std.specs.Prelude.{Err}
+use Rattle.space.specs.Inside.{all_inside}
 
 -- one row more, at the front
 rows_more : (k : ℕ) (f : Frame) (xs : List Float) → inside_rows (suc k) f xs ≡ cond (inside f xs) (suc (inside_rows k f (drop f.axes xs))) 0
@@ -108,7 +109,7 @@ module _ (n : ℕ) (f : Frame) (xs : List Float) (old : List ℕ) where
         ∙ ap (λ j. row + j) (rows_more (n - (row + 1)) f (drop at xs) ∙ ap (λ b. cond b (suc (inside_rows (n - (row + 1)) f (drop f.axes (drop at xs)))) 0) i)
         ∙ add-zero row
 
-    pub written-stop : (wall : Wall) → wall ≡ first_wall row f (drop at xs) → inside f (drop at xs) ≡ false → row < n → (Outside wall ≡ first_outside n f xs) × (new ≡ coded n f xs old)
+    pub written-stop : (wall : Wall) → wall ≡ first_wall row f (drop at xs) → inside f (drop at xs) ≡ false → row < n → (Err wall ≡ first_outside n f xs) × (new ≡ coded n f xs old)
     written-stop wall e i h =
         let s = stopped i h in
         let here : wall ≡ row_wall f xs row = e ∙ ap (λ j. first_wall row f (drop j xs)) w.at_is in
@@ -119,7 +120,7 @@ module _ (n : ℕ) (f : Frame) (xs : List Float) (old : List ℕ) where
         let z : n - row ≡ 0 = omega arith in
         w.seen ∙ ap (λ j. row + inside_rows j f (drop at xs)) z ∙ ap (λ j. row + j) (rows_none f (drop at xs)) ∙ add-zero row
 
-    pub written_all : n ≤ row → (Inside ≡ first_outside n f xs) × (new ≡ coded n f xs old)
+    pub written_all : n ≤ row → (all_inside ≡ first_outside n f xs) × (new ≡ coded n f xs old)
     written_all h = let s = ended h in (rw (s, le-ltb row n h), rw s w.wrote)
 
 -- a slice holds its whole rows
@@ -137,17 +138,17 @@ rows-le (suc n) f xs = go (inside f xs) (rows-le n f (drop f.axes xs))
     go false h = omega arith
 
 -- all inside: every row is counted, so every code is written
-pub all-inside : (n : ℕ) (f : Frame) (xs : List Float) → first_outside n f xs ≡ Inside → inside_rows n f xs ≡ n
+pub all-inside : (n : ℕ) (f : Frame) (xs : List Float) → first_outside n f xs ≡ all_inside → inside_rows n f xs ≡ n
 all-inside n f xs h = go (ltb (inside_rows n f xs) n) refl h
   where
-    go : (t : Bool) → ltb (inside_rows n f xs) n ≡ t → or_inside t (Outside (row_wall f xs (inside_rows n f xs))) ≡ Inside → inside_rows n f xs ≡ n
+    go : (t : Bool) → ltb (inside_rows n f xs) n ≡ t → or_inside t (Err (row_wall f xs (inside_rows n f xs))) ≡ all_inside → inside_rows n f xs ≡ n
     go true e g = let z : ◌≡◌ {A = ℕ} 0 1 = cc in absurd (omega arith)
     go false e g = omega (arith, ltb-false (inside_rows n f xs) n e, rows-le n f xs)
 
-pub one_outside : (n : ℕ) (wall : Wall) (f : Frame) (xs : List Float) → first_outside n f xs ≡ Outside wall → (wall ≡ row_wall f xs (inside_rows n f xs)) × (inside_rows n f xs < n)
+pub one_outside : (n : ℕ) (wall : Wall) (f : Frame) (xs : List Float) → first_outside n f xs ≡ Err wall → (wall ≡ row_wall f xs (inside_rows n f xs)) × (inside_rows n f xs < n)
 one_outside n wall f xs h = go (ltb (inside_rows n f xs) n) refl h
   where
-    go : (t : Bool) → ltb (inside_rows n f xs) n ≡ t → or_inside t (Outside (row_wall f xs (inside_rows n f xs))) ≡ Outside wall → (wall ≡ row_wall f xs (inside_rows n f xs)) × (inside_rows n f xs < n)
+    go : (t : Bool) → ltb (inside_rows n f xs) n ≡ t → or_inside t (Err (row_wall f xs (inside_rows n f xs))) ≡ Err wall → (wall ≡ row_wall f xs (inside_rows n f xs)) × (inside_rows n f xs < n)
     go true e g = (cc, ltb-true (inside_rows n f xs) n e)
     go false e g = let z : ◌≡◌ {A = ℕ} 0 1 = cc in absurd (omega arith)
 

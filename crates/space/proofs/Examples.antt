@@ -6,13 +6,14 @@ use lib.IntN.{pos, negsuc}
 use lib.Ieee.{Float, nan, inf, fin, binary64, of_bits, lt, le, sub, mul, div, of_int}
 use Rattle.slices.specs.Every.{every}
 use Rattle.refusal.specs.declared.Refusal.TheVariants.{Dims, Box as OutOfDomain}
-use Rattle.refusal.specs.declared.Outcome.TheVariants.{Done, Refused}
 use Rattle.space.specs.declared.Box.{Box}
 use Rattle.space.specs.declared.Place.{Place}
 use Rattle.space.specs.declared.Place.TheVariants.{At, NotFinite, Below, Above}
 use Rattle.space.specs.Floats.{size_of, whole, floor}
 use Rattle.space.specs.Domain.{centres_known, box_outcome}
 use Rattle.space.specs.Cells.{quotient, side, displacement, frame_of, cell16}
+use Rattle.refusal.specs.Outcome.{accepted}
+use Rattle.std.specs.Prelude.{Err}
 
 -- one axis; what stands past it is not read
 abbrev one : Float → Float → Box
@@ -79,12 +80,12 @@ infinite = (refl, refl)
 
 -- ---- the domain, at its limits and past them
 pub limits :
-    (box_outcome (one (fin false 1 (pos 24)) (fin false 1 (negsuc 1))) ≡ Done)
-    × (box_outcome (one (fin true 1 (pos 24)) (fin false 1 (pos 20))) ≡ Done)
-    × (box_outcome (one (of_bits binary64 0x4170_0000_0000_0001) four) ≡ Refused OutOfDomain)
-    × (box_outcome (one four (of_bits binary64 0x3fcf_ffff_ffff_ffff)) ≡ Refused OutOfDomain)
-    × (box_outcome (one four nan) ≡ Refused OutOfDomain)
-    × (box_outcome (one nan four) ≡ Refused OutOfDomain)
-    × (box_outcome (record { centre = four ∷ four ∷ four ∷ []; radius = nan; axes = 4 }) ≡ Refused Dims)
+    (box_outcome (one (fin false 1 (pos 24)) (fin false 1 (negsuc 1))) ≡ accepted)
+    × (box_outcome (one (fin true 1 (pos 24)) (fin false 1 (pos 20))) ≡ accepted)
+    × (box_outcome (one (of_bits binary64 0x4170_0000_0000_0001) four) ≡ Err OutOfDomain)
+    × (box_outcome (one four (of_bits binary64 0x3fcf_ffff_ffff_ffff)) ≡ Err OutOfDomain)
+    × (box_outcome (one four nan) ≡ Err OutOfDomain)
+    × (box_outcome (one nan four) ≡ Err OutOfDomain)
+    × (box_outcome (record { centre = four ∷ four ∷ four ∷ []; radius = nan; axes = 4 }) ≡ Err Dims)
 unfolding of_bits centres_known size_of le every
 limits = (refl, refl, refl, refl, refl, refl, refl)

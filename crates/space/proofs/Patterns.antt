@@ -16,22 +16,21 @@ use lib.Ieee.Positive.{first_pos}
 use lib.Ieee.Compare.{differs_from_itself}
 use lib.Arith.{lt_of_le-ne}
 use Rattle.space.specs.Floats.{whole, floor}
-use Rattle.space.specs.Cells.{code_or, cell_number}
-use Rattle.space.specs.declared.Cell.{Cell}
-use Rattle.space.specs.declared.Cell.TheVariants.{Number, Outside}
+use Rattle.space.specs.Cells.{kept, cell_number}
 use Rattle.space.proofs.Rounding.{floor-plus}
+use Rattle.std.specs.Prelude.{None, Option, Some}
 
 -- ---- the cell of a value g / d
-at-cell : (x : Float) (g d k : ℕ) → 0 < d → HasValue x false g d → g / d ≡ k → k < 65536 → Number k ≡ cell_number 65536 (floor x)
+at-cell : (x : Float) (g d k : ℕ) → 0 < d → HasValue x false g d → g / d ≡ k → k < 65536 → Some k ≡ cell_number 65536 (floor x)
 at-cell x g d k D h e l =
-    sym (ap (cell_number 65536) (floor-plus x g d D h ∙ ap (λ (n : ℕ). whole (pos n)) e) ∙ ap (λ (b : Bool). code_or b k) (is_true (ltb k 65536) (lt→ltb k 65536 l)))
+    sym (ap (cell_number 65536) (floor-plus x g d D h ∙ ap (λ (n : ℕ). whole (pos n)) e) ∙ ap (λ (b : Bool). kept b k) (is_true (ltb k 65536) (lt→ltb k 65536 l)))
 
-out-cell : (x : Float) (g d : ℕ) → 0 < d → HasValue x false g d → 65536 ≤ g / d → Outside ≡ cell_number 65536 (floor x)
+out-cell : (x : Float) (g d : ℕ) → 0 < d → HasValue x false g d → 65536 ≤ g / d → None ≡ cell_number 65536 (floor x)
 out-cell x g d D h l =
     let k = g / d in
-    sym (ap (cell_number 65536) (floor-plus x g d D h) ∙ ap (λ (b : Bool). code_or b k) (is_false (ltb k 65536) (not_T (ltb k 65536) (λ (t : T (ltb k 65536)). not-le_of_lt (ltb→lt k 65536 t) l))))
+    sym (ap (cell_number 65536) (floor-plus x g d D h) ∙ ap (λ (b : Bool). kept b k) (is_false (ltb k 65536) (not_T (ltb k 65536) (λ (t : T (ltb k 65536)). not-le_of_lt (ltb→lt k 65536 t) l))))
 
-below-zero : (n k : ℕ) → 1 ≤ k → Outside ≡ cell_number n (whole (neg_ℤ (pos k)))
+below-zero : (n k : ℕ) → 1 ≤ k → None ≡ cell_number n (whole (neg_ℤ (pos k)))
 below-zero n zero h = absurd (lt_irrefl 0 h)
 below-zero n (suc k) h = refl
 
@@ -41,7 +40,7 @@ ceil-pos n d N D = (le-div_iff_mul-le D).1 (go n d N D)
     go : (n d : ℕ) → 0 < n → 0 < d → 1 * d ≤ n + (d - 1)
     go n d N D = omega arith
 
-minus-cell : (x : Float) (g d : ℕ) → 0 < g → HasValue x true g d → Outside ≡ cell_number 65536 (floor x)
+minus-cell : (x : Float) (g d : ℕ) → 0 < g → HasValue x true g d → None ≡ cell_number 65536 (floor x)
 unfolding floor
 minus-cell nan g d G h = absurd h
 minus-cell (inf s) g d G h = absurd h
@@ -51,16 +50,16 @@ minus-cell (fin true m e) g d G h =
     (ceil-pos (m * up e) (down e) (first_pos (m * up e) d (subst (λ (z : ℕ). 0 < z) (sym h.1) (mul-pos G (down_pos e)))) (down_pos e))
 
 -- ---- what fields stand for
-top-cell : (s b : Bool) → Outside ≡ cell_number 65536 (floor (cond b (inf s) nan))
+top-cell : (s b : Bool) → None ≡ cell_number 65536 (floor (cond b (inf s) nan))
 unfolding floor
 top-cell s true = refl
 top-cell s false = refl
 
-either-cell : (a b s : Bool) (v : Float) → Outside ≡ cell_number 65536 (floor v) → Outside ≡ cell_number 65536 (floor (cond a (cond b (inf s) nan) v))
+either-cell : (a b s : Bool) (v : Float) → None ≡ cell_number 65536 (floor v) → None ≡ cell_number 65536 (floor (cond a (cond b (inf s) nan) v))
 either-cell true b s v h = top-cell s b
 either-cell false b s v h = h
 
-fields-minus : (x t : ℕ) → 0 < x + t → Outside ≡ cell_number 65536 (floor (of_fields binary64 true x t))
+fields-minus : (x t : ℕ) → 0 < x + t → None ≡ cell_number 65536 (floor (of_fields binary64 true x t))
 unfolding of_fields
 fields-minus zero t h = minus-cell (odd 53 true t 0 1074) (t * 1) (2 ^ 1074) (go t h) (odd_sign 53 true t 0 1074)
   where
@@ -87,7 +86,7 @@ unfolding of_fields
 fields_value j t h =
     subst (λ (a : Bool). HasValue (cond a (cond (eqb t 0) (inf false) nan) (odd 53 false (2 ^ 52 + t) j 1074)) false ((2 ^ 52 + t) * 2 ^ j) (2 ^ 1074)) (sym (not_top j h)) (odd_sign 53 false (2 ^ 52 + t) j 1074)
 
-fields-low : (x t : ℕ) → t < 2 ^ 52 → x < 1023 → Number 0 ≡ cell_number 65536 (floor (of_fields binary64 false x t))
+fields-low : (x t : ℕ) → t < 2 ^ 52 → x < 1023 → Some 0 ≡ cell_number 65536 (floor (of_fields binary64 false x t))
 unfolding of_fields
 fields-low zero t T52 h =
     let l : 52 + 0 ≤ 1074 = lit≤ tt in
@@ -103,7 +102,7 @@ join j h = omega arith
 pub shifted_down : (q j : ℕ) → j ≤ 1074 → q / 2 ^ (1074 - j) ≡ q * 2 ^ j / 2 ^ 1074
 shifted_down q j h = ap (λ (k : ℕ). k / 2 ^ (1074 - j)) (sym (shl-shr q j)) ∙ shr-shr (q * 2 ^ j) j (1074 - j) ∙ ap (λ (k : ℕ). q * 2 ^ j / 2 ^ k) (join j h)
 
-fields-mid : (x t : ℕ) → t < 2 ^ 52 → 1023 ≤ x → x < 1039 → Number ((2 ^ 52 + t) / 2 ^ (1075 - x)) ≡ cell_number 65536 (floor (of_fields binary64 false x t))
+fields-mid : (x t : ℕ) → t < 2 ^ 52 → 1023 ≤ x → x < 1039 → Some ((2 ^ 52 + t) / 2 ^ (1075 - x)) ≡ cell_number 65536 (floor (of_fields binary64 false x t))
 fields-mid zero t T52 g h = absurd (omega arith)
 fields-mid (suc j) t T52 g h =
     let q = 2 ^ 52 + t in
@@ -115,7 +114,7 @@ fields-mid (suc j) t T52 g h =
     let m : q * 2 ^ j / 2 ^ 1074 < 65536 = (div-lt_iff_lt-mul (pow_pos 1074)).1 (lt_of_lt_of_le (shl_lt 53 j (with_lead t T52)) (pow_mono l)) in
     at-cell (of_fields binary64 false (suc j) t) (q * 2 ^ j) (2 ^ 1074) (q / 2 ^ (1075 - suc j)) (pow_pos 1074) (fields_value j t k) (sym e) (subst (λ (n : ℕ). n < 65536) (sym e) m)
 
-fields-high : (x t : ℕ) → 1039 ≤ x → Outside ≡ cell_number 65536 (floor (of_fields binary64 false x t))
+fields-high : (x t : ℕ) → 1039 ≤ x → None ≡ cell_number 65536 (floor (of_fields binary64 false x t))
 unfolding of_fields
 fields-high zero t g = absurd (omega arith)
 fields-high (suc j) t g =
@@ -159,11 +158,11 @@ no_nan nan h = absurd (true≢false h)
 no_nan (inf s) h = tt
 no_nan (fin s m e) h = tt
 
-pub nan-out : (x : Float) → ne x x ≡ true → Outside ≡ cell_number 65536 (floor x)
+pub nan-out : (x : Float) → ne x x ≡ true → None ≡ cell_number 65536 (floor x)
 unfolding floor
 nan-out x h = sym (ap (λ (y : Float). cell_number 65536 (floor y)) (differs_from_itself x (subst T (sym h) tt)))
 
-zero_is : Number 0 ≡ cell_number 65536 (floor (of_bits binary64 (2 ^ 63)))
+zero_is : Some 0 ≡ cell_number 65536 (floor (of_bits binary64 (2 ^ 63)))
 unfolding of_bits floor
 zero_is = refl
 
@@ -174,25 +173,25 @@ module _ (x : Float) (F : T (fits binary64 x)) where
   back : of_bits binary64 b ≡ x
   back = of_bits-to_bits binary64 x F
 
-  of-fields : (s : Bool) (e t : ℕ) (r : Cell) → of_bits binary64 b ≡ of_fields binary64 s e t → r ≡ cell_number 65536 (floor (of_fields binary64 s e t)) → r ≡ cell_number 65536 (floor x)
+  of-fields : (s : Bool) (e t : ℕ) (r : Option ℕ) → of_bits binary64 b ≡ of_fields binary64 s e t → r ≡ cell_number 65536 (floor (of_fields binary64 s e t)) → r ≡ cell_number 65536 (floor x)
   of-fields s e t r h k = k ∙ ap (λ (y : Float). cell_number 65536 (floor y)) (sym h ∙ back)
 
-  pub minus-zero : b ≡ 2 ^ 63 → Number 0 ≡ cell_number 65536 (floor x)
+  pub minus-zero : b ≡ 2 ^ 63 → Some 0 ≡ cell_number 65536 (floor x)
   minus-zero h = zero_is ∙ ap (λ (y : Float). cell_number 65536 (floor y)) (ap (of_bits binary64) (sym h) ∙ back)
 
-  pub minus : 2 ^ 63 ≤ b → (b ≡ 2 ^ 63 → ⊥) → Outside ≡ cell_number 65536 (floor x)
+  pub minus : 2 ^ 63 ≤ b → (b ≡ 2 ^ 63 → ⊥) → None ≡ cell_number 65536 (floor x)
   minus h k =
-      of-fields true (b % 2 ^ 63 / 2 ^ 52) (b % 2 ^ 52) Outside (minus-fields b h)
+      of-fields true (b % 2 ^ 63 / 2 ^ 52) (b % 2 ^ 52) None (minus-fields b h)
       (fields-minus (b % 2 ^ 63 / 2 ^ 52) (b % 2 ^ 52) (some-field b (lt_of_le-ne h (λ (e : 2 ^ 63 ≡ b). k (sym e))) (to_bits-lt binary64 x F)))
 
-  pub under_one : b < 2 ^ 63 → b / 2 ^ 52 < 1023 → Number 0 ≡ cell_number 65536 (floor x)
-  under_one h k = of-fields false (b / 2 ^ 52) (b % 2 ^ 52) (Number 0) (plus-fields b h) (fields-low (b / 2 ^ 52) (b % 2 ^ 52) (mod-lt b (pow_pos 52)) k)
+  pub under_one : b < 2 ^ 63 → b / 2 ^ 52 < 1023 → Some 0 ≡ cell_number 65536 (floor x)
+  under_one h k = of-fields false (b / 2 ^ 52) (b % 2 ^ 52) (Some 0) (plus-fields b h) (fields-low (b / 2 ^ 52) (b % 2 ^ 52) (mod-lt b (pow_pos 52)) k)
 
-  pub too-high : b < 2 ^ 63 → 1039 ≤ b / 2 ^ 52 → Outside ≡ cell_number 65536 (floor x)
-  too-high h k = of-fields false (b / 2 ^ 52) (b % 2 ^ 52) Outside (plus-fields b h) (fields-high (b / 2 ^ 52) (b % 2 ^ 52) k)
+  pub too-high : b < 2 ^ 63 → 1039 ≤ b / 2 ^ 52 → None ≡ cell_number 65536 (floor x)
+  too-high h k = of-fields false (b / 2 ^ 52) (b % 2 ^ 52) None (plus-fields b h) (fields-high (b / 2 ^ 52) (b % 2 ^ 52) k)
 
-  pub shifted : b < 2 ^ 63 → 1023 ≤ b / 2 ^ 52 → b / 2 ^ 52 < 1039 → Number (bit_or (bit_and b (2 ^ 52 - 1)) (2 ^ 52) / 2 ^ (1075 - b / 2 ^ 52)) ≡ cell_number 65536 (floor x)
+  pub shifted : b < 2 ^ 63 → 1023 ≤ b / 2 ^ 52 → b / 2 ^ 52 < 1039 → Some (bit_or (bit_and b (2 ^ 52 - 1)) (2 ^ 52) / 2 ^ (1075 - b / 2 ^ 52)) ≡ cell_number 65536 (floor x)
   shifted h g k =
       let r = (2 ^ 52 + b % 2 ^ 52) / 2 ^ (1075 - b / 2 ^ 52) in
-      ap (λ (q : ℕ). Number (q / 2 ^ (1075 - b / 2 ^ 52))) (digits_are b)
-      ∙ of-fields false (b / 2 ^ 52) (b % 2 ^ 52) (Number r) (plus-fields b h) (fields-mid (b / 2 ^ 52) (b % 2 ^ 52) (mod-lt b (pow_pos 52)) g k)
+      ap (λ (q : ℕ). Some (q / 2 ^ (1075 - b / 2 ^ 52))) (digits_are b)
+      ∙ of-fields false (b / 2 ^ 52) (b % 2 ^ 52) (Some r) (plus-fields b h) (fields-mid (b / 2 ^ 52) (b % 2 ^ 52) (mod-lt b (pow_pos 52)) g k)

@@ -13,16 +13,14 @@ use borrow.Author.Tests.{lt-ltb, le-ltb, ltb-true}
 use Rattle.anchors.proofs.Placing.{code_fits}
 use Rattle.space.specs.declared.Box.{Box}
 use Rattle.space.specs.declared.Frame.{Frame}
-use Rattle.space.specs.declared.Located.{Located}
 use Rattle.space.specs.declared.Place.{Place}
 use Rattle.space.specs.declared.Place.TheVariants.{At, NotFinite, Below, Above}
-use Rattle.space.specs.declared.Cell.{Cell}
-use Rattle.space.specs.declared.Cell.TheVariants.{Number, Outside}
 use Rattle.space.specs.Floats.{nought, is_finite, Floor, no_floor, whole, floor}
-use Rattle.space.specs.Cells.{displacement, quotient, side, pick, cell_number, wall_by, cell_in, cell_of, cell16, is_at, place_number, number_in, inside, anchors16, code16, code_or, point_code, located_of}
+use Rattle.space.specs.Cells.{displacement, quotient, side, pick, cell_number, wall_by, cell_in, cell_of, cell16, is_at, place_number, number_in, inside, anchors16, code16, kept, point_code, located_of}
 use Rattle.codes.specs.Anchors.{Bytes2}
 use Rattle.morton.specs.Anchors.{encode}
 use Rattle.space.proofs.Literals.{zero_is}
+use Rattle.std.specs.Prelude.{None, Option, Some}
 
 -- a box's displacements
 pub displaced : (b : Box) (a : ℕ) → a < b.axes → sub binary64 (get_or b.centre a nan) b.radius ≡ displacement b a
@@ -48,31 +46,31 @@ cell-read f xs at a p h e =
 
 -- a cell with its wall, and without
 module _ (n : ℕ) (y : Floor) (w : Place) where
-  pub with_number : (k : ℕ) → cell_number n y ≡ Number k → At k ≡ cell_in n y w
+  pub with_number : (k : ℕ) → cell_number n y ≡ Some k → At k ≡ cell_in n y w
   with_number k h = go y h
     where
-      go : (y : Floor) → cell_number n y ≡ Number k → At k ≡ cell_in n y w
+      go : (y : Floor) → cell_number n y ≡ Some k → At k ≡ cell_in n y w
       go no_floor g = let z : ◌≡◌ {A = ℕ} 0 1 = cc in absurd (omega arith)
       go (whole (negsuc j)) g = let z : ◌≡◌ {A = ℕ} 0 1 = cc in absurd (omega arith)
       go (whole (pos j)) g = by (ltb j n) g
         where
-          by : (t : Bool) → code_or t j ≡ Number k → At k ≡ pick t (At j) w
+          by : (t : Bool) → kept t j ≡ Some k → At k ≡ pick t (At j) w
           by true g = let e : j ≡ k = cc in ap At (sym e)
           by false g = let z : ◌≡◌ {A = ℕ} 0 1 = cc in absurd (omega arith)
 
-  pub with-wall : cell_number n y ≡ Outside → w ≡ cell_in n y w
+  pub with-wall : cell_number n y ≡ None → w ≡ cell_in n y w
   with-wall h = go y h
     where
-      go : (y : Floor) → cell_number n y ≡ Outside → w ≡ cell_in n y w
+      go : (y : Floor) → cell_number n y ≡ None → w ≡ cell_in n y w
       go no_floor g = refl
       go (whole (negsuc j)) g = refl
       go (whole (pos j)) g = by (ltb j n) g
         where
-          by : (t : Bool) → code_or t j ≡ Outside → w ≡ pick t (At j) w
+          by : (t : Bool) → kept t j ≡ None → w ≡ pick t (At j) w
           by true g = let z : ◌≡◌ {A = ℕ} 0 1 = cc in absurd (omega arith)
           by false g = refl
 
-  pub without : number_in w ≡ Outside → cell_number n y ≡ number_in (cell_in n y w)
+  pub without : number_in w ≡ None → cell_number n y ≡ number_in (cell_in n y w)
   without h = go y
     where
       go : (y : Floor) → cell_number n y ≡ number_in (cell_in n y w)
@@ -80,22 +78,22 @@ module _ (n : ℕ) (y : Floor) (w : Place) where
       go (whole (negsuc j)) = sym h
       go (whole (pos j)) = by (ltb j n)
         where
-          by : (t : Bool) → code_or t j ≡ number_in (pick t (At j) w)
+          by : (t : Bool) → kept t j ≡ number_in (pick t (At j) w)
           by true = refl
           by false = sym h
 
-no_cell : (x q : Float) → number_in (wall_by x q) ≡ Outside
+no_cell : (x q : Float) → number_in (wall_by x q) ≡ None
 no_cell x q = go (is_finite x) (lt q nought)
   where
-    go : (s t : Bool) → number_in (pick s (pick t Below Above) NotFinite) ≡ Outside
+    go : (s t : Bool) → number_in (pick s (pick t Below Above) NotFinite) ≡ None
     go true true = refl
     go true false = refl
     go false t = refl
 
-pub number_past : (f : Frame) (xs : List Float) (a : ℕ) → f.axes ≤ a → Number 0 ≡ number_in (cell16 f xs a)
+pub number_past : (f : Frame) (xs : List Float) (a : ℕ) → f.axes ≤ a → Some 0 ≡ number_in (cell16 f xs a)
 number_past f xs a h = ap number_in (cell-past f xs a h)
 
-pub number_read : (f : Frame) (xs : List Float) (at a : ℕ) (p : Cell) → a < f.axes
+pub number_read : (f : Frame) (xs : List Float) (at a : ℕ) (p : Option ℕ) → a < f.axes
     → p ≡ cell_number 65536 (floor (quotient (get_or xs (at + a) nan) (get_or f.displacement a nan) f.side)) → p ≡ number_in (cell16 f (drop at xs) a)
 number_read f xs at a p h e =
     let x = get_or xs (at + a) nan in
@@ -103,13 +101,13 @@ number_read f xs at a p h e =
     e ∙ without 65536 (floor q) (wall_by x q) (no_cell x q) ∙ ap number_in (cell-read f xs at a (cell_of 65536 x (get_or f.displacement a nan) f.side) h refl)
 
 -- a coordinate at a cell, and one at none
-pub at-number : (p : Place) (k : ℕ) → number_in p ≡ Number k → p ≡ At k
+pub at-number : (p : Place) (k : ℕ) → number_in p ≡ Some k → p ≡ At k
 at-number (At j) k h = cc
 at-number NotFinite k h = let z : ◌≡◌ {A = ℕ} 0 1 = cc in absurd (omega arith)
 at-number Below k h = let z : ◌≡◌ {A = ℕ} 0 1 = cc in absurd (omega arith)
 at-number Above k h = let z : ◌≡◌ {A = ℕ} 0 1 = cc in absurd (omega arith)
 
-pub at_none : (p : Place) → number_in p ≡ Outside → is_at p ≡ false
+pub at_none : (p : Place) → number_in p ≡ None → is_at p ≡ false
 at_none (At j) h = let z : ◌≡◌ {A = ℕ} 0 1 = cc in absurd (omega arith)
 at_none NotFinite h = refl
 at_none Below h = refl
@@ -117,23 +115,23 @@ at_none Above h = refl
 
 -- the point is outside by axis 0, 1 or 2, or inside
 module _ (f : Frame) (xs : List Float) where
-  pub out-0 : number_in (cell16 f xs 0) ≡ Outside → inside f xs ≡ false
+  pub out-0 : number_in (cell16 f xs 0) ≡ None → inside f xs ≡ false
   unfolding inside
   out-0 h = rw (at_none (cell16 f xs 0) h)
 
-  pub out-1 : (x : ℕ) → number_in (cell16 f xs 0) ≡ Number x → number_in (cell16 f xs 1) ≡ Outside → inside f xs ≡ false
+  pub out-1 : (x : ℕ) → number_in (cell16 f xs 0) ≡ Some x → number_in (cell16 f xs 1) ≡ None → inside f xs ≡ false
   unfolding inside
   out-1 x h i = rw (at-number (cell16 f xs 0) x h, at_none (cell16 f xs 1) i)
 
-  pub out-2 : (x y : ℕ) → number_in (cell16 f xs 0) ≡ Number x → number_in (cell16 f xs 1) ≡ Number y → number_in (cell16 f xs 2) ≡ Outside → inside f xs ≡ false
+  pub out-2 : (x y : ℕ) → number_in (cell16 f xs 0) ≡ Some x → number_in (cell16 f xs 1) ≡ Some y → number_in (cell16 f xs 2) ≡ None → inside f xs ≡ false
   unfolding inside
   out-2 x y h i j = rw (at-number (cell16 f xs 0) x h, at-number (cell16 f xs 1) y i, at_none (cell16 f xs 2) j)
 
-  pub outside-located : inside f xs ≡ false → record { inside = false; anchor = 0 ∷ 0 ∷ 0 ∷ [] } ≡ located_of f xs
+  pub outside-located : inside f xs ≡ false → None ≡ located_of f xs
   outside-located h = rw h
 
-  pub all_in : (x y z : ℕ) → number_in (cell16 f xs 0) ≡ Number x → number_in (cell16 f xs 1) ≡ Number y → number_in (cell16 f xs 2) ≡ Number z
-      → record { inside = true; anchor = x ∷ y ∷ z ∷ [] } ≡ located_of f xs
+  pub all_in : (x y z : ℕ) → number_in (cell16 f xs 0) ≡ Some x → number_in (cell16 f xs 1) ≡ Some y → number_in (cell16 f xs 2) ≡ Some z
+      → Some (x ∷ y ∷ z ∷ []) ≡ located_of f xs
   unfolding inside anchors16
   all_in x y z h i j = rw (at-number (cell16 f xs 0) x h, at-number (cell16 f xs 1) y i, at-number (cell16 f xs 2) z j)
 
@@ -172,32 +170,38 @@ module _ (f : Frame) (xs : List Float) where
   two_bytes l e = subst Bytes2 (sym e) (record { first = anchor-under 0; second = anchor-under 1; third = anchor-under 2 })
 
   -- what `locate` answers, taken apart
-  pub located-in : (r : Located) → r ≡ located_of f xs → r.inside ≡ true → (inside f xs ≡ true) × (r.anchor ≡ anchors16 f xs)
-  located-in r e h =
-      let i : inside f xs ≡ true = sym (ap (λ l. l.inside) e) ∙ h in
-      (i, ap (λ l. l.anchor) e ∙ rw i)
+  pub located-in : (anchor : List ℕ) → Some anchor ≡ located_of f xs → (inside f xs ≡ true) × (anchor ≡ anchors16 f xs)
+  located-in anchor e = go (inside f xs) refl e
+    where
+      go : (t : Bool) → inside f xs ≡ t → Some anchor ≡ kept t (anchors16 f xs) → (inside f xs ≡ true) × (anchor ≡ anchors16 f xs)
+      go true i g = (i, cc)
+      go false i g = let z : ◌≡◌ {A = ℕ} 0 1 = cc in absurd (omega arith)
 
-  pub located-out : (r : Located) → r ≡ located_of f xs → r.inside ≡ false → inside f xs ≡ false
-  located-out r e h = sym (ap (λ l. l.inside) e) ∙ h
+  pub located-out : None ≡ located_of f xs → inside f xs ≡ false
+  located-out e = go (inside f xs) refl e
+    where
+      go : (t : Bool) → inside f xs ≡ t → None ≡ kept t (anchors16 f xs) → inside f xs ≡ false
+      go true i g = let z : ◌≡◌ {A = ℕ} 0 1 = cc in absurd (omega arith)
+      go false i g = i
 
-  pub place_in : (k : ℕ) → inside f xs ≡ true → k ≡ encode f.axes f.axes 16 (anchors16 f xs) → Number k ≡ point_code f xs
+  pub place_in : (k : ℕ) → inside f xs ≡ true → k ≡ encode f.axes f.axes 16 (anchors16 f xs) → Some k ≡ point_code f xs
   unfolding code16
   place_in k h e = rw (h, e)
 
-  pub place_out : inside f xs ≡ false → Outside ≡ point_code f xs
+  pub place_out : inside f xs ≡ false → None ≡ point_code f xs
   place_out h = rw h
 
-  pub placed-in : (k : ℕ) → point_code f xs ≡ Number k → (inside f xs ≡ true) × (k ≡ code16 f xs)
+  pub placed-in : (k : ℕ) → point_code f xs ≡ Some k → (inside f xs ≡ true) × (k ≡ code16 f xs)
   placed-in k h = go (inside f xs) refl h
     where
-      go : (t : Bool) → inside f xs ≡ t → code_or t (code16 f xs) ≡ Number k → (inside f xs ≡ true) × (k ≡ code16 f xs)
+      go : (t : Bool) → inside f xs ≡ t → kept t (code16 f xs) ≡ Some k → (inside f xs ≡ true) × (k ≡ code16 f xs)
       go true e g = (e, cc)
       go false e g = let z : ◌≡◌ {A = ℕ} 0 1 = cc in absurd (omega arith)
 
-  pub placed-out : point_code f xs ≡ Outside → inside f xs ≡ false
+  pub placed-out : point_code f xs ≡ None → inside f xs ≡ false
   placed-out h = go (inside f xs) refl h
     where
-      go : (t : Bool) → inside f xs ≡ t → code_or t (code16 f xs) ≡ Outside → inside f xs ≡ false
+      go : (t : Bool) → inside f xs ≡ t → kept t (code16 f xs) ≡ None → inside f xs ≡ false
       go true e g = let z : ◌≡◌ {A = ℕ} 0 1 = cc in absurd (omega arith)
       go false e g = e
 

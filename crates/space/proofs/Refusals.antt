@@ -7,13 +7,14 @@ use borrow.Author.Tests.{le-leb, lt-leb, leb-true}
 use Rattle.slices.proofs.Tests.{and_l, and_r}
 use Rattle.refusal.specs.declared.Refusal.{Refusal}
 use Rattle.refusal.specs.declared.Refusal.TheVariants.{Key}
-use Rattle.refusal.specs.declared.Outcome.TheVariants.{Done, Refused}
 use Rattle.space.specs.declared.Box.{Box}
 use Rattle.refusal.specs.Chain.{ask}
 use Rattle.refusal.proofs.Chain.{asked, both-done, after-done, after-refused}
 use Rattle.morton.specs.Keys.{axes_known}
 use Rattle.morton.proofs.Checks.{axes-facts}
 use Rattle.space.specs.Domain.{radius_known, centres_known, in_domain, box_outcome, level_outcome}
+use Rattle.refusal.specs.Outcome.{accepted}
+use Rattle.std.specs.Prelude.{Err}
 
 -- a box that is not refused
 pub record Fine (b : Box) : Type 0 where
@@ -22,7 +23,7 @@ pub record Fine (b : Box) : Type 0 where
   pub radius : radius_known b.radius ≡ true
   pub centre : centres_known b.axes b.centre ≡ true
 
-pub fine : (b : Box) → box_outcome b ≡ Done → Fine b
+pub fine : (b : Box) → box_outcome b ≡ accepted → Fine b
 fine b e =
     let p = both-done (ask (axes_known b.axes) _) (ask (in_domain b) _) e in
     let k = axes-facts b.axes (asked (axes_known b.axes) _ p.0) in
@@ -36,14 +37,14 @@ fine b e =
 
 -- and a level beside it
 module _ (b : Box) (level : ℕ) where
-  pub box-refused : (r : Refusal) → box_outcome b ≡ Refused r → Refused r ≡ level_outcome b level
+  pub box-refused : (r : Refusal) → box_outcome b ≡ Err r → Err r ≡ level_outcome b level
   box-refused r e = sym (after-refused (box_outcome b) (ask (leb level 16) Key) r e)
 
-  pub level-over : box_outcome b ≡ Done → 16 < level → Refused Key ≡ level_outcome b level
+  pub level-over : box_outcome b ≡ accepted → 16 < level → Err Key ≡ level_outcome b level
   level-over e h = sym (after-done (box_outcome b) (ask (leb level 16) Key) e ∙ rw (lt-leb level 16 h))
 
-  pub level-fine : box_outcome b ≡ Done → level ≤ 16 → Done ≡ level_outcome b level
+  pub level-fine : box_outcome b ≡ accepted → level ≤ 16 → accepted ≡ level_outcome b level
   level-fine e h = sym (after-done (box_outcome b) (ask (leb level 16) Key) e ∙ rw (le-leb level 16 h))
 
-  pub level-done : level_outcome b level ≡ Done → Fine b × (level ≤ 16)
+  pub level-done : level_outcome b level ≡ accepted → Fine b × (level ≤ 16)
   level-done e = let p = both-done (box_outcome b) (ask (leb level 16) Key) e in (fine b p.0, leb-true level 16 (asked _ Key p.1))

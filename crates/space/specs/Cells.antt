@@ -1,15 +1,12 @@
 -- Document 01, "The box and a point's cell": the quotient that IEEE 754 gives, and the cell that its floor names. Order 5: the wall where it names none.
-use Rattle.std.specs.Prelude.{◌≡◌, Bool, true, false, ◌&&◌, List, [], ◌∷◌, map, ℕ, ◌-◌, ◌/◌, ◌^◌, ◌<◌, pos, negsuc, ltb, Float, get_or}
+use Rattle.std.specs.Prelude.{◌≡◌, Bool, true, false, ◌&&◌, List, [], ◌∷◌, map, ℕ, ◌-◌, ◌/◌, ◌^◌, ◌<◌, pos, negsuc, ltb, Float, get_or, None, Option, Some}
 use Rattle.std.specs.Float.{nan, fin, binary64}
 use Rattle.std.specs.Float.Ieee.{sub, mul, div, of_int, lt}
 use Rattle.morton.specs.Anchors.{encode}
 use Rattle.space.specs.declared.Box.{Box}
 use Rattle.space.specs.declared.Frame.{Frame}
-use Rattle.space.specs.declared.Located.{Located}
 use Rattle.space.specs.declared.Place.{Place}
 use Rattle.space.specs.declared.Place.TheVariants.{At, NotFinite, Below, Above}
-use Rattle.space.specs.declared.Cell.{Cell}
-use Rattle.space.specs.declared.Cell.TheVariants.{Number, Outside}
 use Rattle.space.specs.Floats.{nought, is_finite, Floor, no_floor, whole, floor}
 
 -- an entry past the axes is 0
@@ -37,15 +34,15 @@ pick false p q = q
 abbrev pub wall_by : Float → Float → Place
 wall_by x q = pick (is_finite x) (pick (lt q nought) Below Above) NotFinite
 
-abbrev pub code_or : Bool → ℕ → Cell
-code_or true k = Number k
-code_or false k = Outside
+abbrev pub kept : {A : Type 0} → Bool → A → Option A
+kept true x = Some x
+kept false x = None
 
 -- of n cells in a row, numbered from 0, the one that a floor names; any other floor is outside
-abbrev pub cell_number : ℕ → Floor → Cell
-cell_number n no_floor = Outside
-cell_number n (whole (negsuc k)) = Outside
-cell_number n (whole (pos k)) = code_or (ltb k n) k
+abbrev pub cell_number : ℕ → Floor → Option ℕ
+cell_number n no_floor = None
+cell_number n (whole (negsuc k)) = None
+cell_number n (whole (pos k)) = kept (ltb k n) k
 
 -- the same with the wall
 abbrev pub cell_in : ℕ → Floor → Place → Place
@@ -77,11 +74,11 @@ place_number NotFinite = 0
 place_number Below = 0
 place_number Above = 0
 
-abbrev pub number_in : Place → Cell
-number_in (At k) = Number k
-number_in NotFinite = Outside
-number_in Below = Outside
-number_in Above = Outside
+abbrev pub number_in : Place → Option ℕ
+number_in (At k) = Some k
+number_in NotFinite = None
+number_in Below = None
+number_in Above = None
 
 -- on all axes the level-16 anchor is one of 0..65535
 unfoldable pub inside : Frame → List Float → Bool
@@ -101,8 +98,8 @@ unfoldable pub code16 : Frame → List Float → ℕ
 unfolding anchors16 encode
 code16 f xs = encode f.axes f.axes 16 (anchors16 f xs)
 
-abbrev pub point_code : Frame → List Float → Cell
-point_code f xs = code_or (inside f xs) (code16 f xs)
+abbrev pub point_code : Frame → List Float → Option ℕ
+point_code f xs = kept (inside f xs) (code16 f xs)
 
 -- ---- the level's own quotient
 abbrev pub level_cell : Box → ℕ → ℕ → Float → Place
@@ -113,9 +110,5 @@ abbrev pub Nests : Box → List Float → ℕ → List ℕ → Type 0
 Nests b xs level cells = (a : ℕ) → a < b.axes → level_cell b level a (get_or xs a nan) ≡ At (get_or cells a 0)
 
 -- ---- one point
-abbrev pub or_zeros : Bool → List ℕ → List ℕ
-or_zeros true cells = cells
-or_zeros false cells = 0 ∷ 0 ∷ 0 ∷ []
-
-abbrev pub located_of : Frame → List Float → Located
-located_of f xs = record { inside = inside f xs; anchor = or_zeros (inside f xs) (anchors16 f xs) }
+abbrev pub located_of : Frame → List Float → Option (List ℕ)
+located_of f xs = kept (inside f xs) (anchors16 f xs)

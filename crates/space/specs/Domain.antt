@@ -3,12 +3,12 @@ use Rattle.std.specs.Prelude.{Bool, false, ◌&&◌, List, ℕ, pos, negsuc, leb
 use Rattle.std.specs.Float.{nan, fin}
 use Rattle.std.specs.Float.Ieee.{le}
 use Rattle.refusal.specs.declared.Refusal.TheVariants.{Dims, Box as Outside, Key}
-use Rattle.refusal.specs.declared.Outcome.{Outcome}
 use Rattle.refusal.specs.Chain.{ask, ◌then◌}
 use Rattle.slices.specs.Every.{every}
 use Rattle.morton.specs.Keys.{axes_known, deepest}
 use Rattle.space.specs.declared.Box.{Box}
 use Rattle.space.specs.Floats.{size_of}
+use Rattle.refusal.specs.Outcome.{Outcome}
 
 -- from 0.25 to 1,048,576
 abbrev pub radius_known : Float → Bool

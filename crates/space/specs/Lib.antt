@@ -1,3 +1,4 @@
+pub mod Inside
 pub mod Floats
 pub mod Domain
 pub mod Cells

@@ -1,12 +1,11 @@
 -- Points in a flat slice, one row of `axes` numbers after the other.
-use Rattle.std.specs.Prelude.{Bool, true, false, cond, List, [], ◌∷◌, ◌++◌, ℕ, zero, suc, ◌*◌, ◌/◌, ltb, Float, length, drop}
+use Rattle.std.specs.Prelude.{Bool, true, false, cond, List, [], ◌∷◌, ◌++◌, ℕ, zero, suc, ◌*◌, ◌/◌, ltb, Float, length, drop, Err}
 use Rattle.refusal.specs.declared.Wall.{Wall}
 use Rattle.space.specs.declared.Box.{Box}
 use Rattle.space.specs.declared.Frame.{Frame}
-use Rattle.space.specs.declared.Rows.{Rows}
-use Rattle.space.specs.declared.Rows.TheVariants.{Inside, Outside}
 use Rattle.space.specs.Cells.{frame_of, inside, code16}
 use Rattle.space.specs.Walls.{first_wall}
+use Rattle.space.specs.Inside.{Inside, all_inside}
 
 -- of n rows, how many stand before the first that is outside
 unfoldable pub inside_rows : ℕ → Frame → List Float → ℕ
@@ -18,17 +17,17 @@ unfoldable pub codes16 : ℕ → Frame → List Float → List ℕ
 codes16 zero f xs = []
 codes16 (suc n) f xs = code16 f xs ∷ codes16 n f (drop f.axes xs)
 
-abbrev pub or_inside : Bool → Rows → Rows
+abbrev pub or_inside : Bool → Inside → Inside
 or_inside true r = r
-or_inside false r = Inside
+or_inside false r = all_inside
 
 -- the wall of row i
 abbrev pub row_wall : Frame → List Float → ℕ → Wall
 row_wall f xs i = first_wall i f (drop (i * f.axes) xs)
 
 -- the wall of the first of n rows that is outside, if one is
-abbrev pub first_outside : ℕ → Frame → List Float → Rows
-first_outside n f xs = or_inside (ltb (inside_rows n f xs) n) (Outside (row_wall f xs (inside_rows n f xs)))
+abbrev pub first_outside : ℕ → Frame → List Float → Inside
+first_outside n f xs = or_inside (ltb (inside_rows n f xs) n) (Err (row_wall f xs (inside_rows n f xs)))
 
 -- a slice's end content: the codes of the rows before the first that is outside, and the rest as it was
 abbrev pub coded : ℕ → Frame → List Float → List ℕ → List ℕ

@@ -8,7 +8,7 @@ ghost use Rattle.space.specs.Walls.{reason_of, first_wall};
 ghost use Rattle.space.specs.Rows.{first_outside, coded};
 ghost use Rattle.space.specs.Domain.{radius_known, centres_known, box_outcome, level_outcome};
 
-use refusal::{Outcome, Refusal, Wall};
+use refusal::{Refusal, Wall};
 
 // The centre, the radius and the number of axes. Centre entries past the axes are not read.
 #[derive(Clone, Copy)]
@@ -44,10 +44,8 @@ fn centres_known(b: Box) -> bool
     requires { b.axes ≤ 3 }
     ensures { result ≡ centres_known b.axes b.centre }
 {
-    let mut n: usize = b.axes;
-    while 0 < n {
-        n -= 1;
-        if !(magnitude(b.centre[n]) <= 16777216.0) {
+    for a in 0..b.axes {
+        if !(magnitude(b.centre[a]) <= 16777216.0) {
             return false;
         }
     }
@@ -55,22 +53,22 @@ fn centres_known(b: Box) -> bool
 }
 
 // Why a call that takes the box is refused, if it is.
-pub fn box_outcome(b: Box) -> Outcome
+pub fn box_outcome(b: Box) -> Result<(), Refusal>
     ensures { result ≡ box_outcome b }
 {
     if b.axes < 1 {
-        return Outcome::Refused(Refusal::Dims);
+        return Err(Refusal::Dims);
     }
     if b.axes > 3 {
-        return Outcome::Refused(Refusal::Dims);
+        return Err(Refusal::Dims);
     }
     if !radius_known(b.radius) {
-        return Outcome::Refused(Refusal::Box);
+        return Err(Refusal::Box);
     }
     if !centres_known(b) {
-        return Outcome::Refused(Refusal::Box);
+        return Err(Refusal::Box);
     }
-    Outcome::Done
+    Ok(())
 }
 
 // Where a coordinate lies on an axis: its cell's number; or it is not finite, below the box, or above it.
@@ -106,40 +104,32 @@ fn wall_by(x: f64, q: f64) -> Place
     Place::Above
 }
 
-// The number of a coordinate's cell on its axis, or of a point's cell, which is its code; or outside. Most points are inside, and
-// their way asks no more; `wall_of` looks again at the one that is refused.
-#[derive(Clone, Copy)]
-pub enum Cell {
-    Number(u64),
-    Outside,
-}
-
 // The cell of a quotient among 65536, from its bits: its floor, where that is one of 0..65535.
-fn number_of(q: f64) -> Cell
+fn number_of(q: f64) -> Option<u64>
     ensures { result ≡ cell_number 65536 (floor q) }
 {
     if q != q {
-        return Cell::Outside;
+        return None;
     }
     let bits: u64 = f64::to_bits(q);
     if bits >= 0x8000_0000_0000_0000 {
         // a negative number, but for -0.0
         if bits == 0x8000_0000_0000_0000 {
-            return Cell::Number(0);
+            return Some(0);
         }
-        return Cell::Outside;
+        return None;
     }
     // from 1.0 on q is `digits` * 2 ^ (`exponent` - 1075)
     let exponent: u64 = bits >> 52;
     if exponent < 1023 {
-        return Cell::Number(0);
+        return Some(0);
     }
     // 65536.0 and more, and the infinity
     if exponent >= 1039 {
-        return Cell::Outside;
+        return None;
     }
     let digits: u64 = (bits & 0xf_ffff_ffff_ffff) | 0x10_0000_0000_0000;
-    Cell::Number(digits >> (1075 - exponent))
+    Some(digits >> (1075 - exponent))
 }
 
 // The anchor leaf: the cell of a coordinate with this quotient, or the wall that it is behind.
@@ -148,8 +138,8 @@ fn cell_of(x: f64, q: f64) -> Place
 {
     let cell = number_of(q);
     match cell {
-        Cell::Number(k) => Place::At(k),
-        Cell::Outside => wall_by(x, q),
+        Some(k) => Place::At(k),
+        None => wall_by(x, q),
     }
 }
 
@@ -203,45 +193,25 @@ fn place_on(f: Frame, points: &[f64], at: usize, a: usize) -> Place
 }
 
 // The same, without the wall.
-fn cell_on(f: Frame, points: &[f64], at: usize, a: usize) -> Cell
+fn cell_on(f: Frame, points: &[f64], at: usize, a: usize) -> Option<u64>
     requires { (a < 3) × (at + f.axes ≤ length points.now) }
     ensures { result ≡ number_in (cell16 f (drop at points.now) a) }
 {
     if a >= f.axes {
-        return Cell::Number(0);
+        return Some(0);
     }
     number_of((points[at + a] - f.displacement[a]) / f.side)
 }
 
-// Whether a point is inside, and its level-16 anchors if it is.
-#[derive(Clone, Copy)]
-pub struct Located {
-    pub inside: bool,
-    pub anchor: [u64; 3],
-}
-
-// The point that begins at `at`.
-pub fn locate(f: Frame, points: &[f64], at: usize) -> Located
+// The level-16 anchors of the point that begins at `at`, if it is inside.
+pub fn locate(f: Frame, points: &[f64], at: usize) -> Option<[u64; 3]>
     requires { at + f.axes ≤ length points.now }
     ensures { result ≡ located_of f (drop at points.now) }
 {
-    let outside = Located {
-        inside: false,
-        anchor: [0, 0, 0],
-    };
-    let Cell::Number(x) = cell_on(f, points, at, 0) else {
-        return outside;
-    };
-    let Cell::Number(y) = cell_on(f, points, at, 1) else {
-        return outside;
-    };
-    let Cell::Number(z) = cell_on(f, points, at, 2) else {
-        return outside;
-    };
-    Located {
-        inside: true,
-        anchor: [x, y, z],
-    }
+    let x = cell_on(f, points, at, 0)?;
+    let y = cell_on(f, points, at, 1)?;
+    let z = cell_on(f, points, at, 2)?;
+    Some([x, y, z])
 }
 
 fn reason_of(place: Place) -> u16
@@ -282,31 +252,18 @@ pub fn wall_of(f: Frame, points: &[f64], at: usize, index: usize) -> Wall
 }
 
 // The code of the point that begins at `at`, on the frame's axes.
-pub fn code_at(f: Frame, points: &[f64], at: usize) -> Cell
+pub fn code_at(f: Frame, points: &[f64], at: usize) -> Option<u64>
     requires { (1 ≤ f.axes) × (f.axes ≤ 3) × (at + f.axes ≤ length points.now) }
     ensures { result ≡ point_code f (drop at points.now) }
 {
-    let Cell::Number(x) = cell_on(f, points, at, 0) else {
-        return Cell::Outside;
-    };
-    let Cell::Number(y) = cell_on(f, points, at, 1) else {
-        return Cell::Outside;
-    };
-    let Cell::Number(z) = cell_on(f, points, at, 2) else {
-        return Cell::Outside;
-    };
-    Cell::Number(codes::encode(f.axes, [x, y, z]))
-}
-
-// The points of a batch: all inside, or the wall of the first that is outside.
-#[derive(Clone, Copy)]
-pub enum Rows {
-    Inside,
-    Outside(Wall),
+    let x = cell_on(f, points, at, 0)?;
+    let y = cell_on(f, points, at, 1)?;
+    let z = cell_on(f, points, at, 2)?;
+    Some(codes::encode(f.axes, [x, y, z]))
 }
 
 // Writes the codes of the points, up to the first that is outside.
-pub fn points_to_codes(b: Box, points: &[f64], codes: &mut [u64]) -> Rows
+pub fn points_to_codes(b: Box, points: &[f64], codes: &mut [u64]) -> Result<(), Wall>
     requires { (1 ≤ b.axes) × (b.axes ≤ 3) × (length points.now / b.axes ≤ length codes.old) }
     ensures value { result ≡ first_outside (length points.now / b.axes) (frame_of b) points.now }
     ensures codes_after { codes.new ≡ coded (length points.now / b.axes) (frame_of b) points.now codes.old }
@@ -314,35 +271,28 @@ pub fn points_to_codes(b: Box, points: &[f64], codes: &mut [u64]) -> Rows
     let f = frame_of(b);
     let axes = b.axes;
     let rows = points.len() / axes;
-    let mut row = 0;
     let mut at = 0;
-    while row < rows {
+    for row in 0..rows {
         match code_at(f, points, at) {
-            Cell::Number(code) => {
+            Some(code) => {
                 codes[row] = code;
             }
-            Cell::Outside => {
-                return Rows::Outside(wall_of(f, points, at, row));
+            None => {
+                return Err(wall_of(f, points, at, row));
             }
         }
-        row += 1;
         at += axes;
     }
-    Rows::Inside
+    Ok(())
 }
 
 // Why a call with a box and a level is refused, if it is.
-pub fn level_outcome(b: Box, level: u64) -> Outcome
+pub fn level_outcome(b: Box, level: u64) -> Result<(), Refusal>
     ensures { result ≡ level_outcome b level }
 {
-    let o = box_outcome(b);
-    match o {
-        Outcome::Refused(refusal) => Outcome::Refused(refusal),
-        Outcome::Done => {
-            if level > 16 {
-                return Outcome::Refused(Refusal::Key);
-            }
-            Outcome::Done
-        }
+    box_outcome(b)?;
+    if level > 16 {
+        return Err(Refusal::Key);
     }
+    Ok(())
 }

@@ -13,11 +13,7 @@ fn copy_keys(key: &[u64], from: usize, n: usize, out: &mut [u64], at: usize)
     requires { (from + n ≤ length key.now) × (at + n ≤ length out.old) }
     ensures { Copied n at (λ j. get_or key.now (from + j) 0) out.old out.new }
 {
-    let mut i: usize = 0;
-    while i < n {
-        out[at + i] = key[from + i];
-        i += 1;
-    }
+    out[at..at + n].copy_from_slice(&key[from..from + n]);
 }
 
 // Copies n indices into the work.
@@ -25,10 +21,8 @@ fn copy_order(order: &[usize], from: usize, n: usize, work: &mut [u64], at: usiz
     requires { (from + n ≤ length order.now) × (at + n ≤ length work.old) }
     ensures { Copied n at (λ j. get_or order.now (from + j) 0) work.old work.new }
 {
-    let mut i: usize = 0;
-    while i < n {
+    for i in 0..n {
         work[at + i] = order[from + i] as u64;
-        i += 1;
     }
 }
 
@@ -79,11 +73,9 @@ fn mark_rows(
     requires { Rows axes key.now own.now total.now × (from + n ≤ length key.now) × (at + n ≤ length mark.old) }
     ensures { Copied n at (λ j. row_at axes code key.now own.now total.now (from + j)) mark.old mark.new }
 {
-    let mut i: usize = 0;
-    while i < n {
+    for i in 0..n {
         let row = from + i;
         mark[at + i] = mark_row(axes, code, key[row], own[row], total[row]);
-        i += 1;
     }
 }
 

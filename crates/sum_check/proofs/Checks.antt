@@ -12,8 +12,6 @@ use Rattle.slices.specs.Lists.{sum}
 use Rattle.slices.proofs.Tests.{and_l, and_r, both}
 use Rattle.refusal.specs.declared.Refusal.{Refusal}
 use Rattle.refusal.specs.declared.Refusal.TheVariants.{Dims, Shape, Tree, NotLeaf, NotBuilt, Reading}
-use Rattle.refusal.specs.declared.Outcome.{Outcome}
-use Rattle.refusal.specs.declared.Outcome.TheVariants.{Done, Refused}
 use Rattle.refusal.specs.Chain.{ask, ◌then◌}
 use Rattle.refusal.proofs.Chain.{both-done, asked}
 use Rattle.morton.specs.Keys.{axes_known}
@@ -32,9 +30,11 @@ use Rattle.sums.proofs.Arranged.{arranges-iff}
 use Rattle.list_rows.specs.Entries.{Counted}
 use Rattle.list_rows.proofs.Entries.{tree-keys}
 use Rattle.sum_check.specs.Checks.{first_large, readings_check, is_leaf_at, is_built, sum_check}
+use Rattle.refusal.specs.Outcome.{Outcome, accepted}
+use Rattle.std.specs.Prelude.{Err}
 
 module _ (d : ℕ) (keys own begin total : List ℕ) where
-  module _ (done : tree_check d (columns keys own begin total) ≡ Done) where
+  module _ (done : tree_check d (columns keys own begin total) ≡ accepted) where
     pub well : well_formed d keys own begin total ≡ true
     well = asked (well_formed d keys own begin total) Tree (both-done (ask (axes_known d) Dims) (ask (well_formed d keys own begin total) Tree) done).1
 
@@ -61,30 +61,30 @@ module _ (d : ℕ) (keys own begin total : List ℕ) where
     abbrev check : Outcome
     check = readings_check d (columns keys own begin total) readings
 
-    pub not-tree : (r : Refusal) → tree_check d (columns keys own begin total) ≡ Refused r → Refused r ≡ check
+    pub not-tree : (r : Refusal) → tree_check d (columns keys own begin total) ≡ Err r → Err r ≡ check
     not-tree r e = sym (ap (λ o. o then ask (eqb (length readings) (sum own)) Shape then ask (eqb (first_large readings) (length readings)) (Reading (first_large readings))) e)
 
-    module _ (done : tree_check d (columns keys own begin total) ≡ Done) where
-      pub other-number : (length readings ≡ get_or total 0 0 → ⊥) → Refused Shape ≡ check
+    module _ (done : tree_check d (columns keys own begin total) ≡ accepted) where
+      pub other-number : (length readings ≡ get_or total 0 0 → ⊥) → Err Shape ≡ check
       other-number n = sym (ap₂ (λ o b. o then ask b Shape then ask (eqb (first_large readings) (length readings)) (Reading (first_large readings))) done (ne_eqb (length readings) (sum own) (λ e. n (e ∙ sym (all-sources done)))))
 
       module _ (same : length readings ≡ get_or total 0 0) (large : ℕ) (is : large ≡ first_large readings) where
-        front : tree_check d (columns keys own begin total) then ask (eqb (length readings) (sum own)) Shape ≡ Done
+        front : tree_check d (columns keys own begin total) then ask (eqb (length readings) (sum own)) Shape ≡ accepted
         front = ap₂ (λ o b. o then ask b Shape) done (eq-eqb (length readings) (sum own) (same ∙ all-sources done))
 
-        pub too_large : (large ≡ length readings → ⊥) → Refused (Reading large) ≡ check
-        too_large n = ap (λ i. Refused (Reading i)) is ∙ sym (ap₂ (λ o b. o then ask b (Reading (first_large readings))) front (ne_eqb (first_large readings) (length readings) (λ e. n (is ∙ e))))
+        pub too_large : (large ≡ length readings → ⊥) → Err (Reading large) ≡ check
+        too_large n = ap (λ i. Err (Reading i)) is ∙ sym (ap₂ (λ o b. o then ask b (Reading (first_large readings))) front (ne_eqb (first_large readings) (length readings) (λ e. n (is ∙ e))))
 
-        pub readings-done : large ≡ length readings → Done ≡ check
+        pub readings-done : large ≡ length readings → accepted ≡ check
         readings-done e = sym (ap₂ (λ o b. o then ask b (Reading (first_large readings))) front (eq-eqb (first_large readings) (length readings) (sym is ∙ e)))
 
     -- what has passed
     pub record Read : Type 0 where
-      pub tree : tree_check d (columns keys own begin total) ≡ Done
+      pub tree : tree_check d (columns keys own begin total) ≡ accepted
       pub number : length readings ≡ sum own
       pub sizes : first_large readings ≡ length readings
 
-    pub read : check ≡ Done → Read
+    pub read : check ≡ accepted → Read
     read e =
         let (a, b) = both-done (tree_check d (columns keys own begin total) then ask (eqb (length readings) (sum own)) Shape) (ask (eqb (first_large readings) (length readings)) (Reading (first_large readings))) e in
         let (t, n) = both-done (tree_check d (columns keys own begin total)) (ask (eqb (length readings) (sum own)) Shape) a in
@@ -97,21 +97,21 @@ module _ (d : ℕ) (keys own begin total : List ℕ) where
       abbrev built : Bool
       built = is_built d (columns keys own begin total) order us uk vs vk
 
-      pub not-read : (r : Refusal) → check ≡ Refused r → Refused r ≡ whole
+      pub not-read : (r : Refusal) → check ≡ Err r → Err r ≡ whole
       not-read r e = sym (ap (λ o. o then ask (is_leaf_at d keys node) (NotLeaf node) then ask built NotBuilt) e)
 
-      module _ (done : check ≡ Done) (r : Bool) (e : r ≡ is_leaf_at d keys node) where
-        pub not-leaf : r ≡ false → Refused (NotLeaf node) ≡ whole
+      module _ (done : check ≡ accepted) (r : Bool) (e : r ≡ is_leaf_at d keys node) where
+        pub not-leaf : r ≡ false → Err (NotLeaf node) ≡ whole
         not-leaf n = sym (ap₂ (λ o b. o then ask b (NotLeaf node) then ask built NotBuilt) done (sym e ∙ n))
 
         module _ (y : r ≡ true) (b : Bool) (q : b ≡ built) where
-          front-leaf : check then ask (is_leaf_at d keys node) (NotLeaf node) ≡ Done
+          front-leaf : check then ask (is_leaf_at d keys node) (NotLeaf node) ≡ accepted
           front-leaf = ap₂ (λ o b. o then ask b (NotLeaf node)) done (sym e ∙ y)
 
-          pub sum_done : b ≡ true → Done ≡ whole
+          pub sum_done : b ≡ true → accepted ≡ whole
           sum_done h = sym (ap₂ (λ o b. o then ask b NotBuilt) front-leaf (sym q ∙ h))
 
-          pub not-built : b ≡ false → Refused NotBuilt ≡ whole
+          pub not-built : b ≡ false → Err NotBuilt ≡ whole
           not-built h = sym (ap₂ (λ o b. o then ask b NotBuilt) front-leaf (sym q ∙ h))
 
       pub record Checked : Type 0 where
@@ -121,7 +121,7 @@ module _ (d : ℕ) (keys own begin total : List ℕ) where
         pub flat : Flat d keys own us uk vs vk
         pub arranged : AllIndices order (sum own)
 
-      pub checked : whole ≡ Done → Checked
+      pub checked : whole ≡ accepted → Checked
       checked e =
           let (a, b) = both-done (check then ask (is_leaf_at d keys node) (NotLeaf node)) (ask built NotBuilt) e in
           let (c, l) = both-done check (ask (is_leaf_at d keys node) (NotLeaf node)) a in

@@ -11,7 +11,6 @@ use mir.Val.{to_z, of_z}
 use Rattle.slices.specs.Lists.{sum, range, Mem}
 use Rattle.slices.proofs.Counts.{here, there}
 use Rattle.slices.proofs.Sums.{sum_same, sum_less, sum-take, sum-whole}
-use Rattle.refusal.specs.declared.Outcome.TheVariants.{Done}
 use Rattle.morton.specs.Keys.{ancestors, ValidKey}
 use Rattle.tree.specs.Columns.{columns}
 use Rattle.tree.specs.Nodes.{own_of, leaf}
@@ -46,11 +45,11 @@ use Rattle.row_sums.specs.Climb.{Climb, far_readings, far_cells, far_count}
 use Rattle.row_sums.proofs.Whole.{read_back}
 use Rattle.sourced.proofs.Checks.{passed}
 use Rattle.sum_check.specs.Checks.{sum_check}
-use Rattle.sum_check.specs.Answers.{sums_or, near_of, far_of, additions_of, sum_answer, Together}
-use Rattle.sum_check.specs.declared.SumAnswer.{SumAnswer}
-use Rattle.sum_check.specs.declared.SumAnswer.TheVariants as sums
+use Rattle.sum_check.specs.Answers.{near_of, far_of, additions_of, sums_of}
+use Rattle.sum_check.specs.declared.Sums.{Sums}
 use Rattle.sum_check.proofs.Checks.{well, counted, all-sources, known, Checked, checked}
 use Rattle.sum_check.proofs.Readings.{all_small}
+use Rattle.refusal.specs.Outcome.{accepted}
 
 -- entries of at least 1 each
 length-le : (f : ℕ → ℕ) (xs : List ℕ) → ((x : ℕ) → Mem x xs → 0 < f x) → length xs ≤ sum (map f xs)
@@ -58,7 +57,7 @@ unfolding sum
 length-le f [] h = omega arith
 length-le f (x ∷ xs) h = omega (arith, h x (here x xs), length-le f xs (λ y m. h y (there x y xs m)))
 
-module _ (d : ℕ) (keys own begin total : List ℕ) (readings : List ℤ) (order us uk vs vk : List ℕ) (node : ℕ) (pre : sum_check d (columns keys own begin total) order readings us uk vs vk node ≡ Done) where
+module _ (d : ℕ) (keys own begin total : List ℕ) (readings : List ℤ) (order us uk vs vk : List ℕ) (node : ℕ) (pre : sum_check d (columns keys own begin total) order readings us uk vs vk node ≡ accepted) where
   k : Checked d keys own begin total readings order us uk vs vk node
   k = checked d keys own begin total readings order us uk vs vk node pre
 
@@ -201,16 +200,11 @@ module _ (d : ℕ) (keys own begin total : List ℕ) (readings : List ℤ) (orde
     unfolding additions
     additions-same = ap₂ ◌+◌ (sources-is ∙ ap (sources_in keys own) part-is) (far-cells ∙ cells_is)
 
-    pub answered : sums.Sums (to_z w64 (of_z w64 near)) (to_z w64 (of_z w64 far)) (sources + cells) ≡ sum_answer d (columns keys own begin total) order readings node us uk vs vk
-    answered = sym (ap (λ o. sums_or o (near_of d (columns keys own begin total) order readings node) (far_of d (columns keys own begin total) order readings node) (additions_of d (columns keys own begin total) order readings node)) pre
-        ∙ sym (ap (λ x. sums.Sums x (to_z w64 (of_z w64 far)) (sources + cells)) near_same ∙ ap (λ x. sums.Sums (near_of d (columns keys own begin total) order readings node) x (sources + cells)) far-same
-        ∙ ap (sums.Sums (near_of d (columns keys own begin total) order readings node) (far_of d (columns keys own begin total) order readings node)) additions-same))
+    abbrev sums : ℤ → ℤ → ℕ → Sums
+    sums near far n = record { near = near; far = far; additions = n }
 
-  pub told : (r : SumAnswer) → r ≡ sum_answer d (columns keys own begin total) order readings node us uk vs vk → Together readings r
-  told r e = subst (Together readings) (sym (e ∙ ap (λ o. sums_or o (near_of d (columns keys own begin total) order readings node) (far_of d (columns keys own begin total) order readings node) (additions_of d (columns keys own begin total) order readings node)) pre))
-      (together d keys own begin order readings formed' (u_row d keys own) (v_row d keys own) (λ x m. refl) (λ x m. refl) k.arranged k.readings-read.number b mb k.is_leaf)
+    pub answered : sums (to_z w64 (of_z w64 near)) (to_z w64 (of_z w64 far)) (sources + cells) ≡ sums_of d (columns keys own begin total) order readings node
+    answered = ap (λ x. sums x (to_z w64 (of_z w64 far)) (sources + cells)) near_same ∙ ap₂ (sums (near_of d (columns keys own begin total) order readings node)) far-same additions-same
 
--- a refusal
-pub refused : (d : ℕ) (keys own begin total : List ℕ) (readings : List ℤ) (order us uk vs vk : List ℕ) (node : ℕ) (r : Rattle.refusal.specs.declared.Refusal.Refusal) → sum_check d (columns keys own begin total) order readings us uk vs vk node ≡ Rattle.refusal.specs.declared.Outcome.TheVariants.Refused r
-    → sums.Refused r ≡ sum_answer d (columns keys own begin total) order readings node us uk vs vk
-refused d keys own begin total readings order us uk vs vk node r e = sym (ap (λ o. sums_or o (near_of d (columns keys own begin total) order readings node) (far_of d (columns keys own begin total) order readings node) (additions_of d (columns keys own begin total) order readings node)) e)
+  pub told : near_of d (columns keys own begin total) order readings node +ℤ far_of d (columns keys own begin total) order readings node ≡ plain_sum readings
+  told = together d keys own begin order readings formed' (u_row d keys own) (v_row d keys own) (λ x m. refl) (λ x m. refl) k.arranged k.readings-read.number b mb k.is_leaf

@@ -2,7 +2,6 @@
 use Rattle.std.specs.Prelude.{◌≡◌, Bool, true, false, ◌&&◌, cond, List, [], ◌∷◌, ℕ, suc, ◌≤◌, leb, ltb, eqb, ℤ, nat_abs, length, get_or}
 use Rattle.slices.specs.Lists.{sum}
 use Rattle.refusal.specs.declared.Refusal.TheVariants.{Shape, NotLeaf, NotBuilt, Reading}
-use Rattle.refusal.specs.declared.Outcome.{Outcome}
 use Rattle.refusal.specs.Chain.{ask, ◌then◌}
 use Rattle.tree.specs.Columns.{Columns}
 use Rattle.tree.specs.Nodes.{leaf}
@@ -10,6 +9,7 @@ use Rattle.sourced.specs.Answers.{tree_check}
 use Rattle.sums.specs.Right.{lists_are}
 use Rattle.sums.specs.Arrangement.{arranges}
 use Rattle.row_sums.specs.Readings.{largest}
+use Rattle.refusal.specs.Outcome.{Outcome}
 
 -- a reading is at most 2 ^ 40 in size
 abbrev pub is_small : ℤ → Bool

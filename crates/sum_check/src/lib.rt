@@ -2,20 +2,21 @@
 
 // The sum check of one leaf: its readings added up through its rows, the near ones one by one and the far ones by cells. Document 02, order 12.
 ghost use Rattle.std.specs.Prelude.{◌≡◌};
-ghost use Rattle.refusal.specs.declared.Outcome.TheVariants.{Done};
+ghost use Rattle.refusal.specs.Outcome.{accepted};
 ghost use Rattle.tree.specs.Columns.{columns};
 ghost use Rattle.tree.specs.Finding.{TreeKeys};
 ghost use Rattle.sourced.specs.Answers.{tree_check};
 ghost use Rattle.sum_check.specs.Checks.{is_small, first_large, readings_check, is_leaf_at, is_built, sum_check};
-ghost use Rattle.sum_check.specs.Answers.{sum_answer, Together};
+ghost use Rattle.sum_check.specs.Answers.{sums_of, sum_answer, Together};
 
-use refusal::{Outcome, Refusal};
+use refusal::Refusal;
 
-// The near sum, the far sum and the number of additions, or a refusal.
+// The near sum and the far sum of a leaf, and the number of additions.
 #[derive(Clone, Copy)]
-pub enum SumAnswer {
-    Sums(i64, i64, usize),
-    Refused(Refusal),
+pub struct Sums {
+    pub near: i64,
+    pub far: i64,
+    pub additions: usize,
 }
 
 // Whether a reading is at most 2^40 in size.
@@ -32,14 +33,12 @@ fn is_small(reading: i64) -> bool
 fn first_large(readings: &[i64]) -> usize
     ensures { result ≡ first_large readings.now }
 {
-    let mut i: usize = 0;
-    while i < readings.len() {
+    for i in 0..readings.len() {
         if !is_small(readings[i]) {
             return i;
         }
-        i += 1;
     }
-    i
+    readings.len()
 }
 
 // The refusals of the tree and the readings.
@@ -50,21 +49,18 @@ pub fn readings_outcome(
     begin: &[usize],
     total: &[usize],
     readings: &[i64],
-) -> Outcome
+) -> Result<(), Refusal>
     ensures { result ≡ readings_check axes (columns key.now own.now begin.now total.now) readings.now }
 {
-    let checked = sourced::check_tree(axes, key, own, begin, total);
-    if let Outcome::Refused(refusal) = checked {
-        return Outcome::Refused(refusal);
-    }
+    sourced::check_tree(axes, key, own, begin, total)?;
     if readings.len() != total[0] {
-        return Outcome::Refused(Refusal::Shape);
+        return Err(Refusal::Shape);
     }
     let large = first_large(readings);
     if large != readings.len() {
-        return Outcome::Refused(Refusal::Reading(large));
+        return Err(Refusal::Reading(large));
     }
-    Outcome::Done
+    Ok(())
 }
 
 // Whether a number is a leaf's.
@@ -91,7 +87,7 @@ pub fn is_built(
     v_starts: &[usize],
     v_keys: &[u64],
 ) -> bool
-    requires { tree_check axes (columns key.now own.now begin.now total.now) ≡ Done }
+    requires { tree_check axes (columns key.now own.now begin.now total.now) ≡ accepted }
     ensures { result ≡ is_built axes (columns key.now own.now begin.now total.now) indices.now
         u_starts.now u_keys.now v_starts.now v_keys.now }
 {
@@ -115,23 +111,20 @@ fn sum_outcome(
     v_starts: &[usize],
     v_keys: &[u64],
     node: usize,
-) -> Outcome
+) -> Result<(), Refusal>
     ensures { result ≡ sum_check axes (columns key.now own.now begin.now total.now) indices.now
         readings.now u_starts.now u_keys.now v_starts.now v_keys.now node }
 {
-    let checked = readings_outcome(axes, key, own, begin, total, readings);
-    if let Outcome::Refused(refusal) = checked {
-        return Outcome::Refused(refusal);
-    }
+    readings_outcome(axes, key, own, begin, total, readings)?;
     if !is_leaf_at(axes, key, node) {
-        return Outcome::Refused(Refusal::NotLeaf(node));
+        return Err(Refusal::NotLeaf(node));
     }
     if is_built(
         axes, key, own, begin, total, indices, u_starts, u_keys, v_starts, v_keys,
     ) {
-        return Outcome::Done;
+        return Ok(());
     }
-    Outcome::Refused(Refusal::NotBuilt)
+    Err(Refusal::NotBuilt)
 }
 
 // The sums of a leaf, all arguments checked.
@@ -148,11 +141,10 @@ fn leaf_sums(
     v_starts: &[usize],
     v_keys: &[u64],
     node: usize,
-) -> SumAnswer
+) -> Sums
     requires { sum_check axes (columns key.now own.now begin.now total.now) indices.now readings.now u_starts.now u_keys.now
-        v_starts.now v_keys.now node ≡ Done }
-    ensures { result ≡ sum_answer axes (columns key.now own.now begin.now total.now) indices.now
-        readings.now node u_starts.now u_keys.now v_starts.now v_keys.now }
+        v_starts.now v_keys.now node ≡ accepted }
+    ensures { result ≡ sums_of axes (columns key.now own.now begin.now total.now) indices.now readings.now node }
 {
     let from = u_starts[node];
     let to = u_starts[node + 1];
@@ -161,7 +153,11 @@ fn leaf_sums(
     let far = row_sums::far_sum(
         axes, key, total, begin, indices, readings, v_starts, v_keys, node,
     );
-    SumAnswer::Sums(near, far.sum, sources + far.cells)
+    Sums {
+        near,
+        far: far.sum,
+        additions: sources + far.cells,
+    }
 }
 
 // The near sum and the far sum of a leaf's readings, apart, and the additions: one for each near source and one for each far cell.
@@ -178,18 +174,15 @@ pub fn sum_check(
     v_starts: &[usize],
     v_keys: &[u64],
     node: usize,
-) -> SumAnswer
+) -> Result<Sums, Refusal>
     ensures answer { result ≡ sum_answer axes (columns key.now own.now begin.now total.now) indices.now
         readings.now node u_starts.now u_keys.now v_starts.now v_keys.now }
     ensures together { Together readings.now result }
 {
-    let checked = sum_outcome(
+    sum_outcome(
         axes, key, own, begin, total, indices, readings, u_starts, u_keys, v_starts, v_keys, node,
-    );
-    if let Outcome::Refused(refusal) = checked {
-        return SumAnswer::Refused(refusal);
-    }
-    leaf_sums(
+    )?;
+    Ok(leaf_sums(
         axes, key, own, begin, total, indices, readings, u_starts, u_keys, v_starts, v_keys, node,
-    )
+    ))
 }

@@ -6,10 +6,10 @@ use Prim.Native.Nat.{ℕ}
 use lib.IntN.{pos, negsuc}
 use lib.Ieee.{fin, nan, binary64, of_bits}
 use Rattle.refusal.specs.declared.Refusal.TheVariants.{File}
-use Rattle.refusal.specs.declared.Outcome.TheVariants.{Done, Refused}
 use Rattle.survey.specs.Bytes.{number_at, f64_at, f64s_at}
 use Rattle.space.specs.Floats.{nought}
 use Rattle.survey.specs.File.{file_outcome, survey, source_rows, target_rows}
+use Rattle.std.specs.Prelude.{Err, Ok}
 
 -- sources 0.5, 1.5, 6.5, 7.5
 abbrev rows : List ℕ
@@ -19,7 +19,7 @@ rows = 0 ∷ 0 ∷ 0 ∷ 0 ∷ 0 ∷ 0 ∷ 224 ∷ 63 ∷ 0 ∷ 0 ∷ 0 ∷ 0 �
 abbrev trailer₁ : List ℕ
 trailer₁ = 1 ∷ 0 ∷ 0 ∷ 0 ∷ 0 ∷ 0 ∷ 0 ∷ 0 ∷ 1 ∷ 0 ∷ 0 ∷ 0 ∷ 1 ∷ 0 ∷ 0 ∷ 0 ∷ 0 ∷ 0 ∷ 0 ∷ 0 ∷ 0 ∷ 0 ∷ 16 ∷ 64 ∷ 0 ∷ 0 ∷ 0 ∷ 0 ∷ 0 ∷ 0 ∷ 0 ∷ 0 ∷ 0 ∷ 0 ∷ 0 ∷ 0 ∷ 0 ∷ 0 ∷ 0 ∷ 0 ∷ 0 ∷ 0 ∷ 0 ∷ 0 ∷ 0 ∷ 0 ∷ 16 ∷ 64 ∷ 32 ∷ 0 ∷ 0 ∷ 0 ∷ 4 ∷ 0 ∷ 0 ∷ 0 ∷ 0 ∷ 0 ∷ 0 ∷ 0 ∷ 0 ∷ 0 ∷ 0 ∷ 0 ∷ []
 
-pub said₁ : survey (rows ++ trailer₁) ≡ record { outcome = Done; b = record { centre = fin false 1 (pos 2) ∷ nought ∷ nought ∷ []; radius = fin false 1 (pos 2); axes = 1 }; keep = false; limit = 1; order = 1; sources = 4; targets = 0 }
+pub said₁ : survey (rows ++ trailer₁) ≡ Ok (record { b = record { centre = fin false 1 (pos 2) ∷ nought ∷ nought ∷ []; radius = fin false 1 (pos 2); axes = 1 }; keep = false; limit = 1; order = 1; sources = 4; targets = 0 })
 unfolding number_at of_bits
 said₁ = refl
 
@@ -32,7 +32,7 @@ unfolding number_at f64s_at of_bits
 no-targets₁ = refl
 
 -- one byte more than the rows and the trailer
-pub gap₁ : file_outcome (0 ∷ rows ++ trailer₁) ≡ Refused File
+pub gap₁ : file_outcome (0 ∷ rows ++ trailer₁) ≡ Err File
 unfolding number_at
 gap₁ = refl
 

@@ -5,35 +5,34 @@ use mathlib.Core.List.{List, [], ◌∷◌}
 use Prim.Native.Nat.{ℕ, zero, ◌+◌, ◌-◌, ◌*◌, ◌/◌, ◌%◌, ◌≤◌, ◌<◌}
 use native.Mathlib.Omega.{arith}
 use lib.Dec.{leb, eqb}
-use lib.Ieee.{Float, binary64, of_bits}
+use lib.Ieee.{Float}
 use lib.ListN.{length}
 use borrow.Author.Tests.{leb-true, eqb-true, le-leb, lt-leb, eq-eqb, ne_eqb}
 use Rattle.refusal.specs.declared.Refusal.{Refusal}
 use Rattle.refusal.specs.declared.Refusal.TheVariants.{Dims, File}
-use Rattle.refusal.specs.declared.Outcome.{Outcome}
-use Rattle.refusal.specs.declared.Outcome.TheVariants.{Done, Refused}
 use Rattle.refusal.specs.Chain.{ask, ◌then◌}
 use Rattle.refusal.proofs.Chain.{asked, both-done}
 use Rattle.slices.proofs.Tests.{and_l, and_r, both}
 use Rattle.morton.specs.Keys.{axes_known}
 use Rattle.space.specs.declared.Box.{Box}
-use Rattle.space.proofs.Literals.{zero_is}
 use Rattle.survey.specs.declared.Survey.{Survey}
 use Rattle.survey.specs.Bytes.{f64s_at}
-use Rattle.survey.specs.File.{trailer, axes, flags, limit, order, nothing, back_to_sources, back_to_targets, sources, targets, bytes_of, size_known, flags_known, rows_fill, file_outcome, said, survey_or, survey, rows_or, source_rows, target_rows}
+use Rattle.survey.specs.File.{trailer, axes, flags, limit, order, back_to_sources, back_to_targets, sources, targets, bytes_of, size_known, flags_known, rows_fill, file_outcome, said, survey, rows_or, source_rows, target_rows}
+use Rattle.std.specs.Prelude.{Err, Ok}
+use Rattle.refusal.specs.Outcome.{Outcome, accepted}
 
 -- ---- the chain of checks, one law a place where it stops
 
-pub size-off : (size known right : Bool) → size ≡ false → Refused File ≡ ask size File then ask known Dims then ask right File
+pub size-off : (size known right : Bool) → size ≡ false → Err File ≡ ask size File then ask known Dims then ask right File
 size-off size known right e = rw e
 
-pub axes-off : (size known right : Bool) → size ≡ true → known ≡ false → Refused Dims ≡ ask size File then ask known Dims then ask right File
+pub axes-off : (size known right : Bool) → size ≡ true → known ≡ false → Err Dims ≡ ask size File then ask known Dims then ask right File
 axes-off size known right e f = rw (e, f)
 
-pub rest-off : (size known right : Bool) → size ≡ true → known ≡ true → right ≡ false → Refused File ≡ ask size File then ask known Dims then ask right File
+pub rest-off : (size known right : Bool) → size ≡ true → known ≡ true → right ≡ false → Err File ≡ ask size File then ask known Dims then ask right File
 rest-off size known right e f g = rw (e, f, g)
 
-pub all_right : (size known right : Bool) → size ≡ true → known ≡ true → right ≡ true → Done ≡ ask size File then ask known Dims then ask right File
+pub all_right : (size known right : Bool) → size ≡ true → known ≡ true → right ≡ true → accepted ≡ ask size File then ask known Dims then ask right File
 all_right size known right e f g = rw (e, f, g)
 
 pub size_low : (n : ℕ) → n < 64 → (leb 64 n && leb n 32768) ≡ false
@@ -75,7 +74,7 @@ pub record Fits (file : List ℕ) : Type 0 where
   pub targets_back : back_to_targets file ≡ bytes_of file (targets file)
   pub both_fill : bytes_of file (sources file) + bytes_of file (targets file) ≡ trailer file
 
-pub done-fits : (file : List ℕ) → file_outcome file ≡ Done → Fits file
+pub done-fits : (file : List ℕ) → file_outcome file ≡ accepted → Fits file
 done-fits file e =
     let p = both-done (ask (size_known file) File then ask (axes_known (axes file)) Dims) (ask (flags_known file && rows_fill file) File) e in
     let q = both-done (ask (size_known file) File) (ask (axes_known (axes file)) Dims) p.0 in
@@ -94,11 +93,8 @@ done-fits file e =
 
 -- ---- the answer
 
-pub nothing_is : (r : Refusal) → record { outcome = Refused r; b = record { centre = of_bits binary64 0 ∷ of_bits binary64 0 ∷ of_bits binary64 0 ∷ []; radius = of_bits binary64 0; axes = 0 }; keep = false; limit = 0; order = 0; sources = 0; targets = 0 } ≡ nothing r
-nothing_is r = ap (λ (x : Float). record { outcome = Refused r; b = record { centre = x ∷ x ∷ x ∷ []; radius = x; axes = 0 }; keep = false; limit = 0; order = 0; sources = 0; targets = 0 }) zero_is
-
 abbrev saying : Box → ℕ → ℕ → ℕ → ℕ → ℕ → Survey
-saying b k l o s t = record { outcome = Done; b = b; keep = eqb (k % 2) 1; limit = l; order = o; sources = s; targets = t }
+saying b k l o s t = record { b = b; keep = eqb (k % 2) 1; limit = l; order = o; sources = s; targets = t }
 
 pub said-is : (file : List ℕ) (b : Box) (k l o s t : ℕ) → b ≡ (said file).b → k ≡ flags file → l ≡ limit file → o ≡ order file → s ≡ sources file → t ≡ targets file
     → saying b k l o s t ≡ said file
@@ -115,11 +111,9 @@ pub record Reads (file : List ℕ) (m n : ℕ) : Type 0 where
   pub sources_are : f64s_at file m 0 ≡ source_rows file
   pub targets_are : f64s_at file n (8 * m) ≡ target_rows file
 
-rows_of : (file : List ℕ) (o : Outcome) → file_outcome file ≡ o → Reads file ((survey_or file o).sources * (survey_or file o).b.axes) ((survey_or file o).targets * (survey_or file o).b.axes)
-rows_of file Done e =
-    let g = done-fits file e in
-    let m = sources file * axes file in
-    let n = targets file * axes file in
+pub reads : (file : List ℕ) (s : Survey) → file_outcome file ≡ accepted → s ≡ said file → Reads file (s.sources * s.b.axes) (s.targets * s.b.axes)
+reads file s e is = subst (λ (s : Survey). Reads file (s.sources * s.b.axes) (s.targets * s.b.axes)) (sym is)
+    (let g = done-fits file e in
     let back : 0 ≡ trailer file - back_to_sources file = omega (arith, g.sources_back) in
     let back₂ : 8 * (sources file * axes file) ≡ trailer file - back_to_targets file = omega (arith, g.targets_back, g.both_fill) in
     record {
@@ -128,20 +122,25 @@ rows_of file Done e =
       within = omega (arith, g.both_fill);
       sources_are = ap (f64s_at file (sources file * axes file)) back ∙ sym (ap (λ (o : Outcome). rows_or file o (f64s_at file (sources file * axes file) (trailer file - back_to_sources file))) e);
       targets_are = ap (f64s_at file (targets file * axes file)) back₂ ∙ sym (ap (λ (o : Outcome). rows_or file o (f64s_at file (targets file * axes file) (trailer file - back_to_targets file))) e);
-    }
-rows_of file (Refused r) e = record {
-  room = omega arith;
-  room_2 = omega arith;
-  within = omega arith;
-  sources_are = empty 0 ∙ sym (ap (λ (o : Outcome). rows_or file o (f64s_at file (sources file * axes file) (trailer file - back_to_sources file))) e);
-  targets_are = empty (8 * 0) ∙ sym (ap (λ (o : Outcome). rows_or file o (f64s_at file (targets file * axes file) (trailer file - back_to_targets file))) e);
-}
+    })
+
+-- what a reader has that was answered
+pub answers-said : (file : List ℕ) (s : Survey) → Ok s ≡ survey file → (file_outcome file ≡ accepted) × (s ≡ said file)
+answers-said file s e = by (file_outcome file) refl
   where
-    empty : (at : ℕ) → f64s_at file 0 at ≡ []
-    empty at = unfold f64s_at in refl
+    by : (o : Outcome) → file_outcome file ≡ o → (file_outcome file ≡ accepted) × (s ≡ said file)
+    by (Ok tt) f = (f, let z = e ∙ ap (λ (o : Outcome). o then Ok (said file)) f in cc)
+    by (Err r) f = absurd (let z : Ok s ≡ Err r = e ∙ ap (λ (o : Outcome). o then Ok (said file)) f in let y : ◌≡◌ {A = ℕ} 0 1 = cc in omega arith)
 
-pub reads : (file : List ℕ) (s : Survey) → s ≡ survey file → Reads file (s.sources * s.b.axes) (s.targets * s.b.axes)
-reads file s e = subst (λ (s : Survey). Reads file (s.sources * s.b.axes) (s.targets * s.b.axes)) (sym e) (rows_of file (file_outcome file) refl)
+pub reads-said : (file : List ℕ) (s : Survey) → Ok s ≡ survey file → Reads file (s.sources * s.b.axes) (s.targets * s.b.axes)
+reads-said file s e = let (a, b) = answers-said file s e in reads file s a b
 
-pub checked-long : (file : List ℕ) → file_outcome file ≡ Done → 64 ≤ length file
+-- after a refusal no number is read
+pub no-rows : (file : List ℕ) (r : Refusal) (xs : List Float) → file_outcome file ≡ Err r → f64s_at file 0 0 ≡ rows_or file (file_outcome file) xs
+no-rows file r xs e = empty ∙ sym (ap (λ (o : Outcome). rows_or file o xs) e)
+  where
+    empty : f64s_at file 0 0 ≡ []
+    empty = unfold f64s_at in refl
+
+pub checked-long : (file : List ℕ) → file_outcome file ≡ accepted → 64 ≤ length file
 checked-long file e = (done-fits file e).trailing

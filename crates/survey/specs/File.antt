@@ -1,27 +1,13 @@
 -- Document 01, "The survey file and the listing": the house file.
-use Rattle.std.specs.Prelude.{Bool, false, ◌&&◌, List, [], ◌∷◌, ◌++◌, ℕ, ◌+◌, ◌-◌, ◌*◌, ◌/◌, ◌%◌, leb, ltb, eqb, Float, length, replicate}
-use Rattle.refusal.specs.declared.Refusal.{Refusal}
+use Rattle.std.specs.Prelude.{Bool, ◌&&◌, List, [], ◌∷◌, ◌++◌, ℕ, ◌+◌, ◌-◌, ◌*◌, ◌/◌, ◌%◌, leb, ltb, eqb, Float, length, replicate, Err, Ok}
 use Rattle.refusal.specs.declared.Refusal.TheVariants.{Dims, File}
-use Rattle.refusal.specs.declared.Outcome.{Outcome}
-use Rattle.refusal.specs.declared.Outcome.TheVariants.{Done, Refused}
 use Rattle.refusal.specs.Chain.{ask, ◌then◌}
 use Rattle.morton.specs.Keys.{axes_known}
 use Rattle.space.specs.Floats.{nought}
 use Rattle.space.specs.Cells.{on_axis}
 use Rattle.survey.specs.declared.Survey.{Survey}
 use Rattle.survey.specs.Bytes.{u32_at, f64_at, f64s_at}
-
--- 0 throughout after a refusal
-abbrev pub nothing : Refusal → Survey
-nothing r = record {
-  outcome = Refused r;
-  b = record { centre = nought ∷ nought ∷ nought ∷ []; radius = nought; axes = 0 };
-  keep = false;
-  limit = 0;
-  order = 0;
-  sources = 0;
-  targets = 0;
-}
+use Rattle.refusal.specs.Outcome.{Answer, Outcome}
 
 -- Source rows, target rows, then a 64-byte trailer.
 module _ (file : List ℕ) where
@@ -88,7 +74,6 @@ module _ (file : List ℕ) where
   -- what a file that is not refused says
   abbrev pub said : Survey
   said = record {
-    outcome = Done;
     b = record { centre = centre_entry 0 ∷ centre_entry 1 ∷ centre_entry 2 ∷ []; radius = radius; axes = axes };
     keep = keep_empty;
     limit = limit;
@@ -97,18 +82,14 @@ module _ (file : List ℕ) where
     targets = targets;
   }
 
-  abbrev pub survey_or : Outcome → Survey
-  survey_or Done = said
-  survey_or (Refused r) = nothing r
-
   -- what the reader answers
-  abbrev pub survey : Survey
-  survey = survey_or file_outcome
+  abbrev pub survey : Answer Survey
+  survey = file_outcome then Ok said
 
   -- no rows after a refusal
   abbrev pub rows_or : Outcome → List Float → List Float
-  rows_or Done xs = xs
-  rows_or (Refused r) xs = []
+  rows_or (Ok tt) xs = xs
+  rows_or (Err r) xs = []
 
   -- the numbers of the source rows and of the target rows
   abbrev pub source_rows : List Float

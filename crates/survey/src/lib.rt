@@ -5,15 +5,14 @@ ghost use Rattle.std.specs.Prelude.{◌≡◌, true, ◌&&◌, ◌+◌, ◌-◌,
 ghost use Rattle.std.specs.Float.{binary64};
 ghost use Rattle.std.specs.Float.Ieee.{of_bits, nan_bits};
 ghost use Rattle.survey.specs.Bytes.{number_at, u32_at, f64_at, f64s_at};
-ghost use Rattle.survey.specs.File.{axes as axes_in, centre_entry, flags_known, rows_fill, file_outcome, said, nothing, survey as survey_in, source_rows, target_rows, filled_with, entry_at};
+ghost use Rattle.survey.specs.File.{axes as axes_in, centre_entry, flags_known, rows_fill, file_outcome, said, survey as survey_in, source_rows, target_rows, filled_with, entry_at};
 
-use refusal::{Outcome, Refusal};
+use refusal::Refusal;
 use space::Box;
 
-// What a file says, and how its reading ended. `sources` and `targets` are numbers of rows.
+// What a file says. `sources` and `targets` are numbers of rows.
 #[derive(Clone, Copy)]
 pub struct Survey {
-    pub outcome: Outcome,
     pub b: Box,
     pub keep: bool,
     pub limit: usize,
@@ -93,27 +92,27 @@ fn rows_fill(file: &[u8], axes: u64) -> bool
 }
 
 // Why a file is refused, if it is.
-fn check_file(file: &[u8]) -> Outcome
+fn check_file(file: &[u8]) -> Result<(), Refusal>
     ensures { result ≡ file_outcome file.now }
 {
     if file.len() < 64 {
-        return Outcome::Refused(Refusal::File);
+        return Err(Refusal::File);
     }
     if file.len() > 32768 {
-        return Outcome::Refused(Refusal::File);
+        return Err(Refusal::File);
     }
     let trailer = file.len() - 64;
     let axes = u32_at(file, trailer);
     if !axes::axes_known(axes as usize) {
-        return Outcome::Refused(Refusal::Dims);
+        return Err(Refusal::Dims);
     }
     if u32_at(file, trailer + 4) / 2 != 0 {
-        return Outcome::Refused(Refusal::File);
+        return Err(Refusal::File);
     }
     if !rows_fill(file, axes) {
-        return Outcome::Refused(Refusal::File);
+        return Err(Refusal::File);
     }
-    Outcome::Done
+    Ok(())
 }
 
 // The centre's entry on an axis, 0 past the axes.
@@ -153,42 +152,12 @@ fn trailer_of(file: &[u8]) -> Survey
     let trailer = file.len() - 64;
     let b = box_in(file);
     Survey {
-        outcome: Outcome::Done,
         b,
         keep: u32_at(file, trailer + 4) % 2 == 1,
         limit: u32_at(file, trailer + 8) as usize,
         order: u32_at(file, trailer + 12) as usize,
         sources: u32_at(file, trailer + 52) as usize,
         targets: u32_at(file, trailer + 60) as usize,
-    }
-}
-
-fn refused(refusal: Refusal) -> Survey
-    ensures { result ≡ nothing refusal }
-{
-    let b = Box {
-        centre: [0.0, 0.0, 0.0],
-        radius: 0.0,
-        axes: 0,
-    };
-    Survey {
-        outcome: Outcome::Refused(refusal),
-        b,
-        keep: false,
-        limit: 0,
-        order: 0,
-        sources: 0,
-        targets: 0,
-    }
-}
-
-fn survey_of(file: &[u8]) -> Survey
-    ensures { result ≡ survey_in file.now }
-{
-    let checked = check_file(file);
-    match checked {
-        Outcome::Refused(refusal) => refused(refusal),
-        Outcome::Done => trailer_of(file),
     }
 }
 
@@ -208,24 +177,31 @@ fn read_numbers(file: &[u8], at: usize, n: usize, out: &mut [f64])
     requires { (at + 8 * n ≤ length file.now) × (n ≤ length out.old) }
     ensures { out.new ≡ filled_with (length out.old) (f64s_at file.now n at) }
 {
-    let mut i = 0;
-    while i < out.len() {
-        out[i] = entry(file, at, n, i);
-        i += 1;
+    for (i, x) in out.iter_mut().enumerate() {
+        *x = entry(file, at, n, i);
     }
 }
 
-// Reads a file: what it says, and the numbers of its source and target rows, then 0.
+// Reads a file: what it says, and the numbers of its source and target rows, then 0; after a refusal there are no numbers.
 // A file has room for 4,088 numbers at most, so the columns are never short.
-pub fn read_survey(file: &[u8], sources: &mut [f64; 4088], targets: &mut [f64; 4088]) -> Survey
+pub fn read_survey(
+    file: &[u8],
+    sources: &mut [f64; 4088],
+    targets: &mut [f64; 4088],
+) -> Result<Survey, Refusal>
     ensures survey { result ≡ survey_in file.now }
     ensures sources { sources.new ≡ filled_with 4088 (source_rows file.now) }
     ensures targets { targets.new ≡ filled_with 4088 (target_rows file.now) }
 {
-    let survey = survey_of(file);
+    if let Err(refusal) = check_file(file) {
+        read_numbers(file, 0, 0, sources);
+        read_numbers(file, 0, 0, targets);
+        return Err(refusal);
+    }
+    let survey = trailer_of(file);
     let b = survey.b;
     let source_numbers = survey.sources * b.axes;
     read_numbers(file, 0, source_numbers, sources);
     read_numbers(file, 8 * source_numbers, survey.targets * b.axes, targets);
-    survey
+    Ok(survey)
 }

@@ -12,7 +12,6 @@ use borrow.Author.Tests.{eq-eqb}
 use Rattle.slices.specs.Lists.{sum, bit, range, Mem}
 use Rattle.slices.proofs.Tests.{and_l, and_r}
 use Rattle.slices.proofs.Sums.{sum_same}
-use Rattle.refusal.specs.declared.Outcome.TheVariants.{Done}
 use Rattle.morton.specs.Keys.{level_of, parent, ancestors}
 use Rattle.tree.specs.Columns.{columns}
 use Rattle.tree.specs.Nodes.{own_of, leaf, stored}
@@ -56,6 +55,7 @@ use Rattle.sum_check.proofs.Leaf as L
 use Rattle.survey_check.specs.Answers.{agrees, additions_at}
 use Rattle.survey_check.specs.Pass.{Passed, far_lifted, RowAsked, FarKnown}
 use Rattle.survey_check.proofs.Ancestors.{up_more, up-part}
+use Rattle.refusal.specs.Outcome.{accepted}
 
 module _ (d : ℕ) (keys own begin total : List ℕ) (readings : List ℤ) (order us uk vs vk : List ℕ) (p : Passed d keys own begin total readings order us uk vs vk) where
   read : C.Read d keys own begin total readings
@@ -103,7 +103,7 @@ module _ (d : ℕ) (keys own begin total : List ℕ) (readings : List ℤ) (orde
   most = w.total
 
   -- each leaf has passed the sum check's own checks
-  leaf-done : (i : ℕ) → i < length keys → leaf d keys (get_or keys i 0) ≡ true → sum_check d (columns keys own begin total) order readings us uk vs vk i ≡ Done
+  leaf-done : (i : ℕ) → i < length keys → leaf d keys (get_or keys i 0) ≡ true → sum_check d (columns keys own begin total) order readings us uk vs vk i ≡ accepted
   leaf-done i l y = sym (C.sum_done d keys own begin total readings order us uk vs vk i p.read true (C.a-node d keys i l true (sym y)) refl true (sym p.built) refl)
 
   -- ---- a node below the root: a leaf stands under it
@@ -120,7 +120,7 @@ module _ (d : ℕ) (keys own begin total : List ℕ) (readings : List ℤ) (orde
     abbrev j : ℕ
     j = under.node.0
 
-    there : sum_check d (columns keys own begin total) order readings us uk vs vk j ≡ Done
+    there : sum_check d (columns keys own begin total) order readings us uk vs vk j ≡ accepted
     there = leaf-done j under.node.1 (subst (λ x. leaf d keys x ≡ true) (sym under.node.2) under.leaf's)
 
     ends : under.end ≡ get_or keys j 0
@@ -167,7 +167,7 @@ module _ (d : ℕ) (keys own begin total : List ℕ) (readings : List ℤ) (orde
 
     -- ---- a leaf
     module _ (y : leaf d keys k ≡ true) where
-      here : sum_check d (columns keys own begin total) order readings us uk vs vk i ≡ Done
+      here : sum_check d (columns keys own begin total) order readings us uk vs vk i ≡ accepted
       here = leaf-done i l y
 
       met_all : sources_in keys total (row_at us uk i) + far_count d keys total vs vk k ≡ sum own

@@ -1,17 +1,15 @@
 -- What the sum check of a whole survey answers: how many leaves agree, and the additions of all leaves.
-use Rattle.std.specs.Prelude.{◌≡◌, Bool, ◌&&◌, cond, List, map, ℕ, min, eqb, ltb, ℤ, nat_abs, ◌+ℤ◌, ◌-ℤ◌}
+use Rattle.std.specs.Prelude.{◌≡◌, Bool, ◌&&◌, cond, List, map, ℕ, min, eqb, ltb, ℤ, nat_abs, ◌+ℤ◌, ◌-ℤ◌, IfOk, Ok}
 use Rattle.slices.specs.Lists.{count, sum}
 use Rattle.refusal.specs.declared.Refusal.TheVariants.{NotBuilt, Room}
-use Rattle.refusal.specs.declared.Outcome.{Outcome}
-use Rattle.refusal.specs.declared.Outcome.TheVariants.{Done, Refused}
 use Rattle.refusal.specs.Chain.{ask, ◌then◌}
 use Rattle.tree.specs.Columns.{Columns}
 use Rattle.tree.specs.Nodes.{leaf}
 use Rattle.rows.specs.Lists.{u_rows, v_rows}
 use Rattle.sums.specs.Sums.{near_sum, far_sum, additions, plain_sum}
 use Rattle.sum_check.specs.Checks.{readings_check, is_built}
-use Rattle.survey_check.specs.declared.SurveyAnswer.{SurveyAnswer}
-use Rattle.survey_check.specs.declared.SurveyAnswer.TheVariants as survey
+use Rattle.survey_check.specs.declared.Tally.{Tally}
+use Rattle.refusal.specs.Outcome.{Answer, Outcome}
 
 -- the largest number of additions that is told
 abbrev pub most_additions : ℕ
@@ -20,10 +18,6 @@ most_additions = 9223372036854775807
 -- 1, 13, 3, 20, then 18 when the lists or the order are not the tree's, and 8 where there is no room for one sum more than there are sources
 abbrev pub survey_check : ℕ → Columns → (order : List ℕ) → List ℤ → (us uk vs vk : List ℕ) → ℕ → Outcome
 survey_check d t order readings us uk vs vk room = readings_check d t readings then ask (is_built d t order us uk vs vk) NotBuilt then ask (ltb (sum t.own) room) (Room 1)
-
-abbrev pub survey_or : Outcome → (leaves adds : ℕ) → SurveyAnswer
-survey_or Done leaves adds = survey.Checked leaves adds
-survey_or (Refused r) leaves adds = survey.Refused r
 
 module _ (d : ℕ) (t : Columns) (order : List ℕ) (readings : List ℤ) where
   -- b is a leaf, and its near and far sum together are the plain sum of all readings
@@ -42,10 +36,13 @@ module _ (d : ℕ) (t : Columns) (order : List ℕ) (readings : List ℤ) where
   abbrev pub all_additions : ℕ
   all_additions = sum (map additions_at t.keys)
 
-  abbrev pub survey_answer : (us uk vs vk : List ℕ) → ℕ → SurveyAnswer
-  survey_answer us uk vs vk room = survey_or (survey_check d t order readings us uk vs vk room) agreeing (min all_additions most_additions)
+  -- both, the additions told no farther than the largest number
+  abbrev pub tally : Tally
+  tally = record { leaves = agreeing; additions = min all_additions most_additions }
+
+  abbrev pub survey_answer : (us uk vs vk : List ℕ) → ℕ → Answer Tally
+  survey_answer us uk vs vk room = survey_check d t order readings us uk vs vk room then Ok tally
 
 -- every leaf agrees
-abbrev pub AllAgree : ℕ → Columns → SurveyAnswer → Type 0
-AllAgree d t (survey.Checked leaves adds) = leaves ≡ count (leaf d t.keys) t.keys
-AllAgree d t (survey.Refused r) = r ≡ r
+abbrev pub AllAgree : ℕ → Columns → Answer Tally → Type 0
+AllAgree d t r = IfOk r (λ all. all.leaves ≡ count (leaf d t.keys) t.keys)

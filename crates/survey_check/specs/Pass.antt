@@ -1,7 +1,6 @@
 -- The pass over the nodes of a survey that has passed its checks.
 use Rattle.std.specs.Prelude.{◌≡◌, true, List, map, ℕ, ◌≤◌, ◌<◌, ℤ, length, get_or}
 use Rattle.slices.specs.Lists.{sum}
-use Rattle.refusal.specs.declared.Outcome.TheVariants.{Done}
 use Rattle.morton.specs.Keys.{ancestors}
 use Rattle.tree.specs.Columns.{columns}
 use Rattle.tree.specs.WellFormed.{most_sources}
@@ -12,9 +11,10 @@ use Rattle.row_sums.specs.Climb.{far_cells}
 use Rattle.cell_sums.specs.Lifted.{row_lifted, Before}
 use Rattle.cell_sums.specs.Kept.{Summed}
 use Rattle.sum_check.specs.Checks.{readings_check, is_built}
+use Rattle.refusal.specs.Outcome.{accepted}
 
 pub record Passed (d : ℕ) (keys own begin total : List ℕ) (readings : List ℤ) (order us uk vs vk : List ℕ) : Type 0 where
-  pub read : readings_check d (columns keys own begin total) readings ≡ Done
+  pub read : readings_check d (columns keys own begin total) readings ≡ accepted
   pub built : is_built d (columns keys own begin total) order us uk vs vk ≡ true
 
 -- what the far rows of a cell and its ancestors have, lifted

@@ -14,14 +14,7 @@ ghost use Rattle.survey_check.specs.Pass.{Passed, RowAsked, FarKnown};
 ghost use Rattle.survey_check.specs.Answers.{most_additions, agrees, additions_at, agreeing, all_additions, survey_check, survey_answer, AllAgree};
 
 use cell_sums::Part;
-use refusal::{Outcome, Refusal};
-
-// How many leaves agree and the additions of all leaves, or a refusal.
-#[derive(Clone, Copy)]
-pub enum SurveyAnswer {
-    Checked(usize, usize),
-    Refused(Refusal),
-}
+use refusal::Refusal;
 
 // How many leaves agree, and their additions.
 #[derive(Clone, Copy)]
@@ -176,8 +169,7 @@ fn all_leaves(
     let mut cells = [0usize; 17];
     let mut leaves: usize = 0;
     let mut additions: usize = 0;
-    let mut node: usize = 1;
-    while node < key.len() {
+    for node in 1..key.len() {
         let level = (key[node] % 32768) as usize;
         let row = node_part(
             axes,
@@ -220,7 +212,6 @@ fn all_leaves(
         );
         leaves += tally.leaves;
         additions = with_additions(additions, tally.additions);
-        node += 1;
     }
     Tally { leaves, additions }
 }
@@ -239,23 +230,20 @@ fn survey_outcome(
     v_starts: &[usize],
     v_keys: &[u64],
     room: usize,
-) -> Outcome
+) -> Result<(), Refusal>
     ensures { result ≡ survey_check axes (columns key.now own.now begin.now total.now) indices.now
         readings.now u_starts.now u_keys.now v_starts.now v_keys.now room }
 {
-    let checked = sum_check::readings_outcome(axes, key, own, begin, total, readings);
-    if let Outcome::Refused(refusal) = checked {
-        return Outcome::Refused(refusal);
-    }
+    sum_check::readings_outcome(axes, key, own, begin, total, readings)?;
     if !sum_check::is_built(
         axes, key, own, begin, total, indices, u_starts, u_keys, v_starts, v_keys,
     ) {
-        return Outcome::Refused(Refusal::NotBuilt);
+        return Err(Refusal::NotBuilt);
     }
     if total[0] < room {
-        return Outcome::Done;
+        return Ok(());
     }
-    Outcome::Refused(Refusal::Room(1))
+    Err(Refusal::Room(1))
 }
 
 // The same with the leaves' sums; the lent slice may hold anything after it.
@@ -272,12 +260,12 @@ fn survey(
     v_starts: &[usize],
     v_keys: &[u64],
     sums: &mut [u64],
-) -> SurveyAnswer
+) -> Result<Tally, Refusal>
     ensures answer { result ≡ survey_answer axes (columns key.now own.now begin.now total.now) indices.now
         readings.now u_starts.now u_keys.now v_starts.now v_keys.now (length sums.old) }
     ensures all { AllAgree axes (columns key.now own.now begin.now total.now) result }
 {
-    let checked = survey_outcome(
+    survey_outcome(
         axes,
         key,
         own,
@@ -290,15 +278,11 @@ fn survey(
         v_starts,
         v_keys,
         sums.len(),
-    );
-    if let Outcome::Refused(refusal) = checked {
-        return SurveyAnswer::Refused(refusal);
-    }
+    )?;
     cell_sums::fill_sums(indices, readings, sums);
-    let tally = all_leaves(
+    Ok(all_leaves(
         axes, key, own, begin, total, indices, readings, sums, u_starts, u_keys, v_starts, v_keys,
-    );
-    SurveyAnswer::Checked(tally.leaves, tally.additions)
+    ))
 }
 
 // How many leaves' near and far sum together are the plain sum of all readings: all of them. And the additions of all leaves.
@@ -315,7 +299,7 @@ pub fn check_sums(
     v_starts: &[usize],
     v_keys: &[u64],
     sums: &mut [u64],
-) -> SurveyAnswer
+) -> Result<Tally, Refusal>
     ensures answer { result ≡ survey_answer axes (columns key.now own.now begin.now total.now) indices.now
         readings.now u_starts.now u_keys.now v_starts.now v_keys.now (length sums.old) }
     ensures all { AllAgree axes (columns key.now own.now begin.now total.now) result }

@@ -14,8 +14,6 @@ use lib.ListN.{length, get_or, take, drop, set, replicate, length-map, length-se
 use lib.Seq.{get_or-take, length-take-le, get_or-set_same, get_or-set_other}
 use borrow.Author.Tests.{eq-eqb, ne_eqb}
 use Rattle.refusal.specs.declared.Refusal.TheVariants.{Point, Unstored}
-use Rattle.refusal.specs.declared.Outcome.{Outcome}
-use Rattle.refusal.specs.declared.Outcome.TheVariants.{Done, Refused}
 use Rattle.refusal.specs.declared.Wall.{Wall}
 use Rattle.slices.specs.Lists.{bit, count, Distinct}
 use Rattle.slices.proofs.Tests.{clash, same_or_not}
@@ -26,8 +24,6 @@ use Rattle.space.specs.Cells.{frame_of, inside, code16}
 use Rattle.space.specs.Walls.{first_wall}
 use Rattle.space.specs.Rows.{inside_rows, codes16, rows_of, rows_inside, wall_of, row_wall, most_points}
 use Rattle.space.proofs.Batches.{codes-length, rows-le, code-at-row, row_inside, row-outside, rows_fit}
-use Rattle.tree.specs.declared.Found.{Found}
-use Rattle.tree.specs.declared.Found.TheVariants.{At, Nothing}
 use Rattle.tree.specs.Leaves.{held, leaf_key, leaf_of}
 use Rattle.tree.specs.Finding.{TreeKeys}
 use Rattle.tree.proofs.Leaves.{tree_of}
@@ -40,6 +36,8 @@ use Rattle.grouping.proofs.Counting.{more-in, same_in, first-few, count-start}
 use Rattle.lookup.specs.Batch.{held_before, leaf_keys, codes_inside, points_outcome}
 use Rattle.lookup.proofs.Leaves.{found-leaf, found_none}
 use Rattle.target_counts.specs.Pieces.{Piece, Added}
+use Rattle.std.specs.Prelude.{Err, None, Option, Some}
+use Rattle.refusal.specs.Outcome.{Outcome, accepted}
 
 -- where the first that fails a test stands
 passing-is : (p : ℕ → Bool) (ys : List ℕ) (row : ℕ) → row ≤ length ys → ((i : ℕ) → i < row → p (get_or ys i 0) ≡ true) → (row < length ys → p (get_or ys row 0) ≡ false) → passing p ys ≡ row
@@ -95,11 +93,11 @@ module _ (d : ℕ) (keys codes : List ℕ) (n : ℕ) (old : List ℕ) (fits : n 
     pub adding-done : n ≤ row → row ≡ held_before d keys (take n codes)
     adding-done h = first-held (λ l. absurd (omega arith))
 
-    module _ (t : TreeKeys d keys) (room : length keys ≤ length old) (h : row < n) (r : Found) (q : r ≡ leaf_of d keys (get_or codes row 0)) where
-      pub adding-stop : r ≡ Nothing → row ≡ held_before d keys (take n codes)
+    module _ (t : TreeKeys d keys) (room : length keys ≤ length old) (h : row < n) (r : Option ℕ) (q : r ≡ leaf_of d keys (get_or codes row 0)) where
+      pub adding-stop : r ≡ None → row ≡ held_before d keys (take n codes)
       adding-stop e = first-held (λ _. found_none d keys t (get_or codes row 0) r q e)
 
-      module _ (node : ℕ) (f : r ≡ At node) where
+      module _ (node : ℕ) (f : r ≡ Some node) where
         leaf-facts : (held d keys (get_or codes row 0) ≡ true) × (node < length keys) × (get_or keys node 0 ≡ leaf_key d keys (get_or codes row 0))
         leaf-facts = found-leaf d keys t (get_or codes row 0) r q node f
 
@@ -166,10 +164,6 @@ module _ (f : Frame) (xs : List Float) (from far : ℕ) where
         where
           one : f.axes ≤ far * f.axes
           one = le_trans (le_of_eq (sym (one-mul f.axes))) (mul-le-mul_right f.axes some)
-
-      -- and the next begins not too far
-      pub next_small : from + most * far ≤ most_points → f.axes ≤ 3 → at + far * f.axes ≤ 3145728
-      next_small few axes = omega (arith, far-enough, rows-small (from + most * far) f.axes few axes)
 
     pub coding-more : (code : ℕ) → n < 512 → inside f (drop at xs) ≡ true → code ≡ code16 f (drop at xs) → Coding f xs from far (set codes n code) (n + 1) (at + far * f.axes)
     coding-more code h i e = record {
@@ -320,7 +314,7 @@ module _ (b : Box) (keys : List ℕ) (xs : List Float) where
               ∙ ap (leaf_key d keys) (code-of i l ∙ sym (code-at-row n (row + i) (frame_of b) xs s))
               ∙ sym (get_d_map (leaf_key d keys) all (row + i) (omega (arith, codes-length n (frame_of b) xs)))
 
-      pub counting-unstored : r < m → Refused (Unstored (row + r)) ≡ points_outcome b keys xs
+      pub counting-unstored : r < m → Err (Unstored (row + r)) ≡ points_outcome b keys xs
       unfolding points_outcome
       counting-unstored h =
           let inner : row + r < rows_inside b xs = omega (arith, rows_in) in
@@ -329,7 +323,7 @@ module _ (b : Box) (keys : List ℕ) (xs : List Float) where
           let stop = held-is b keys xs (row + r) (rows_inside b xs) (omega arith) held_first (λ _. none) in
           rw (stop, ne_eqb (row + r) (rows_inside b xs) (λ z. omega arith))
 
-    pub counting-outside : row < n → inside (frame_of b) (drop (row * b.axes) xs) ≡ false → (wall : Wall) → wall ≡ first_wall row (frame_of b) (drop (row * b.axes) xs) → Refused (Point wall) ≡ points_outcome b keys xs
+    pub counting-outside : row < n → inside (frame_of b) (drop (row * b.axes) xs) ≡ false → (wall : Wall) → wall ≡ first_wall row (frame_of b) (drop (row * b.axes) xs) → Err (Point wall) ≡ points_outcome b keys xs
     unfolding points_outcome
     counting-outside h i wall w =
         let e = no_rows h i in
@@ -341,7 +335,7 @@ module _ (b : Box) (keys : List ℕ) (xs : List Float) where
       all_in : rows_inside b xs ≡ n
       all_in = omega (arith, c.rows, rows-le n (frame_of b) xs)
 
-      pub counting-done : Done ≡ points_outcome b keys xs
+      pub counting-done : accepted ≡ points_outcome b keys xs
       unfolding points_outcome
       counting-done =
           let z : row ≡ rows_inside b xs = omega (arith, c.rows, all_in) in
@@ -355,5 +349,5 @@ module _ (b : Box) (keys : List ℕ) (xs : List Float) where
           (subst (λ m. Counted keys (leaf_keys d keys all) m counts) z c.counted)
 
 -- a refusal is no end
-pub not_done : {A : Type 0} (o : Outcome) (r : Rattle.refusal.specs.declared.Refusal.Refusal) → Refused r ≡ o → o ≡ Done → A
+pub not_done : {A : Type 0} (o : Outcome) (r : Rattle.refusal.specs.declared.Refusal.Refusal) → Err r ≡ o → o ≡ accepted → A
 not_done o r e f = let z : ◌≡◌ {A = ℕ} 0 1 = cc in absurd (omega arith)

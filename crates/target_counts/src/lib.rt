@@ -3,6 +3,7 @@
 // The targets of each leaf: each target is looked up and counted at its leaf's number. Targets are coded a piece at a time, which is
 // quicker than to code and look up one after the other, and takes no room that grows with them.
 ghost use Rattle.std.specs.Prelude.{◌≡◌, ℕ, ◌+◌, ◌*◌, ◌≤◌, ◌<◌, length, get_or, take, replicate};
+ghost use Rattle.refusal.specs.Outcome.{accepted};
 ghost use Rattle.tree.specs.Finding.{TreeKeys};
 ghost use Rattle.space.specs.Rows.{rows_of, most_points};
 ghost use Rattle.grouping.specs.Passes.{Counted};
@@ -10,9 +11,8 @@ ghost use Rattle.lookup.specs.Batch.{held_before, leaf_keys, codes_inside, point
 ghost use Rattle.target_counts.specs.Pieces.{Piece, Added};
 
 use hints::Blocks;
-use refusal::{Outcome, Refusal};
-use space::{Box, Cell, Frame};
-use tree::Found;
+use refusal::Refusal;
+use space::{Box, Frame};
 
 // The targets of a piece.
 const PIECE: usize = 512;
@@ -21,7 +21,7 @@ const PIECE: usize = 512;
 fn piece_of(rest: usize) -> usize
     ensures { (result ≤ rest) × (result ≤ 512) × (1 ≤ rest → 1 ≤ result) }
 {
-    if rest < PIECE { rest } else { PIECE }
+    rest.min(PIECE)
 }
 
 // Puts the codes of so many targets, at equal distances from one row on, up to the first of them that is outside; answers how many.
@@ -41,20 +41,18 @@ fn code_rows(
 {
     let step = far * f.axes;
     let mut at = from * f.axes;
-    let mut n = 0;
-    while n < most {
+    for n in 0..most {
         match space::code_at(f, targets, at) {
-            Cell::Number(code) => {
+            Some(code) => {
                 codes[n] = code;
             }
-            Cell::Outside => {
+            None => {
                 return n;
             }
         }
-        n += 1;
         at += step;
     }
-    n
+    most
 }
 
 // Counts the first n codes at their leaves, up to the first that no leaf holds, by hints; answers how many.
@@ -72,22 +70,20 @@ fn count_codes(
     ensures value { result ≡ held_before axes key.now (take n codes.now) }
     ensures added { Added key.now (leaf_keys axes key.now codes.now) result counts.old counts.new }
 {
-    let mut row = 0;
-    while row < n {
+    for row in 0..n {
         let code = codes[row];
         let hint = hints::hint_of(axes, key, words, blocks, code);
         let leaf = leaf_search::leaf_from(axes, key, hint, code);
         match leaf {
-            Found::At(node) => {
+            Some(node) => {
                 counts[node] += 1;
             }
-            Found::Nothing => {
+            None => {
                 return row;
             }
         }
-        row += 1;
     }
-    row
+    n
 }
 
 // Counts the targets, up to the first that is outside or in no leaf, by hints. What the codes hold does not matter.
@@ -99,12 +95,12 @@ fn count_by(
     targets: &[f64],
     codes: &mut [u64],
     counts: &mut [usize],
-) -> Outcome
+) -> Result<(), Refusal>
     requires codes_len { length codes.old ≡ 512 }
     requires le_axes { (1 ≤ b.axes) × (b.axes ≤ 3) × TreeKeys b.axes key.now × (rows_of b targets.now ≤ most_points) }
     requires key_in_bounds { (length key.now ≤ length counts.old) × (counts.old ≡ replicate (length counts.old) 0) }
     ensures value { result ≡ points_outcome b key.now targets.now }
-    ensures counted { points_outcome b key.now targets.now ≡ Outcome.Done
+    ensures counted { points_outcome b key.now targets.now ≡ accepted
         → Counted key.now (leaf_keys b.axes key.now (codes_inside b targets.now)) (rows_of b targets.now) counts.new }
 {
     let f = space::frame_of(b);
@@ -115,15 +111,15 @@ fn count_by(
         let most = piece_of(rows - row);
         let n = code_rows(f, targets, row, 1, most, codes);
         if n < 1 {
-            return Outcome::Refused(Refusal::Point(space::wall_of(f, targets, row * axes, row)));
+            return Err(Refusal::Point(space::wall_of(f, targets, row * axes, row)));
         }
         let found = count_codes(axes, key, words, blocks, codes, n, counts);
         if found < n {
-            return Outcome::Refused(Refusal::Unstored(row + found));
+            return Err(Refusal::Unstored(row + found));
         }
         row += n;
     }
-    Outcome::Done
+    Ok(())
 }
 
 // Puts the codes of some targets, from all over them, up to the first of these that is outside; answers how many.
@@ -139,11 +135,16 @@ fn some_codes(f: Frame, targets: &[f64], rows: usize, codes: &mut [u64]) -> usiz
 }
 
 // The same with hints of its own, made for where the targets are.
-pub fn count_targets(b: Box, key: &[u64], targets: &[f64], counts: &mut [usize]) -> Outcome
+pub fn count_targets(
+    b: Box,
+    key: &[u64],
+    targets: &[f64],
+    counts: &mut [usize],
+) -> Result<(), Refusal>
     requires le_axes { (1 ≤ b.axes) × (b.axes ≤ 3) × TreeKeys b.axes key.now × (rows_of b targets.now ≤ most_points) }
     requires key_in_bounds { (length key.now ≤ length counts.old) × (counts.old ≡ replicate (length counts.old) 0) }
     ensures value { result ≡ points_outcome b key.now targets.now }
-    ensures counted { points_outcome b key.now targets.now ≡ Outcome.Done
+    ensures counted { points_outcome b key.now targets.now ≡ accepted
         → Counted key.now (leaf_keys b.axes key.now (codes_inside b targets.now)) (rows_of b targets.now) counts.new }
 {
     let rows = targets.len() / b.axes;

@@ -1,6 +1,6 @@
 -- Document 01's example, computed from the definitions: from the columns of its tree in Z order to the listing printed there.
 use mathlib.Core.Path.{◌≡◌, refl}
-use mathlib.Core.List.{List, [], ◌∷◌, ◌++◌}
+use mathlib.Core.List.{◌++◌}
 use lib.ListN.{get_or}
 use Rattle.refusal.specs.declared.Refusal.TheVariants.{Source, Room}
 use Rattle.slices.specs.Every.{every}

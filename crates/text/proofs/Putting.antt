@@ -3,24 +3,23 @@ use mathlib.Core.Path.{◌≡◌, refl, sym, ap, ap₂, ◌∙◌, subst}
 use mathlib.Core.Bool.{Bool, true, false, cond}
 use mathlib.Core.List.{List, [], ◌∷◌, ◌++◌, append_assoc, append-nil}
 use mathlib.Core.Logic.{⊎_elim}
-use Prim.Native.Nat.{ℕ, zero, suc, ◌+◌, ◌-◌, ◌*◌, ◌/◌, ◌%◌, ◌^◌, ◌≤◌, ◌<◌, min}
+use Prim.Native.Nat.{ℕ, zero, suc, ◌+◌, ◌-◌, ◌/◌, ◌%◌, ◌^◌, ◌≤◌, ◌<◌, min}
 use native.Mathlib.Nat.{sub-eq-zero_of_le}
 use native.Mathlib.Numerals.{add-one}
 use native.Mathlib.Omega.{arith}
 use lib.Dec.{ltb, leb}
 use lib.ListN.{length, get_or, take, drop, replicate, length-drop, drop_of_length-le}
 use lib.Seq.{take-suc, take_all, take-nil}
-use borrow.Author.Tests.{lt-ltb, le-ltb, le-leb, lt-leb, ltb-true, ltb-false}
+use borrow.Author.Tests.{lt-ltb, le-ltb, le-leb, lt-leb}
 use Rattle.slices.specs.Lists.{range, concat_map, filled}
 use Rattle.slices.proofs.Lists.{concat_map-append, range-append, cleared-filled, filled_none}
 use Rattle.slices.proofs.Tests.{lt-or-le}
 use Rattle.rows.specs.Written.{row_at}
 use Rattle.sourced.specs.Room.{Holds, Puts}
 use Rattle.sourced.proofs.Putting.{holds-none, fits, over}
-use Rattle.text.specs.declared.Text.{Text}
-use Rattle.text.specs.declared.Text.TheVariants.{Length, Short}
 use Rattle.text.specs.Digits.{digit, digits, decimal}
 use Rattle.text.specs.Listing.{fields, lettered, length_or, text_if, text_answer, text_left}
+use Rattle.std.specs.Prelude.{None, Option, Some}
 
 pub puts_none : (out : List ℕ) (n : ℕ) → Puts out n [] out n
 puts_none out n done h = subst (λ (l : List ℕ). Holds out n l) (sym (append-nil done)) h
@@ -96,15 +95,9 @@ pub mapped-more : (f : ℕ → List ℕ) (xs : List ℕ) (i : ℕ) → i < lengt
 mapped-more f xs i h =
     ap (concat_map f) (next xs i h) ∙ concat_map-append f (take i xs) (get_or xs i 0 ∷ []) ∙ ap (λ (l : List ℕ). concat_map f (take i xs) ++ l) (single f (get_or xs i 0))
 
-pub mapped-all : (f : ℕ → List ℕ) (xs : List ℕ) → concat_map f (take (length xs) xs) ≡ concat_map f xs
-mapped-all f xs = ap (concat_map f) (take_all (length xs) xs (omega arith))
-
 -- a word
 pub word_more : (xs : List ℕ) (i : ℕ) → i < length xs → take (i + 1) xs ≡ take i xs ++ get_or xs i 0 ∷ []
 word_more xs i h = next xs i h
-
-pub word-all : (xs : List ℕ) → take (length xs) xs ≡ xs
-word-all xs = take_all (length xs) xs (omega arith)
 
 -- the nodes below i
 pub numbered-none : (f : ℕ → List ℕ) → concat_map f (range 0 0) ≡ []
@@ -145,16 +138,16 @@ module _ (starts keys : List ℕ) (node a z to : ℕ) (ea : a ≡ get_or starts 
 -- ---- the end
 
 module _ (out text : List ℕ) (n : ℕ) (g : Holds out n text) where
-  pub ends-short : length out < n → (Short ≡ text_answer (length out) text) × (replicate (length out) 0 ≡ text_left (length out) text)
+  pub ends-short : length out < n → (None ≡ text_answer (length out) text) × (replicate (length out) 0 ≡ text_left (length out) text)
   ends-short h =
       let e : leb (length text) (length out) ≡ false = lt-leb (length text) (length out) (over out text n g h) in
       (sym (ap (λ (b : Bool). length_or b (length text)) e), sym (ap (λ (b : Bool). filled (length out) (text_if b text)) e ∙ filled_none (length out)))
 
-  pub ends-long : n ≤ length out → (Length n ≡ text_answer (length out) text) × (take n out ++ replicate (length out - n) 0 ≡ text_left (length out) text)
+  pub ends-long : n ≤ length out → (Some n ≡ text_answer (length out) text) × (take n out ++ replicate (length out - n) 0 ≡ text_left (length out) text)
   ends-long h =
       let k : n ≡ length text = fits out text n g h in
       let e : leb (length text) (length out) ≡ true = le-leb (length text) (length out) (omega arith) in (
-        ap Length k ∙ sym (ap (λ (b : Bool). length_or b (length text)) e),
+        ap Some k ∙ sym (ap (λ (b : Bool). length_or b (length text)) e),
         ap (λ (i : ℕ). take i out ++ replicate (length out - i) 0) k ∙ cleared-filled text out (g.begins (omega arith)) ∙ sym (ap (λ (b : Bool). filled (length out) (text_if b text)) e),
       )
 
@@ -172,7 +165,7 @@ pub puts-keys : (a b keys row : List ℕ) (n m : ℕ) → keys ≡ row → Puts 
 puts-keys a b keys row n m e p = puts-same a b (fields keys) (fields row) n m (ap fields e) p
 
 -- a text that was put into an empty slice, and ended
-pub ended : (out₀ out out' text : List ℕ) (n : ℕ) (r : Text) → Puts out₀ 0 text out n → length out ≡ length out₀
+pub ended : (out₀ out out' text : List ℕ) (n : ℕ) (r : Option ℕ) → Puts out₀ 0 text out n → length out ≡ length out₀
     → ((text : List ℕ) → Holds out n text → (r ≡ text_answer (length out) text) × (out' ≡ text_left (length out) text))
     → (r ≡ text_answer (length out₀) text) × (out' ≡ text_left (length out₀) text)
 ended out₀ out out' text n r p same f =

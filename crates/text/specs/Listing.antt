@@ -1,5 +1,5 @@
 -- Document 01, "The survey file and the listing", with order 10: the lines of the listing, in ASCII. Nodes stand in Z order and are printed by level.
-use Rattle.std.specs.Prelude.{Bool, true, false, ℕ, suc, leb, eqb, length, get_or}
+use Rattle.std.specs.Prelude.{Bool, true, false, ℕ, suc, leb, eqb, length, get_or, None, Option, Some}
 use mathlib.Core.List.{List, [], ◌∷◌, ◌++◌}
 use Prim.Native.Char.{code}
 use Rattle.refusal.specs.declared.Refusal.{Refusal}
@@ -8,8 +8,6 @@ use Rattle.slices.specs.Lists.{range, filter, concat_map, filled}
 use Rattle.morton.specs.Keys.{deepest, level_of}
 use Rattle.tree.specs.Order.{depth_of}
 use Rattle.rows.specs.Lists.{u_row, v_row, near_work}
-use Rattle.text.specs.declared.Text.{Text}
-use Rattle.text.specs.declared.Text.TheVariants.{Length, Short}
 use Rattle.text.specs.Characters.{ascii}
 use Rattle.text.specs.Digits.{decimal}
 
@@ -70,16 +68,16 @@ tree_listing d key own sources weigh =
 
 -- ---- a text in a slice with so much room
 
-abbrev pub length_or : Bool → ℕ → Text
-length_or true n = Length n
-length_or false n = Short
+abbrev pub length_or : Bool → ℕ → Option ℕ
+length_or true n = Some n
+length_or false n = None
 
 abbrev pub text_if : Bool → List ℕ → List ℕ
 text_if true text = text
 text_if false text = []
 
 -- its length, or that the room is short
-abbrev pub text_answer : ℕ → List ℕ → Text
+abbrev pub text_answer : ℕ → List ℕ → Option ℕ
 text_answer room text = length_or (leb (length text) room) (length text)
 
 -- the slice's end content: the text and then 0, or 0 throughout if the room is short

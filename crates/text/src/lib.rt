@@ -9,13 +9,6 @@ ghost use Rattle.text.specs.Listing.{field, fields, line, refusal_line, lettered
 
 use refusal::Refusal;
 
-// How a text was written: its length, or that the slice lent for it is short.
-#[derive(Clone, Copy)]
-pub enum Text {
-    Length(usize),
-    Short,
-}
-
 // Where the lines of nodes end, and the number that is printed next.
 #[derive(Clone, Copy)]
 struct Lines {
@@ -58,10 +51,8 @@ fn put_fields(out: &mut [u8], n: usize, xs: &[u64]) -> usize
     ensures { Puts out.old n (fields xs.now) out.new result }
 {
     let mut m = n;
-    let mut i = 0;
-    while i < xs.len() {
-        m = put_field(out, m, xs[i]);
-        i += 1;
+    for x in xs {
+        m = put_field(out, m, *x);
     }
     m
 }
@@ -71,10 +62,8 @@ fn put_word(out: &mut [u8], n: usize, word: &[u8]) -> usize
     ensures { Puts out.old n word.now out.new result }
 {
     let mut m = n;
-    let mut i = 0;
-    while i < word.len() {
-        m = put(out, m, word[i]);
-        i += 1;
+    for byte in word {
+        m = put(out, m, *byte);
     }
     m
 }
@@ -87,12 +76,6 @@ fn start_at(column: &[usize], i: usize) -> usize
         return column[i];
     }
     0
-}
-
-fn least(a: usize, b: usize) -> usize
-    ensures { result ≡ min a b }
-{
-    if a < b { a } else { b }
 }
 
 // Puts a letter and the keys of a node's row.
@@ -110,7 +93,7 @@ fn put_row(
     let blank = put(out, n, b' ');
     let m = put(out, blank, letter);
     let from = start_at(starts, node);
-    let to = least(start_at(starts, node + 1), keys.len());
+    let to = start_at(starts, node + 1).min(keys.len());
     if to <= from {
         return m;
     }
@@ -162,16 +145,12 @@ fn put_level(
 {
     let mut end = n;
     let mut next = number;
-    let mut node = 0;
-    while node < key.len() {
+    for node in 0..key.len() {
         if key[node] % 32768 == level {
             end = put_node(
                 out, end, next, key, own, u_starts, u_keys, v_starts, v_keys, node,
             );
             next += 1;
-            node += 1;
-        } else {
-            node += 1;
         }
     }
     Lines { end, number: next }
@@ -193,14 +172,12 @@ fn put_nodes(
 {
     let mut end = n;
     let mut number = 0;
-    let mut level = 0;
-    while level < 17 {
+    for level in 0..17 {
         let lines = put_level(
             out, end, number, level, key, own, u_starts, u_keys, v_starts, v_keys,
         );
         end = lines.end;
         number = lines.number;
-        level += 1;
     }
     end
 }
@@ -214,39 +191,28 @@ fn put_line(out: &mut [u8], n: usize, word: &[u8], numbers: &[u64]) -> usize
     put(out, b, b'\n')
 }
 
-// Sets every byte to 0.
-fn clear(s: &mut [u8])
-    ensures { s.new ≡ replicate (length s.old) 0 }
-{
-    let mut i = 0;
-    while i < s.len() {
-        s[i] = 0;
-        i += 1;
-    }
-}
-
 // Sets every byte from place `from` on to 0.
 fn clear_from(s: &mut [u8], from: usize)
     ensures { s.new ≡ take from s.old ++ replicate (length s.old - from) 0 }
 {
     if from < s.len() {
-        clear(&mut s[from..]);
+        s[from..].fill(0);
     }
 }
 
-// Ends a text of n bytes: clears the rest, or all if the text has no room.
-fn finish(out: &mut [u8], n: usize) -> Text
+// Ends a text of n bytes: clears the rest and answers n, or clears all and answers none if the text has no room.
+fn finish(out: &mut [u8], n: usize) -> Option<usize>
     ensures { (text : List ℕ) → Holds out.old n text → (result ≡ text_answer (length out.old) text) × (out.new ≡ text_left (length out.old) text) }
 {
     if out.len() < n {
-        clear(out);
-        return Text::Short;
+        out.fill(0);
+        return None;
     }
     clear_from(out, n);
-    Text::Length(n)
+    Some(n)
 }
 
-// The listing of a tree with these columns and rows.
+// The listing of a tree with these columns and rows: its length, or none if it has no room.
 pub fn write_listing(
     axes: usize,
     depth: u64,
@@ -259,7 +225,7 @@ pub fn write_listing(
     v_starts: &[usize],
     v_keys: &[u64],
     out: &mut [u8],
-) -> Text
+) -> Option<usize>
     ensures answer { result ≡ text_answer (length out.old) (listing key.now own.now
         (row_at u_starts.now u_keys.now) (row_at v_starts.now v_keys.now) axes depth sources work) }
     ensures text { out.new ≡ text_left (length out.old) (listing key.now own.now
@@ -271,8 +237,8 @@ pub fn write_listing(
     finish(out, m)
 }
 
-// The one line of a refusal.
-pub fn write_refusal(refusal: Refusal, out: &mut [u8]) -> Text
+// The one line of a refusal: its length, or none if it has no room.
+pub fn write_refusal(refusal: Refusal, out: &mut [u8]) -> Option<usize>
     ensures answer { result ≡ text_answer (length out.old) (refusal_line refusal) }
     ensures text { out.new ≡ text_left (length out.old) (refusal_line refusal) }
 {

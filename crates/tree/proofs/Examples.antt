@@ -11,7 +11,7 @@ use Rattle.tree.specs.Totals.{total_in}
 use Rattle.tree.specs.WellFormed.{well_formed}
 use Rattle.tree.specs.Leaves.{climbed, leaf_of, steps_to}
 use Rattle.tree.specs.Arrangement.{old_number}
-use Rattle.tree.specs.declared.Found.TheVariants.{At, Nothing}
+use Rattle.std.specs.Prelude.{None, Some}
 
 -- document 01's example, and beside each tree the numbers that its nodes had by level
 abbrev pub keys₁ : List ℕ
@@ -80,7 +80,7 @@ unfolding end_of range
 ends-are = refl
 
 -- lookup: a code in a leaf, with its steps, and one in no leaf
-pub found : (leaf_of 1 keys₁ 8192 ≡ At 4) × (steps_to 1 keys₁ 8192 ≡ 0) × (leaf_of 1 keys₁ 20000 ≡ Nothing)
+pub found : (leaf_of 1 keys₁ 8192 ≡ Some 4) × (steps_to 1 keys₁ 8192 ≡ 0) × (leaf_of 1 keys₁ 20000 ≡ None)
 unfolding climbed greatest_level leaf any node_number
 found = (refl, refl, refl)
 

@@ -1,19 +1,19 @@
 -- Z order, the row test and the depth, as the code tests them.
-use mathlib.Core.Path.{◌≡◌, refl, sym, ap, ap₂, ◌∙◌}
+use mathlib.Core.Path.{◌≡◌, refl, sym, ap, ◌∙◌}
 use mathlib.Core.Bool.{Bool, true, false, ◌&&◌, ◌||◌}
-use mathlib.Core.List.{List, [], ◌∷◌}
-use Prim.Native.Nat.{ℕ, zero, suc, ◌+◌, ◌*◌, ◌-◌, ◌/◌, ◌^◌, ◌≤◌, ◌<◌, max}
+use mathlib.Core.List.{List}
+use Prim.Native.Nat.{ℕ, suc, ◌+◌, ◌*◌, ◌-◌, ◌^◌, ◌≤◌, ◌<◌, max}
 use native.Mathlib.Omega.{arith}
-use native.Mathlib.Nat.{div-eq_of_lt, not-suc-le-zero, mul-le-mul}
+use native.Mathlib.Nat.{div-eq_of_lt, mul-le-mul}
 use native.Mathlib.Decide.{dec_lt}
 use lib.Dec.{leb, ltb, eqb}
 use lib.Pow.{pow_mono}
 use lib.ListN.{length, get_or, drop, drop_of_length-le}
 use lib.Seq.{drop-cons}
-use borrow.Author.Tests.{ltb-true, leb-true, leb-false, eqb-true, lt-ltb, le-ltb, le-leb, lt-leb, eq-eqb, ne_eqb}
-use Rattle.slices.proofs.Tests.{and_l, and_r, both, clash, refute, same_test}
+use borrow.Author.Tests.{ltb-true, leb-true, eqb-true, lt-ltb, le-ltb, le-leb, lt-leb, eq-eqb, ne_eqb}
+use Rattle.slices.proofs.Tests.{and_l, and_r, both, refute}
 use Rattle.axes.specs.Axes.{axes_known}
-use Rattle.morton.specs.Keys.{deepest, level_of, code_of, above, parent, under}
+use Rattle.morton.specs.Keys.{level_of, code_of, above, parent, under}
 use Rattle.morton.proofs.Cells.{above_zero, above-one, level-parent, code-parent}
 use Rattle.tree.specs.Order.{code_at, before, greatest_level, depth_of}
 use Rattle.tree.specs.Pass.{follows, may_own}
@@ -92,21 +92,14 @@ own-deeper p k n h = rw (lt-leb (level_of k) (level_of p) h)
 pub own_any : (p k n : ℕ) → level_of k ≤ level_of p → true ≡ may_own p k n
 own_any p k n h = rw (le-leb (level_of k) (level_of p) h)
 
--- the depth, from the last row back
-pub depth-none : (keys : List ℕ) → 1 ≡ depth_of (drop (length keys) keys)
+-- the depth, row by row
+pub depth-more : (keys : List ℕ) (i a b : ℕ) → i < length keys → b ≡ max a (level_of (get_or keys i 0)) → max a (depth_of (drop i keys)) ≡ depth_of keys → max b (depth_of (drop (i + 1) keys)) ≡ depth_of keys
 unfolding greatest_level
-depth-none keys = sym (ap (λ x. depth_of x) (drop_of_length-le keys {i = length keys} (omega arith)))
+depth-more keys i a b l m h =
+    let n : i + 1 ≡ suc i = omega arith in
+    let e : depth_of (drop i keys) ≡ max (level_of (get_or keys i 0)) (depth_of (drop (suc i) keys)) = rw (drop-cons keys i 0 l) (omega arith) in
+    rw n (omega arith)
 
-module _ (keys : List ℕ) (i n a : ℕ) (l : n ≤ length keys) (e : n ≡ suc i) (h : a ≡ depth_of (drop n keys)) where
-  depth-step : depth_of (drop i keys) ≡ max (level_of (get_or keys i 0)) a
-  unfolding greatest_level
-  depth-step = rw (h, drop-cons keys i 0 (omega arith), e) (omega arith)
-
-  pub depth-more : a < level_of (get_or keys i 0) → level_of (get_or keys i 0) ≡ depth_of (drop i keys)
-  depth-more g = omega (arith, depth-step)
-
-  pub depth_same : level_of (get_or keys i 0) ≤ a → a ≡ depth_of (drop i keys)
-  depth_same g = omega (arith, depth-step)
-
-pub depth-all : (keys : List ℕ) (i a : ℕ) → a ≡ depth_of (drop i keys) → i ≤ 0 → a ≡ depth_of keys
-depth-all keys i a h l = let z : i ≡ 0 = omega arith in rw z at h
+pub depth-all : (keys : List ℕ) (i a : ℕ) → length keys ≤ i → 1 ≤ a → max a (depth_of (drop i keys)) ≡ depth_of keys → a ≡ depth_of keys
+unfolding greatest_level
+depth-all keys i a l some h = let e : depth_of (drop i keys) ≡ 1 = ap (λ x. depth_of x) (drop_of_length-le keys {i = i} l) in omega arith

@@ -1,11 +1,9 @@
 -- Document 01, "Lists, lookup, sourced cells": lookup starts at the depth and climbs to a leaf, whose key it answers.
 -- A point inside the box is its level-16 code. The depth is that of Z order, the greatest level.
-use Rattle.std.specs.Prelude.{Bool, true, false, cond, List, ℕ, zero, suc, ◌-◌, ltb}
+use Rattle.std.specs.Prelude.{Bool, true, false, cond, List, ℕ, zero, suc, ◌-◌, ltb, None, Option, Some}
 use Rattle.morton.specs.Keys.{deepest, key, above}
 use Rattle.tree.specs.Nodes.{node_number, leaf}
 use Rattle.tree.specs.Order.{depth_of}
-use Rattle.tree.specs.declared.Found.{Found}
-use Rattle.tree.specs.declared.Found.TheVariants.{At, Nothing}
 
 -- the cell at level l that holds the code
 abbrev pub cell_of : ℕ → ℕ → ℕ → ℕ
@@ -35,10 +33,10 @@ leaf_number d keys code = node_number keys (leaf_key d keys code)
 abbrev pub steps_to : ℕ → List ℕ → ℕ → ℕ
 steps_to d keys code = depth_of keys - leaf_level d keys code
 
-abbrev pub found_if : Bool → ℕ → Found
-found_if true node = At node
-found_if false node = Nothing
+abbrev pub found_if : Bool → ℕ → Option ℕ
+found_if true node = Some node
+found_if false node = None
 
 -- the number of the leaf that holds the code, or nothing
-abbrev pub leaf_of : ℕ → List ℕ → ℕ → Found
+abbrev pub leaf_of : ℕ → List ℕ → ℕ → Option ℕ
 leaf_of d keys code = found_if (held d keys code) (leaf_number d keys code)

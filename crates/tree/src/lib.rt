@@ -1,8 +1,9 @@
 #![tactic(auto)]
 
 // What a tree is: its columns in Z order, when they are well formed, the depth, finding a node, and the sources of a leaf and of any cell.
-ghost use Rattle.std.specs.Prelude.{◌≡◌, true, ◌&&◌, ℕ, ◌+◌, ◌≤◌, ◌<◌, length, get_or};
+ghost use Rattle.std.specs.Prelude.{◌≡◌, true, ◌&&◌, ℕ, ◌+◌, ◌≤◌, ◌<◌, length, get_or, replicate};
 ghost use Rattle.morton.specs.Keys.{axes_known, above, under};
+ghost use Rattle.tree.specs.Columns.{node_room};
 ghost use Rattle.tree.specs.Nodes.{leaf};
 ghost use Rattle.tree.specs.Order.{before, depth_of, end_of};
 ghost use Rattle.tree.specs.WellFormed.{well_formed};
@@ -12,12 +13,7 @@ ghost use Rattle.tree.specs.Sources.{leaf_sources, cell_sources};
 
 pub const MOST_SOURCES: usize = 1048576;
 
-// A node's number, or nothing.
-#[derive(Clone, Copy)]
-pub enum Found {
-    At(usize),
-    Nothing,
-}
+pub const MOST_NODES: usize = 1048576;
 
 // The code n levels up; far above a cell there is only code 0.
 fn up(axes: usize, code: u64, n: u64) -> u64
@@ -87,8 +83,7 @@ fn rows_right(axes: usize, key: &[u64], own: &[usize], begin: &[usize]) -> bool
     ensures { result ≡ rows_right axes key.now own.now begin.now }
 {
     let mut run = 0;
-    let mut i = 1;
-    while i < key.len() {
+    for i in 1..key.len() {
         let p = key[i - 1];
         let k = key[i];
         if !may_follow(axes, p, k) {
@@ -105,7 +100,6 @@ fn rows_right(axes: usize, key: &[u64], own: &[usize], begin: &[usize]) -> bool
             return false;
         }
         run += count;
-        i += 1;
     }
     true
 }
@@ -116,9 +110,7 @@ fn totals_right(axes: usize, key: &[u64], own: &[usize], begin: &[usize], total:
     ensures { result ≡ well_formed axes key.now own.now begin.now total.now }
 {
     let mut waiting = [0usize; 18];
-    let mut i = key.len();
-    while 0 < i {
-        i -= 1;
+    for i in (0..key.len()).rev() {
         let level = (key[i] % 32768) as usize;
         let sum = own[i] + waiting[level + 1];
         if total[i] != sum {
@@ -174,14 +166,9 @@ pub fn is_well_formed(
 pub fn depth_of(key: &[u64]) -> u64
     ensures { result ≡ depth_of key.now }
 {
-    let mut depth = 1;
-    let mut i = key.len();
-    while 0 < i {
-        i -= 1;
-        let level = key[i] % 32768;
-        if depth < level {
-            depth = level;
-        }
+    let mut depth: u64 = 1;
+    for k in key {
+        depth = depth.max(*k % 32768);
     }
     depth
 }
@@ -221,10 +208,7 @@ fn between(node: usize, low: usize, high: usize) -> usize
 {
     let half = (high - low) / 2;
     let step = low - node + 1;
-    if step < half {
-        return low + step;
-    }
-    low + half
+    low + step.min(half)
 }
 
 // The number after those of the nodes under a node, by steps that double until one is past it, and then by halving.
@@ -265,18 +249,18 @@ pub fn first_from(axes: usize, key: &[u64], k: u64) -> usize
 }
 
 // The node with key k.
-pub fn find_node(axes: usize, key: &[u64], k: u64) -> Found
+pub fn find_node(axes: usize, key: &[u64], k: u64) -> Option<usize>
     requires { axes_known axes ≡ true }
     ensures { FoundNode axes key.now k result }
 {
     let node = first_from(axes, key, k);
     if key.len() <= node {
-        return Found::Nothing;
+        return None;
     }
     if key[node] != k {
-        return Found::Nothing;
+        return None;
     }
-    Found::At(node)
+    Some(node)
 }
 
 // A leaf's part of the order column: what it owns, from its begin on. `begin + own` may be past the largest number, so the room is compared instead.
@@ -316,4 +300,22 @@ pub fn cell_sources<'a>(
     ensures { result.now ≡ cell_sources total.now begin.now order.now node }
 {
     leaf_sources(total, begin, order, node)
+}
+
+// How many entries of the node columns count: as many as the shortest has, and no more than a tree may have nodes.
+pub fn node_room(key: usize, own: usize, begin: usize, total: usize) -> usize
+    ensures { result ≡ node_room key own begin total }
+{
+    MOST_NODES.min(key).min(own).min(begin).min(total)
+}
+
+// Clears the columns beside the keys.
+pub fn clear_columns(own: &mut [usize], begin: &mut [usize], total: &mut [usize])
+    ensures own_after { own.new ≡ replicate (length own.old) 0 }
+    ensures begin_after { begin.new ≡ replicate (length begin.old) 0 }
+    ensures total_after { total.new ≡ replicate (length total.old) 0 }
+{
+    slices::clear_usize(own);
+    slices::clear_usize(begin);
+    slices::clear_usize(total);
 }

@@ -7,7 +7,6 @@ use Rattle.slices.specs.Every.{every}
 use Rattle.slices.specs.Lists.{any, filter, sum, range, concat_map}
 use Rattle.slices.specs.Order.{ascending}
 use Rattle.refusal.specs.Numbers.{outcome_number}
-use Rattle.refusal.specs.declared.Outcome.TheVariants.{Done}
 use Rattle.morton.specs.Keys.{upwards}
 use Rattle.morton.specs.Anchors.{near}
 use Rattle.survey.specs.Bytes.{number_at}
@@ -24,6 +23,7 @@ use Rattle.tree_file.specs.Contents.{Contents}
 use Rattle.tree_file.specs.Written.{body, entries, file_of}
 use Rattle.tree_file.specs.Trailer.{sections_good, column_in, tree_in}
 use Rattle.tree_file.specs.Checks.{writeable, readable}
+use Rattle.refusal.specs.Outcome.{accepted}
 
 abbrev root : Contents
 root = record { axes = 1; keys = 0 ∷ []; own = 0 ∷ []; begin = 0 ∷ []; total = 0 ∷ []; order = []; u_starts = 0 ∷ 0 ∷ []; u_keys = []; v_starts = 0 ∷ 0 ∷ []; v_keys = [] }
@@ -55,7 +55,7 @@ written = refl
 pub bytes : length file₀ ≡ 152
 bytes = refl
 
-pub taken : writeable root ≡ Done
+pub taken : writeable root ≡ accepted
 unfolding bytes_of body well_formed in_order leaf any sum total_in own_of arranges ascending range lists_are same starts_from concat_map u_row v_row in_u in_v sourced filter near every upwards
 taken = refl
 

@@ -2,7 +2,6 @@
 use Rattle.std.specs.Prelude.{Bool, ◌&&◌, List, ℕ, leb, length}
 use Rattle.slices.specs.Lists.{sum}
 use Rattle.refusal.specs.declared.Refusal.TheVariants.{Dims, Count, Tree, Section}
-use Rattle.refusal.specs.declared.Outcome.{Outcome}
 use Rattle.refusal.specs.Chain.{ask, ◌then◌}
 use Rattle.morton.specs.Keys.{axes_known}
 use Rattle.tree.specs.WellFormed.{well_formed}
@@ -11,6 +10,7 @@ use Rattle.sums.specs.Arrangement.{arranges}
 use Rattle.tree_file.specs.Contents.{Contents}
 use Rattle.tree_file.specs.Written.{sections, body}
 use Rattle.tree_file.specs.Trailer.{axes_in, trailer_fits, sections_good, tree_in}
+use Rattle.refusal.specs.Outcome.{Outcome}
 
 -- more nodes or list keys than these are not counted
 abbrev pub most_nodes : ℕ

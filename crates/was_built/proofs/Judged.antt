@@ -15,8 +15,6 @@ use Rattle.slices.proofs.Lists.{get_d_map}
 use Rattle.morton.specs.Keys.{axes_known}
 use Rattle.space.specs.declared.Box.{Box}
 use Rattle.space.specs.Cells.{frame_of}
-use Rattle.refusal.specs.declared.Wall.{Wall}
-use Rattle.space.specs.declared.Rows.TheVariants.{Inside, Outside}
 use Rattle.space.specs.Rows.{rows_of, rows_inside, codes16, coded, first_outside}
 use Rattle.space.proofs.Batches.{codes-length, one_outside}
 use Rattle.space.proofs.Batches as batches
@@ -43,6 +41,8 @@ use Rattle.build.specs.Asked.{Asked, rule_of, built_keys, built_own, built_begin
 use Rattle.build.proofs.Growing.{codes-lt}
 use Rattle.was_built.specs.Build.{asks_alone, columns_are, is_build}
 use Rattle.was_built.proofs.Inside.{by_codes, from-codes, all-inside}
+use Rattle.std.specs.Prelude.{Err, Ok, is_err}
+use Rattle.space.specs.Inside.{Inside, all_inside}
 
 same_self : (xs : List ℕ) → same xs xs ≡ true
 unfolding same
@@ -183,11 +183,17 @@ tree-keys d keys own begin total known formed =
     (record { axes = known; some = w.some; ascend = facts-ascend d keys w.rows.tree.ascending; parents = facts-parents d keys w.rows.tree.parents }, w.totals)
 
 -- a source is outside
-pub not-all-in : (b : Box) (sources : List Float) (wall : Wall) → first_outside (rows_of b sources) (frame_of b) sources ≡ Outside wall → rows_inside b sources ≡ rows_of b sources → ⊥
-not-all-in b sources wall e q = omega (arith, (one_outside (rows_of b sources) wall (frame_of b) sources e).1, q)
+pub not-all-in : (b : Box) (sources : List Float) (r : Inside) → r ≡ first_outside (rows_of b sources) (frame_of b) sources → (t : Bool) → t ≡ is_err r → t ≡ true → rows_inside b sources ≡ rows_of b sources → ⊥
+not-all-in b sources (Err wall) e t h k q = omega (arith, (one_outside (rows_of b sources) wall (frame_of b) sources (sym e)).1, q)
+not-all-in b sources (Ok x) e t h k q = let z : ◌≡◌ {A = ℕ} 0 1 = cc in omega arith
+
+-- no source is
+pub no_wall : (r : Inside) (t : Bool) → t ≡ is_err r → t ≡ false → r ≡ all_inside
+no_wall (Ok x) t h k = refl
+no_wall (Err wall) t h k = let z : ◌≡◌ {A = ℕ} 0 1 = cc in absurd (omega arith)
 
 -- the codes that were written, of sources that are all inside
-module _ (b : Box) (sources : List Float) (old work : List ℕ) (all : first_outside (rows_of b sources) (frame_of b) sources ≡ Inside) (e : work ≡ coded (rows_of b sources) (frame_of b) sources old) where
+module _ (b : Box) (sources : List Float) (old work : List ℕ) (all : first_outside (rows_of b sources) (frame_of b) sources ≡ all_inside) (e : work ≡ coded (rows_of b sources) (frame_of b) sources old) where
   pub all_in : rows_inside b sources ≡ rows_of b sources
   all_in = batches.all-inside (rows_of b sources) (frame_of b) sources all
 

@@ -9,7 +9,7 @@ ghost use Rattle.tree.specs.WellFormed.{well_formed};
 ghost use Rattle.was_built.specs.Build.{is_build};
 
 use growth::Rule;
-use space::{Box, Rows};
+use space::Box;
 
 // Whether a well-formed tree and its order column are the build of these sources.
 pub fn is_build(
@@ -54,8 +54,7 @@ fn is_coded_build(
     requires { (axes_known b.axes ≡ true) × (well_formed b.axes key.now own.now begin.now total.now ≡ true) × (rows_of b sources.now ≤ length work.old) }
     ensures { result ≡ is_build b limit keep sources.now (columns key.now own.now begin.now total.now) order.now }
 {
-    let found = space::points_to_codes(b, sources, work);
-    if let Rows::Outside(_) = found {
+    if space::points_to_codes(b, sources, work).is_err() {
         return false;
     }
     let n = sources.len() / b.axes;

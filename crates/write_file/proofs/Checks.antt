@@ -10,8 +10,6 @@ use borrow.Author.Tests.{leb-true, le-leb, lt-leb}
 use Rattle.slices.specs.Lists.{sum, filled}
 use Rattle.refusal.specs.declared.Refusal.{Refusal}
 use Rattle.refusal.specs.declared.Refusal.TheVariants.{Dims, Count, Tree, Section, Room}
-use Rattle.refusal.specs.declared.Outcome.{Outcome}
-use Rattle.refusal.specs.declared.Outcome.TheVariants.{Done, Refused}
 use Rattle.refusal.specs.Chain.{ask, ◌then◌}
 use Rattle.refusal.proofs.Chain.{both-done, asked, after-refused}
 use Rattle.morton.specs.Keys.{axes_known}
@@ -30,13 +28,14 @@ use Rattle.tree_file.specs.Checks.{counts_fit, columns_right, rest_right, writea
 use Rattle.file_layout.specs.Lengths.{body_length}
 use Rattle.file_layout.proofs.Lengths.{file-length}
 use Rattle.write_file.specs.Fitting.{lengths_fit}
-use Rattle.write_file.specs.Answers.{write_check, length_or, write_answer, write_left}
-use Rattle.write_file.specs.declared.Written.TheVariants as written
+use Rattle.write_file.specs.Answers.{write_check, write_answer, write_left}
 use Rattle.write_file.proofs.Fitting.{Fit, fit-facts, counts-fit}
+use Rattle.refusal.specs.Outcome.{Outcome, accepted}
+use Rattle.std.specs.Prelude.{Err, Ok}
 
 -- ---- the tree
 
-module _ (d : ℕ) (keys own begin total : List ℕ) (done : tree_check d (columns keys own begin total) ≡ Done) where
+module _ (d : ℕ) (keys own begin total : List ℕ) (done : tree_check d (columns keys own begin total) ≡ accepted) where
   well : well_formed d keys own begin total ≡ true
   well = asked (well_formed d keys own begin total) Tree (both-done (ask (axes_known d) Dims) (ask (well_formed d keys own begin total) Tree) done).1
 
@@ -62,19 +61,19 @@ chain : (a c w r : Bool) → Outcome
 chain a c w r = ask a Dims then ask c Count then ask w Tree then ask r Section
 
 module _ (a c w r : Bool) where
-  axes-off : a ≡ false → Refused Dims ≡ chain a c w r
+  axes-off : a ≡ false → Err Dims ≡ chain a c w r
   unfolding chain
   axes-off e = rw e
 
-  counts-off : a ≡ true → c ≡ false → Refused Count ≡ chain a c w r
+  counts-off : a ≡ true → c ≡ false → Err Count ≡ chain a c w r
   unfolding chain
   counts-off e f = rw (e, f)
 
-  tree-off : a ≡ true → c ≡ true → (x : Refusal) → ask a Dims then ask w Tree ≡ Refused x → Refused x ≡ chain a c w r
+  tree-off : a ≡ true → c ≡ true → (x : Refusal) → ask a Dims then ask w Tree ≡ Err x → Err x ≡ chain a c w r
   unfolding chain
   tree-off e f x h = rw (e, f) (sym (after-refused (ask w Tree) (ask r Section) x (ap (λ (t : Bool). ask t Dims then ask w Tree) (sym e) ∙ h)))
 
-  tree-on : a ≡ true → c ≡ true → ask a Dims then ask w Tree ≡ Done → ask r Section ≡ chain a c w r
+  tree-on : a ≡ true → c ≡ true → ask a Dims then ask w Tree ≡ accepted → ask r Section ≡ chain a c w r
   unfolding chain
   tree-on e f h = rw (e, f) (sym (ap (λ (o : Outcome). o then ask r Section) (ap (λ (t : Bool). ask t Dims then ask w Tree) (sym e) ∙ h)))
 
@@ -85,33 +84,33 @@ module _ (d : ℕ) (keys own begin total order us uk vs vk : List ℕ) where
   abbrev fit : Bool
   fit = lengths_fit (length keys) (length own) (length begin) (length total) (length order) (length us) (length uk) (length vs) (length vk)
 
-  pub not_known : (b : Bool) → b ≡ axes_known d → b ≡ false → Refused Dims ≡ writeable t
+  pub not_known : (b : Bool) → b ≡ axes_known d → b ≡ false → Err Dims ≡ writeable t
   unfolding chain
   not_known b e n = axes-off (axes_known d) (counts_fit t) (columns_right t) (rest_right t) (sym e ∙ n)
 
   module _ (b : Bool) (e : b ≡ axes_known d) (y : b ≡ true) (f : Bool) (g : f ≡ fit) where
-    pub not-counted : f ≡ false → Refused Count ≡ writeable t
+    pub not-counted : f ≡ false → Err Count ≡ writeable t
     unfolding chain
     not-counted n = counts-off (axes_known d) (counts_fit t) (columns_right t) (rest_right t) (sym e ∙ y) (counts-fit t ∙ sym g ∙ n)
 
     module _ (z : f ≡ true) where
-      pub not-tree : (x : Refusal) → tree_check d (columns keys own begin total) ≡ Refused x → Refused x ≡ writeable t
+      pub not-tree : (x : Refusal) → tree_check d (columns keys own begin total) ≡ Err x → Err x ≡ writeable t
       unfolding chain
       not-tree x h = tree-off (axes_known d) (counts_fit t) (columns_right t) (rest_right t) (sym e ∙ y) (counts-fit t ∙ sym g ∙ z) x h
 
-      module _ (done : tree_check d (columns keys own begin total) ≡ Done) (r : Bool) (q : r ≡ rest_right t) where
+      module _ (done : tree_check d (columns keys own begin total) ≡ accepted) (r : Bool) (q : r ≡ rest_right t) where
         by-rest : ask r Section ≡ writeable t
         unfolding chain
         by-rest = ap (λ (p : Bool). ask p Section) q ∙ tree-on (axes_known d) (counts_fit t) (columns_right t) (rest_right t) (sym e ∙ y) (counts-fit t ∙ sym g ∙ z) done
 
-        pub tree-done : r ≡ true → Done ≡ writeable t
+        pub tree-done : r ≡ true → accepted ≡ writeable t
         tree-done h = ap (λ (p : Bool). ask p Section) (sym h) ∙ by-rest
 
-        pub not_right : r ≡ false → Refused Section ≡ writeable t
+        pub not_right : r ≡ false → Err Section ≡ writeable t
         not_right h = ap (λ (p : Bool). ask p Section) (sym h) ∙ by-rest
 
   -- ---- what has passed
-  pub fits : writeable t ≡ Done → Fit (length keys) (length own) (length begin) (length total) (length order) (length us) (length uk) (length vs) (length vk)
+  pub fits : writeable t ≡ accepted → Fit (length keys) (length own) (length begin) (length total) (length order) (length us) (length uk) (length vs) (length vk)
   fits e =
       let front = (both-done (ask (axes_known d) Dims then ask (counts_fit t) Count then ask (columns_right t) Tree) (ask (rest_right t) Section) e).0 in
       let counts = (both-done (ask (axes_known d) Dims then ask (counts_fit t) Count) (ask (columns_right t) Tree) front).0 in
@@ -119,26 +118,20 @@ module _ (d : ℕ) (keys own begin total order us uk vs vk : List ℕ) where
 
   -- ---- the room
   module _ (room : ℕ) where
-    pub not-writeable : (x : Refusal) → writeable t ≡ Refused x → Refused x ≡ write_check t room
+    pub not-writeable : (x : Refusal) → writeable t ≡ Err x → Err x ≡ write_check t room
     not-writeable x e = sym (after-refused (writeable t) (ask (leb (length (file_of t)) room) (Room 11)) x e)
 
-    module _ (done : writeable t ≡ Done) (bytes : ℕ) (is : bytes ≡ body_length (length keys) (length own) (length begin) (length total) (length order) (length us) (length uk) (length vs) (length vk)) where
+    module _ (done : writeable t ≡ accepted) (bytes : ℕ) (is : bytes ≡ body_length (length keys) (length own) (length begin) (length total) (length order) (length us) (length uk) (length vs) (length vk)) where
       size : length (file_of t) ≡ bytes + 116
       size = file-length t ∙ ap (λ (n : ℕ). n + 116) (sym is)
 
-      pub has_room : bytes + 116 ≤ room → Done ≡ write_check t room
+      pub has_room : bytes + 116 ≤ room → accepted ≡ write_check t room
       has_room h = sym (ap₂ (λ (o : Outcome) (b : Bool). o then ask b (Room 11)) done (le-leb (length (file_of t)) room (omega (arith, size))))
 
-      pub no_room : room < bytes + 116 → Refused (Room 11) ≡ write_check t room
+      pub no_room : room < bytes + 116 → Err (Room 11) ≡ write_check t room
       no_room h = sym (ap₂ (λ (o : Outcome) (b : Bool). o then ask b (Room 11)) done (lt-leb (length (file_of t)) room (omega (arith, size))))
 
-    pub checked : write_check t room ≡ Done → (writeable t ≡ Done) × (length (file_of t) ≤ room)
+    pub checked : write_check t room ≡ accepted → (writeable t ≡ accepted) × (length (file_of t) ≤ room)
     checked e =
         let (a, b) = both-done (writeable t) (ask (leb (length (file_of t)) room) (Room 11)) e in
         (a, leb-true (length (file_of t)) room (asked (leb (length (file_of t)) room) (Room 11) b))
-
-    pub answered : write_check t room ≡ Done → (n : ℕ) → n ≡ length (file_of t) → written.Length n ≡ write_answer t room
-    answered e n is = ap written.Length is ∙ sym (ap (λ (o : Outcome). length_or o (length (file_of t))) e)
-
-    pub refused : (x : Refusal) → write_check t room ≡ Refused x → written.Refused x ≡ write_answer t room
-    refused x e = sym (ap (λ (o : Outcome). length_or o (length (file_of t))) e)

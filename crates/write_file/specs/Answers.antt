@@ -1,27 +1,20 @@
 -- What the writer answers, and what it leaves in the slice lent for the file.
-use Rattle.std.specs.Prelude.{List, ℕ, leb, length}
+use Rattle.std.specs.Prelude.{List, ℕ, leb, length, Ok}
 use Rattle.refusal.specs.declared.Refusal.TheVariants.{Room}
-use Rattle.refusal.specs.declared.Outcome.{Outcome}
-use Rattle.refusal.specs.declared.Outcome.TheVariants.{Done, Refused}
 use Rattle.refusal.specs.Chain.{ask, ◌then◌}
 use Rattle.refusal.specs.Left.{left}
 use Rattle.tree_file.specs.Contents.{Contents}
 use Rattle.tree_file.specs.Written.{file_of}
 use Rattle.tree_file.specs.Checks.{writeable}
-use Rattle.write_file.specs.declared.Written.{Written}
-use Rattle.write_file.specs.declared.Written.TheVariants as written
+use Rattle.refusal.specs.Outcome.{Answer, Outcome}
 
 -- 1, 4, 13, 17, then 8 with value 11 for a slice that is shorter than the file
 abbrev pub write_check : Contents → ℕ → Outcome
 write_check t room = writeable t then ask (leb (length (file_of t)) room) (Room 11)
 
-abbrev pub length_or : Outcome → ℕ → Written
-length_or Done n = written.Length n
-length_or (Refused r) n = written.Refused r
-
 -- the file's length, or the refusal
-abbrev pub write_answer : Contents → ℕ → Written
-write_answer t room = length_or (write_check t room) (length (file_of t))
+abbrev pub write_answer : Contents → ℕ → Answer ℕ
+write_answer t room = write_check t room then Ok (length (file_of t))
 
 -- the file and then 0, or 0 throughout after a refusal
 abbrev pub write_left : Contents → ℕ → List ℕ

@@ -2,7 +2,7 @@
 
 // The writer of a tree file: document 02, order 6. Columns, order, U and V in nine sections, then the trailer.
 ghost use Rattle.std.specs.Prelude.{◌≡◌, ◌≤◌, max, length};
-ghost use Rattle.refusal.specs.declared.Outcome.TheVariants.{Done};
+ghost use Rattle.refusal.specs.Outcome.{accepted};
 ghost use Rattle.tree.specs.Columns.{columns};
 ghost use Rattle.sourced.specs.Answers.{tree_check};
 ghost use Rattle.tree_file.specs.Contents.{contents};
@@ -11,14 +11,7 @@ ghost use Rattle.file_layout.specs.Lengths.{body_length};
 ghost use Rattle.write_file.specs.Fitting.{lengths_fit};
 ghost use Rattle.write_file.specs.Answers.{write_check, write_answer, write_left};
 
-use refusal::{Outcome, Refusal};
-
-// The file's length, or a refusal.
-#[derive(Clone, Copy)]
-pub enum Written {
-    Length(usize),
-    Refused(Refusal),
-}
+use refusal::Refusal;
 
 fn larger(a: usize, b: usize) -> usize
     ensures { result ≡ max a b }
@@ -86,7 +79,7 @@ fn rest_right(
     v_starts: &[usize],
     v_keys: &[u64],
 ) -> bool
-    requires { tree_check axes (columns key.now own.now begin.now total.now) ≡ Done }
+    requires { tree_check axes (columns key.now own.now begin.now total.now) ≡ accepted }
     ensures { result ≡ rest_right (contents axes key.now own.now begin.now total.now indices.now
         u_starts.now u_keys.now v_starts.now v_keys.now) }
 {
@@ -108,12 +101,12 @@ fn tree_outcome(
     u_keys: &[u64],
     v_starts: &[usize],
     v_keys: &[u64],
-) -> Outcome
+) -> Result<(), Refusal>
     ensures { result ≡ writeable (contents axes key.now own.now begin.now total.now indices.now
         u_starts.now u_keys.now v_starts.now v_keys.now) }
 {
     if !axes::axes_known(axes) {
-        return Outcome::Refused(Refusal::Dims);
+        return Err(Refusal::Dims);
     }
     if !lengths_fit(
         key.len(),
@@ -126,18 +119,15 @@ fn tree_outcome(
         v_starts.len(),
         v_keys.len(),
     ) {
-        return Outcome::Refused(Refusal::Count);
+        return Err(Refusal::Count);
     }
-    let checked = sourced::check_tree(axes, key, own, begin, total);
-    if let Outcome::Refused(refusal) = checked {
-        return Outcome::Refused(refusal);
-    }
+    sourced::check_tree(axes, key, own, begin, total)?;
     if rest_right(
         axes, key, own, begin, total, indices, u_starts, u_keys, v_starts, v_keys,
     ) {
-        return Outcome::Done;
+        return Ok(());
     }
-    Outcome::Refused(Refusal::Section)
+    Err(Refusal::Section)
 }
 
 // The refusals of all arguments, with so much room for the file.
@@ -153,16 +143,13 @@ fn write_outcome(
     v_starts: &[usize],
     v_keys: &[u64],
     room: usize,
-) -> Outcome
+) -> Result<(), Refusal>
     ensures { result ≡ write_check (contents axes key.now own.now begin.now total.now indices.now
         u_starts.now u_keys.now v_starts.now v_keys.now) room }
 {
-    let checked = tree_outcome(
+    tree_outcome(
         axes, key, own, begin, total, indices, u_starts, u_keys, v_starts, v_keys,
-    );
-    if let Outcome::Refused(refusal) = checked {
-        return Outcome::Refused(refusal);
-    }
+    )?;
     let bytes = body_length(
         key.len(),
         own.len(),
@@ -175,9 +162,9 @@ fn write_outcome(
         v_keys.len(),
     );
     if bytes + 116 <= room {
-        return Outcome::Done;
+        return Ok(());
     }
-    Outcome::Refused(Refusal::Room(11))
+    Err(Refusal::Room(11))
 }
 
 // Writes a tree's file into the lent slice, and answers its length.
@@ -193,7 +180,7 @@ pub fn write_tree(
     v_starts: &[usize],
     v_keys: &[u64],
     file: &mut [u8],
-) -> Written
+) -> Result<usize, Refusal>
     ensures answer { result ≡ write_answer (contents axes key.now own.now begin.now total.now indices.now
         u_starts.now u_keys.now v_starts.now v_keys.now) (length file.old) }
     ensures file { file.new ≡ write_left (contents axes key.now own.now begin.now total.now indices.now
@@ -212,13 +199,13 @@ pub fn write_tree(
         v_keys,
         file.len(),
     );
-    if let Outcome::Refused(refusal) = checked {
+    if let Err(refusal) = checked {
         file_bytes::clear(file);
-        return Written::Refused(refusal);
+        return Err(refusal);
     }
     let bytes = file_layout::put_file(
         axes, key, own, begin, total, indices, u_starts, u_keys, v_starts, v_keys, file,
     );
     file_bytes::clear_from(file, bytes);
-    Written::Length(bytes)
+    Ok(bytes)
 }

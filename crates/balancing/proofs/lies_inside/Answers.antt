@@ -2,7 +2,6 @@
 use mathlib.Core.Path.{ap₂, ◌∙◌}
 use Prim.Native.Nat.{◌-◌}
 use native.Mathlib.Omega.{arith}
-use borrow.Author.Tests.{not-true, not-false}
 use Rattle.anchors.proofs.Placing.{held_at, anchor-small}
 use Rattle.morton.specs.Keys.{level_of}
 use Rattle.balance.specs.Splitting.{off}
@@ -13,7 +12,7 @@ pub returns-then-deeper-level : goal.returns-then-deeper-level
 returns-then-deeper-level c = larger c.args.axes c.args.r c.args.p c.if-deeper-level.true
 
 pub loop-n-init : goal.loop-n-init
-loop-n-init c = (omega arith, by-axes c.args.axes c.args.r c.args.p c.if-deeper-level.false)
+loop-n-init c = by-axes c.args.axes c.args.r c.args.p c.if-deeper-level.false
 
 pub is_off-requires : goal.is_off-requires
 is_off-requires c = let m = c.loop-n.n - 1 in
@@ -25,13 +24,13 @@ pub returns-then-not-is_off : goal.returns-then-not-is_off
 returns-then-not-is_off c = let m = c.loop-n.n - 1 in
     let x = held_at c.args.axes c.args.r _ c.requires.2 m (omega arith) in
     let y = held_at c.args.axes c.args.p _ c.anchors_of-at.ensures m (omega arith) in
-    axis-fails c.args.axes c.args.r c.args.p c.loop-n.n m (omega arith) _ (c.is_off.ensures ∙ ap₂ (off (level_of c.args.p - level_of c.args.r)) x y) c.loop-n.invariant.1 (c.if-not-is_off.true)
+    axis-fails c.args.axes c.args.r c.args.p c.loop-n.n m (omega arith) _ (c.is_off.ensures ∙ ap₂ (off (level_of c.args.p - level_of c.args.r)) x y) c.loop-n.invariant (c.if-not-is_off.true)
 
 pub loop-n-preserved : goal.loop-n-preserved
 loop-n-preserved c = let m = c.loop-n.n - 1 in
     let x = held_at c.args.axes c.args.r _ c.requires.2 m (omega arith) in
     let y = held_at c.args.axes c.args.p _ c.anchors_of-at.ensures m (omega arith) in
-    (omega arith, axis-passes c.args.axes c.args.r c.args.p c.loop-n.n m (omega arith) _ (c.is_off.ensures ∙ ap₂ (off (level_of c.args.p - level_of c.args.r)) x y) c.loop-n.invariant.1 (c.if-not-is_off.false))
+    axis-passes c.args.axes c.args.r c.args.p c.loop-n.n m (omega arith) _ (c.is_off.ensures ∙ ap₂ (off (level_of c.args.p - level_of c.args.r)) x y) c.loop-n.invariant c.if-not-is_off.false
 
 pub returns : goal.returns
-returns c = axes-done c.args.axes c.args.r c.args.p c.loop-n.n (omega arith) c.loop-n.invariant.1
+returns c = axes-done c.args.axes c.args.r c.args.p c.loop-n.n (omega arith) c.loop-n.invariant

@@ -1,34 +1,15 @@
 -- `balancing::must_split` meets its contract: the neighbours that are still to come tell what all tell.
-use native.Mathlib.Omega.{arith}
 use Rattle.balancing.proofs.Forced.{must-split, looked-none, looked-hit, looked-more, looked-all}
 use Rattle.balancing.proofs.must_split.Goals as goal
-
-pub is_split_cell-requires : goal.is_split_cell-requires
-is_split_cell-requires c = c.requires.0
 
 pub returns-then-is_split_cell : goal.returns-then-is_split_cell
 returns-then-is_split_cell c = must-split c.args.axes c.args.key.now c.requires.0 c.args.r c.requires.1 _ c.is_split_cell.ensures c.if-is_split_cell.true
 
-pub anchors_of-from-requires : goal.anchors_of-from-requires
-anchors_of-from-requires c = c.requires.1
-
 pub loop-i-init : goal.loop-i-init
-loop-i-init c = looked-none c.args.axes c.args.key.now c.requires.0 c.args.r c.requires.1 _ c.get_neighbours-list.ensures _ c.is_split_cell.ensures c.if-is_split_cell.false
-
-pub bounds-others-i : goal.bounds-others-i
-bounds-others-i c = omega (arith, c.loop-i-test.true, c.loop-i.invariant.most)
-
-pub is_forced_by-requires : goal.is_forced_by-requires
-is_forced_by-requires c = (c.requires.0, c.requires.1, c.anchors_of-from.ensures)
+loop-i-init c = looked-none c.args.axes c.args.key.now c.requires.0 c.args.r c.requires.1 _ c.list_neighbours-list.ensures _ c.is_split_cell.ensures c.if-is_split_cell.false
 
 pub returns-then-is_forced_by : goal.returns-then-is_forced_by
 returns-then-is_forced_by c = looked-hit c.args.axes c.args.key.now c.requires.0 c.args.r c.requires.1 _ _ _ c.loop-i.invariant c.loop-i-test.true _ c.is_forced_by.ensures c.if-is_forced_by.true
-
-pub overflow_add-i : goal.overflow_add-i
-overflow_add-i c = omega (arith, c.loop-i-test.true, c.loop-i.invariant.most)
-
-pub loop-i-smaller : goal.loop-i-smaller
-loop-i-smaller c = omega (arith, c.loop-i-test.true)
 
 pub loop-i-preserved : goal.loop-i-preserved
 loop-i-preserved c = looked-more c.args.axes c.args.key.now c.requires.0 c.args.r c.requires.1 _ _ _ c.loop-i.invariant c.loop-i-test.true _ c.is_forced_by.ensures c.if-is_forced_by.false

@@ -4,6 +4,3 @@ use Rattle.balancing.proofs.next_after.Given as goal
 
 abbrev pub invariant-loop-level : goal.invariant-loop-level
 invariant-loop-level l = Climbing l.axes l.k l.level l.code
-
-abbrev pub decreases-loop-level : goal.decreases-loop-level
-decreases-loop-level l = l.level

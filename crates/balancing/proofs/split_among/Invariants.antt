@@ -6,6 +6,3 @@ use Rattle.balancing.proofs.split_among.Given as goal
 
 abbrev pub invariant-loop-i : goal.invariant-loop-i
 invariant-loop-i l = (l.i ≤ l.end) × (split_among l.axes l.key l.r l.i (l.end - l.i) ≡ split_among l.axes l.key l.r l.first (l.end - l.first))
-
-abbrev pub decreases-loop-i : goal.decreases-loop-i
-decreases-loop-i l = l.end - l.i

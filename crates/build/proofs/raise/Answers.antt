@@ -1,19 +1,29 @@
 -- `build::raise` meets its contract.
 use mathlib.Core.Path.{refl, sym, ◌∙◌}
+use Prim.Native.Nat.{◌≤◌}
 use native.Mathlib.Omega.{arith}
 use Rattle.filling.specs.Slices.{slices}
 use Rattle.build.specs.Asked.{asks_at}
 use Rattle.build.specs.Outcomes.{rooms}
-use Rattle.build.proofs.Columns.{Long, rows-put, ended, done-is}
+use Rattle.build.proofs.Columns.{Long, rows-started, with-room, ended}
 use Rattle.build.proofs.raise.Goals as goal
 
 pub start-started-requires : goal.start-started-requires
 start-started-requires c = omega (arith, c.node_room-room.ensures)
 
-pub fill_or_clear-depth-requires : goal.fill_or_clear-depth-requires
-fill_or_clear-depth-requires c = let from = slices c.start-started.new.work c.start-started.new.indices c.start-started.new.key c.args.own.now c.args.begin.now c.start-started.new.mark in
+pub fill_or_clear-requires : goal.fill_or_clear-requires
+fill_or_clear-requires c =
+    let from = slices c.start-started.new.work c.start-started.new.indices c.start-started.new.key c.args.own.now c.args.begin.now c.start-started.new.mark in
     let long : Long (rooms c.args.work.now c.args.indices.now c.args.key.now c.args.own.now c.args.begin.now c.args.total.now) from = record { work = c.start-started.auto.work; order = c.start-started.auto.indices; keys = c.start-started.auto.key; own = refl; begins = refl; totals = c.start-started.auto.mark } in
-    λ e. rows-put (asks_at c.args.b c.args.limit c.args.order c.args.keep c.args.sources.now c.args.targets.now c.args.sited c.args.grid) c.node_room-room.result c.start-started.result.rows c.start-started.result.nodes (rooms c.args.work.now c.args.indices.now c.args.key.now c.args.own.now c.args.begin.now c.args.total.now) from long c.node_room-room.ensures (c.start-started.ensures.tree_started (done-is c.start-started.result.outcome (sym c.start-started.ensures.put_value ∙ e)) (omega (arith, c.node_room-room.ensures)) (omega (arith, c.node_room-room.ensures)))
+    rows-started (asks_at c.args.b c.args.limit c.args.order c.args.keep c.args.sources.now c.args.targets.now c.args.sited c.args.grid) c.node_room-room.result (rooms c.args.work.now c.args.indices.now c.args.key.now c.args.own.now c.args.begin.now c.args.total.now) from long c.node_room-room.ensures c.start-started.result
+    (with-room (asks_at c.args.b c.args.limit c.args.order c.args.keep c.args.sources.now c.args.targets.now c.args.sited c.args.grid) c.node_room-room.result from _ _ c.start-started.result c.start-started.ensures.tree_started (omega (arith, c.node_room-room.ensures)) (omega (arith, c.node_room-room.ensures)))
 
 pub returns : goal.returns
-returns c = let from = slices c.start-started.new.work c.start-started.new.indices c.start-started.new.key c.args.own.now c.args.begin.now c.start-started.new.mark in let long : Long (rooms c.args.work.now c.args.indices.now c.args.key.now c.args.own.now c.args.begin.now c.args.total.now) from = record { work = c.start-started.auto.work; order = c.start-started.auto.indices; keys = c.start-started.auto.key; own = refl; begins = refl; totals = c.start-started.auto.mark } in let to = slices c.fill_or_clear-depth.new.work c.fill_or_clear-depth.new.indices c.fill_or_clear-depth.new.key c.fill_or_clear-depth.new.own c.fill_or_clear-depth.new.begin c.fill_or_clear-depth.new.total in let all = ended (asks_at c.args.b c.args.limit c.args.order c.args.keep c.args.sources.now c.args.targets.now c.args.sited c.args.grid) (rooms c.args.work.now c.args.indices.now c.args.key.now c.args.own.now c.args.begin.now c.args.total.now) from to long c.start-started.result.outcome c.start-started.result.put c.node_room-room.result c.start-started.result.rows c.start-started.result.nodes c.fill_or_clear-depth.result c.node_room-room.ensures c.start-started.ensures.outcome_value c.start-started.ensures.put_value (λ d. c.start-started.ensures.tree_started d (omega (arith, c.node_room-room.ensures)) (omega (arith, c.node_room-room.ensures))) c.fill_or_clear-depth.ensures.filled c.fill_or_clear-depth.ensures.cleared in record { value = c.answer_of.ensures ∙ all.0; work_after = all.1.0; indices_after = all.1.1.0; key_after = all.1.1.1.0; own_after = all.1.1.1.1.0; begin_after = all.1.1.1.1.1.0; total_after = all.1.1.1.1.1.1 }
+returns c =
+    let from = slices c.start-started.new.work c.start-started.new.indices c.start-started.new.key c.args.own.now c.args.begin.now c.start-started.new.mark in
+    let to = slices c.fill_or_clear.new.work c.fill_or_clear.new.indices c.fill_or_clear.new.key c.fill_or_clear.new.own c.fill_or_clear.new.begin c.fill_or_clear.new.total in
+    let long : Long (rooms c.args.work.now c.args.indices.now c.args.key.now c.args.own.now c.args.begin.now c.args.total.now) from = record { work = c.start-started.auto.work; order = c.start-started.auto.indices; keys = c.start-started.auto.key; own = refl; begins = refl; totals = c.start-started.auto.mark } in
+    let all = ended (asks_at c.args.b c.args.limit c.args.order c.args.keep c.args.sources.now c.args.targets.now c.args.sited c.args.grid) (rooms c.args.work.now c.args.indices.now c.args.key.now c.args.own.now c.args.begin.now c.args.total.now) from to long c.start-started.result c.node_room-room.result c.node_room-room.ensures c.start-started.ensures.outcome_value
+    (with-room (asks_at c.args.b c.args.limit c.args.order c.args.keep c.args.sources.now c.args.targets.now c.args.sited c.args.grid) c.node_room-room.result from _ _ c.start-started.result c.start-started.ensures.tree_started (omega (arith, c.node_room-room.ensures)) (omega (arith, c.node_room-room.ensures)))
+    c.fill_or_clear.result c.fill_or_clear.ensures.value c.fill_or_clear.ensures.slices_after in
+    record { value = all.0; work_after = all.1.0; indices_after = all.1.1.0; key_after = all.1.1.1.0; own_after = all.1.1.1.1.0; begin_after = all.1.1.1.1.1.0; total_after = all.1.1.1.1.1.1 }

@@ -11,11 +11,11 @@ bounds-sums-0 c = omega (arith, c.requires.2)
 pub loop-i-init : goal.loop-i-init
 loop-i-init c = (refl, fill_start c.args.indices.now c.args.readings.now c.args.sums.now c.requires.2)
 
-pub offset_bounds-readings-indices : goal.offset_bounds-readings-indices
-offset_bounds-readings-indices c = omega (arith, c.requires.0.indexed c.loop-i.i c.loop-i-test.true, c.well_formed.1.0)
+pub offset_bounds-readings-index : goal.offset_bounds-readings-index
+offset_bounds-readings-index c = omega (arith, c.requires.0.indexed c.loop-i.i c.loop-i-test.true, c.well_formed.1.0)
 
-pub bounds-readings-indices : goal.bounds-readings-indices
-bounds-readings-indices c = c.requires.0.indexed c.loop-i.i c.loop-i-test.true
+pub bounds-readings-index : goal.bounds-readings-index
+bounds-readings-index c = c.requires.0.indexed c.loop-i.i c.loop-i-test.true
 
 pub lifted-sum-requires : goal.lifted-sum-requires
 lifted-sum-requires c = fill-asks c.args.indices.now c.args.readings.now c.requires.0 c.requires.1 c.loop-i.sums c.loop-i.sum c.loop-i.i c.loop-i.invariant.1 c.loop-i-test.true

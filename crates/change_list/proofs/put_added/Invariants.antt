@@ -9,6 +9,3 @@ use Rattle.change_list.proofs.put_added.Given as goal
 
 abbrev pub invariant-loop-q : goal.invariant-loop-q
 invariant-loop-q l = (l.q ≤ length l.nodes) × Puts l.initial.changed l.from (picked (λ j. get_or l.nodes j 0) (λ j. eqb (get_or l.firsts j 0) 0) l.q) l.changed l.n × (length l.changed ≡ length l.initial.changed)
-
-abbrev pub decreases-loop-q : goal.decreases-loop-q
-decreases-loop-q l = length l.nodes - l.q

@@ -9,6 +9,3 @@ use Rattle.changed_rows.proofs.put_rows.Given as goal
 
 abbrev pub invariant-loop-row : goal.invariant-loop-row
 invariant-loop-row l = (l.row ≤ length l.key) × Puts l.initial.changed l.from (picked (key_in (beside l.axes l.key l.own l.begin l.nodes l.counts l.begins)) (told_row (beside l.axes l.key l.own l.begin l.nodes l.counts l.begins) l.code) l.row) l.changed l.n × (length l.changed ≡ length l.initial.changed)
-
-abbrev pub decreases-loop-row : goal.decreases-loop-row
-decreases-loop-row l = length l.key - l.row

@@ -7,7 +7,7 @@ pub returns-in-1 : goal.returns-in-1
 returns-in-1 c = anchors-one c.args.axes c.args.code (omega arith) c.requires.2
 
 pub returns-in-2 : goal.returns-in-2
-returns-in-2 c = anchors-two c.args.axes c.args.code _ _ (omega arith) c.gather_2.ensures c.gather_2-in-2.ensures
+returns-in-2 c = anchors-two c.args.axes c.args.code _ _ c.in-2.is c.requires.2 c.gather.ensures c.gather-in-2.ensures
 
 pub returns-in_default : goal.returns-in_default
-returns-in_default c = anchors-three c.args.axes c.args.code _ _ _ (omega arith) c.gather_3.ensures c.gather_3-in_default.ensures c.gather_3-in_default-2.ensures
+returns-in_default c = anchors-three c.args.axes c.args.code _ _ _ (omega arith) c.requires.2 c.gather-in_default.ensures c.gather-in_default-2.ensures c.gather-in_default-3.ensures

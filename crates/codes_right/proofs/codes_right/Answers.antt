@@ -3,7 +3,6 @@ use mathlib.Core.Path.{sym, ◌∙◌}
 use mathlib.Core.List.{[]}
 use native.Mathlib.Omega.{arith}
 use lib.ListN.{length}
-use borrow.Author.Tests.{not-true, not-false}
 use Rattle.sums.proofs.Tells.{tell-true, tell-false}
 use Rattle.points_right.specs.Points.{code_in}
 use Rattle.points_right.proofs.Runs.{before-start, before_more, before-done}

@@ -1,12 +1,8 @@
 -- `codes_right::run_right` meets its contract.
 use lib.ListN.{length}
-use Prim.Native.Nat.{◌-◌}
 use Rattle.points_right.specs.Points.{code_in}
 use Rattle.points_right.proofs.Runs.{Upto}
 use Rattle.codes_right.proofs.run_right.Given as goal
 
 abbrev pub invariant-loop-p : goal.invariant-loop-p
 invariant-loop-p l = Upto (length l.codes) (code_in l.axes l.codes) l.order l.k l.from l.low l.p
-
-abbrev pub decreases-loop-p : goal.decreases-loop-p
-decreases-loop-p l = l.to - l.p

@@ -1,13 +1,8 @@
 -- `descent::put_under` meets its contract. The owners under the nodes passed have been put.
-use mathlib.Core.Path.{◌≡◌}
-use Prim.Native.Nat.{◌-◌, ◌≤◌}
-use lib.ListN.{length, take}
+use lib.ListN.{take}
 use Rattle.sourced.specs.Room.{PutsThose}
 use Rattle.descent.specs.Owners.{owns_below}
 use Rattle.descent.proofs.put_under.Given as goal
 
 abbrev pub invariant-loop-j : goal.invariant-loop-j
-invariant-loop-j l = (length l.out ≡ length l.initial.out) × (l.j ≤ l.c) × PutsThose l.key (owns_below l.axes l.key l.own (take l.j l.nodes)) l.initial.out l.n l.out l.m
-
-abbrev pub decreases-loop-j : goal.decreases-loop-j
-decreases-loop-j l = l.c - l.j
+invariant-loop-j l = PutsThose l.key (owns_below l.axes l.key l.own (take l.j l.nodes)) l.initial.out l.n l.out l.m

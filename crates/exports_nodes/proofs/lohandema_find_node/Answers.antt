@@ -11,8 +11,8 @@ returns-then-not-axes_known c = (refl, λ known o. absurd (clash known (sym c.ax
 pub find_node-found-requires : goal.find_node-found-requires
 find_node-found-requires c = sym c.axes_known.ensures ∙ c.if-not-axes_known.false
 
-pub returns-in-At : goal.returns-in-At
-returns-in-At c = found_at c.args.axes c.args.key.now c.args.wanted c.find_node-found.result c.find_node-found.ensures _ c.in-At.is
+pub returns-in-Some : goal.returns-in-Some
+returns-in-Some c = found_at c.args.axes c.args.key.now c.args.wanted c.find_node-found.result c.find_node-found.ensures _ c.in-Some.is
 
-pub returns-in-Nothing : goal.returns-in-Nothing
-returns-in-Nothing c = (refl, λ known o. found_none c.args.axes c.args.key.now c.args.wanted c.find_node-found.result c.find_node-found.ensures c.in-Nothing.is o)
+pub returns-in-None : goal.returns-in-None
+returns-in-None c = (refl, λ known o. found_none c.args.axes c.args.key.now c.args.wanted c.find_node-found.result c.find_node-found.ensures c.in-None.is o)

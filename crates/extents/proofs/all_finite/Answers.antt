@@ -1,18 +1,11 @@
--- `extents::all_finite` meets its contract: the rest decides.
-use mathlib.Core.Path.{refl, ◌∙◌}
-use native.Mathlib.Omega.{arith}
-use borrow.Author.Tests.{not-true, not-false}
-use Rattle.extents.proofs.Spans.{finite-next, finite-stop, finite-all}
+-- `extents::all_finite` meets its contract.
+use Rattle.std.proofs.Common.{rules, tests}
+use Rattle.std.proofs.lemmas.Iterator.Search.{all_from_yields_List}
+use Rattle.std.proofs.lemmas.Iterator.{YieldsList-from_slice}
+use mathlib.Core.Path.{◌∙◌}
+use Rattle.space.specs.Floats.{is_finite}
+use Rattle.extents.proofs.Spans.{finite_is}
 use Rattle.extents.proofs.all_finite.Goals as goal
 
-pub loop-i-init : goal.loop-i-init
-loop-i-init c = (omega arith, refl)
-
-pub returns-then-not-is_finite : goal.returns-then-not-is_finite
-returns-then-not-is_finite c = finite-stop c.args.extents.now c.loop-i.i c.is_finite.result c.loop-i-test.true c.is_finite.ensures (c.if-not-is_finite.true) ∙ c.loop-i.invariant.1
-
-pub loop-i-preserved : goal.loop-i-preserved
-loop-i-preserved c = (omega arith, finite-next c.args.extents.now c.loop-i.i c.is_finite.result c.loop-i-test.true c.is_finite.ensures (c.if-not-is_finite.false) ∙ c.loop-i.invariant.1)
-
 pub returns : goal.returns
-returns c = finite-all c.args.extents.now c.loop-i.i c.loop-i.invariant.0 c.loop-i-test.false ∙ c.loop-i.invariant.1
+returns c = all_from_yields_List is_finite _ _ c.all.result c.all.ensures.ran (YieldsList-from_slice c.args.extents.now cc) (λ x b q k. search (rules, tests)) ∙ finite_is c.args.extents.now

@@ -11,13 +11,13 @@ unfolding nan_bits
 float_from_bits-radius c = tt
 
 pub loop-a-init : goal.loop-a-init
-loop-a-init c = (omega arith, largest-none _ _)
+loop-a-init c = largest-none _ _
 
 pub reach_on-requires : goal.reach_on-requires
 reach_on-requires c = omega (arith, c.requires, c.loop-a-test.true)
 
 pub loop-a-preserved : goal.loop-a-preserved
-loop-a-preserved c = (omega (arith, c.loop-a-test.true), largest-more c.args.extents.now c.args.d c.loop-a.a c.loop-a.radius c.reach_on.result c.larger_of-radius.result c.loop-a.invariant.1 c.reach_on.ensures c.larger_of-radius.ensures)
+loop-a-preserved c = largest-more c.args.extents.now c.args.d c.loop-a.a c.loop-a.radius c.reach_on.result c.larger_of-radius.result c.loop-a.invariant c.reach_on.ensures c.larger_of-radius.ensures
 
 pub returns : goal.returns
-returns c = let e : c.loop-a.a ≡ c.args.d = omega (arith, c.loop-a.invariant.0, c.loop-a-test.false) in c.loop-a.invariant.1 ∙ ap (λ n. largest n c.args.extents.now c.args.d) e
+returns c = let e : c.loop-a.a ≡ c.args.d = omega arith in c.loop-a.invariant ∙ ap (λ n. largest n c.args.extents.now c.args.d) e

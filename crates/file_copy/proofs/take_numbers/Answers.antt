@@ -13,9 +13,6 @@ loop-i-init c = taking-none (column_in c.args.file.now c.args.code) _ c.requires
 pub number_of-requires : goal.number_of-requires
 number_of-requires c = (c.requires.0, c.requires.1, c.requires.2, c.requires.3)
 
-pub loop-i-smaller : goal.loop-i-smaller
-loop-i-smaller c = omega (arith, c.loop-i-test.true, c.count_of-n.ensures)
-
 pub loop-i-preserved : goal.loop-i-preserved
 loop-i-preserved c = taking-more (column_in c.args.file.now c.args.code) _ _ c.loop-i.i c.loop-i.invariant (omega (arith, c.loop-i-test.true, c.count_of-n.ensures)) _ c.number_of.ensures
 

@@ -1,12 +1,7 @@
 -- `file_copy::take_numbers` meets its contract.
-use Prim.Native.Nat.{◌-◌}
-use lib.ListN.{length}
 use Rattle.tree_file.specs.Trailer.{column_in}
 use Rattle.file_copy.proofs.Taking.{Taking}
 use Rattle.file_copy.proofs.take_numbers.Given as goal
 
 abbrev pub invariant-loop-i : goal.invariant-loop-i
 invariant-loop-i l = Taking (column_in l.file l.code) l.initial.out l.out l.i
-
-abbrev pub decreases-loop-i : goal.decreases-loop-i
-decreases-loop-i l = length (column_in l.file l.code) - l.i

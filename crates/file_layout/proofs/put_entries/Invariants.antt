@@ -1,10 +1,6 @@
 -- `file_layout::put_entries` meets its contract.
-use Prim.Native.Nat.{◌-◌}
 use Rattle.file_layout.proofs.Putting.{Entering}
 use Rattle.file_layout.proofs.put_entries.Given as goal
 
 abbrev pub invariant-loop-i : goal.invariant-loop-i
 invariant-loop-i l = Entering l.lengths l.at l.initial.file l.file l.back l.i
-
-abbrev pub decreases-loop-i : goal.decreases-loop-i
-decreases-loop-i l = 9 - l.i

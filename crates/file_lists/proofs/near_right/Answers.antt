@@ -22,17 +22,17 @@ is_leaf-requires c = (c.requires.sectioned.0, tree-keys c.args.s.axes (column_in
 pub returns-then-not-is_leaf : goal.returns-then-not-is_leaf
 returns-then-not-is_leaf c = inner-tells c.args.s.axes (column_in c.args.file.now 1) (column_in c.args.file.now 2) (column_in c.args.file.now 4) (column_in c.args.file.now 6) (column_in c.args.file.now 7) c.args.node c.args.met c.requires.sectioned.2 c.requires.below.0.within c.number_of-from.result c.number_of-to.result c.number_of-from.ensures c.number_of-to.ensures (sym c.is_leaf.ensures ∙ c.if-not-is_leaf.true)
 
-pub row_sources-brought-requires : goal.row_sources-brought-requires
-row_sources-brought-requires c = record { sectioned = (c.requires.sectioned.0, omega arith, omega arith, refl); from_le_to = (row_up (column_in c.args.file.now 1) (column_in c.args.file.now 6) (column_in c.args.file.now 7) c.requires.sectioned.2 c.args.node c.requires.below.0.within c.number_of-from.result c.number_of-to.result c.number_of-from.ensures c.number_of-to.ensures, row_in (column_in c.args.file.now 1) (column_in c.args.file.now 6) (column_in c.args.file.now 7) c.requires.sectioned.2 c.args.node c.requires.below.0.within c.number_of-from.result c.number_of-to.result c.number_of-from.ensures c.number_of-to.ensures); counted = (c.requires.sectioned.1, c.requires.below.1) }
+pub row_sources-requires : goal.row_sources-requires
+row_sources-requires c = record { sectioned = (c.requires.sectioned.0, omega arith, omega arith, refl); from_le_to = (row_up (column_in c.args.file.now 1) (column_in c.args.file.now 6) (column_in c.args.file.now 7) c.requires.sectioned.2 c.args.node c.requires.below.0.within c.number_of-from.result c.number_of-to.result c.number_of-from.ensures c.number_of-to.ensures, row_in (column_in c.args.file.now 1) (column_in c.args.file.now 6) (column_in c.args.file.now 7) c.requires.sectioned.2 c.args.node c.requires.below.0.within c.number_of-from.result c.number_of-to.result c.number_of-from.ensures c.number_of-to.ensures); counted = (c.requires.sectioned.1, c.requires.below.1) }
 
 pub returns-in_default : goal.returns-in_default
-returns-in_default c = near-lost c.args.s.axes (column_in c.args.file.now 1) (column_in c.args.file.now 2) (column_in c.args.file.now 4) (column_in c.args.file.now 6) (column_in c.args.file.now 7) c.args.node c.args.met c.requires.sectioned.2 c.requires.below.0.within c.number_of-from.result c.number_of-to.result c.number_of-from.ensures c.number_of-to.ensures (sym c.is_leaf.ensures ∙ c.if-not-is_leaf.false) c.args.row.cell c.requires.below.2 c.row_sources-brought.result c.row_sources-brought.ensures c.in_default.is
+returns-in_default c = near-lost c.args.s.axes (column_in c.args.file.now 1) (column_in c.args.file.now 2) (column_in c.args.file.now 4) (column_in c.args.file.now 6) (column_in c.args.file.now 7) c.args.node c.args.met c.requires.sectioned.2 c.requires.below.0.within c.number_of-from.result c.number_of-to.result c.number_of-from.ensures c.number_of-to.ensures (sym c.is_leaf.ensures ∙ c.if-not-is_leaf.false) c.args.row.cell c.requires.below.2 c.row_sources.result c.row_sources.ensures c.in_default.is
 
 pub number_of-all-requires : goal.number_of-all-requires
 number_of-all-requires c = (c.requires.sectioned.0, omega arith, omega arith, refl)
 
 pub overflow_add-result : goal.overflow_add-result
-overflow_add-result c = record { fits = omega (arith, near-small c.args.s.axes (column_in c.args.file.now 1) (column_in c.args.file.now 2) (column_in c.args.file.now 4) (column_in c.args.file.now 6) (column_in c.args.file.now 7) c.args.node c.args.met c.requires.sectioned.2 c.requires.below.0.within c.number_of-from.result c.number_of-to.result c.number_of-from.ensures c.number_of-to.ensures (sym c.is_leaf.ensures ∙ c.if-not-is_leaf.false) c.args.row.cell c.requires.below.2 c.row_sources-brought.result c.row_sources-brought.ensures _ c.in-At.is, c.requires.below.3) }
+overflow_add-result c = record { fits = omega (arith, near-small c.args.s.axes (column_in c.args.file.now 1) (column_in c.args.file.now 2) (column_in c.args.file.now 4) (column_in c.args.file.now 6) (column_in c.args.file.now 7) c.args.node c.args.met c.requires.sectioned.2 c.requires.below.0.within c.number_of-from.result c.number_of-to.result c.number_of-from.ensures c.number_of-to.ensures (sym c.is_leaf.ensures ∙ c.if-not-is_leaf.false) c.args.row.cell c.requires.below.2 c.row_sources.result c.row_sources.ensures _ c.in-Some.is, c.requires.below.3) }
 
 pub returns : goal.returns
-returns c = near-tells c.args.s.axes (column_in c.args.file.now 1) (column_in c.args.file.now 2) (column_in c.args.file.now 4) (column_in c.args.file.now 6) (column_in c.args.file.now 7) c.args.node c.args.met c.requires.sectioned.2 c.requires.below.0.within c.number_of-from.result c.number_of-to.result c.number_of-from.ensures c.number_of-to.ensures (sym c.is_leaf.ensures ∙ c.if-not-is_leaf.false) c.args.row.cell c.requires.below.2 c.row_sources-brought.result c.row_sources-brought.ensures _ c.in-At.is _ c.number_of-all.ensures
+returns c = near-tells c.args.s.axes (column_in c.args.file.now 1) (column_in c.args.file.now 2) (column_in c.args.file.now 4) (column_in c.args.file.now 6) (column_in c.args.file.now 7) c.args.node c.args.met c.requires.sectioned.2 c.requires.below.0.within c.number_of-from.result c.number_of-to.result c.number_of-from.ensures c.number_of-to.ensures (sym c.is_leaf.ensures ∙ c.if-not-is_leaf.false) c.args.row.cell c.requires.below.2 c.row_sources.result c.row_sources.ensures _ c.in-Some.is _ c.number_of-all.ensures

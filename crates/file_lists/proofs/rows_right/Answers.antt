@@ -35,11 +35,11 @@ offset_bounds-far-level c = omega (arith, (level_in c.args.s.axes (column_in c.a
 pub bounds-far-level : goal.bounds-far-level
 bounds-far-level c = omega (arith, (level_in c.args.s.axes (column_in c.args.file.now 1) (column_in c.args.file.now 2) (column_in c.args.file.now 4) (column_in c.args.file.now 6) (column_in c.args.file.now 7) (column_in c.args.file.now 8) (column_in c.args.file.now 9) c.requires.1 c.requires.2 c.loop-node.far c.loop-node.node c.loop-node.invariant (omega (arith, c.loop-node-test.true, c.count_of-n.ensures)) c.key_of-k.result c.key_of-k.ensures).1, c.loop-node.invariant.rides.size)
 
-pub node_sources-says-requires : goal.node_sources-says-requires
-node_sources-says-requires c = record { sectioned = (c.requires.0, c.requires.1, c.requires.2); below = (below c.args.s.axes (column_in c.args.file.now 1) (column_in c.args.file.now 2) (column_in c.args.file.now 4) (column_in c.args.file.now 6) (column_in c.args.file.now 7) (column_in c.args.file.now 8) (column_in c.args.file.now 9) c.requires.1 c.requires.2 c.loop-node.far c.loop-node.node c.loop-node.invariant (omega (arith, c.loop-node-test.true, c.count_of-n.ensures)) c.key_of-k.result c.key_of-k.ensures, above-small c.args.s.axes (column_in c.args.file.now 1) (column_in c.args.file.now 2) (column_in c.args.file.now 4) (column_in c.args.file.now 6) (column_in c.args.file.now 7) (column_in c.args.file.now 8) (column_in c.args.file.now 9) c.requires.1 c.requires.2 c.loop-node.far c.loop-node.node c.loop-node.invariant (omega (arith, c.loop-node-test.true, c.count_of-n.ensures)) c.key_of-k.result c.key_of-k.ensures) }
+pub node_sources-requires : goal.node_sources-requires
+node_sources-requires c = record { sectioned = (c.requires.0, c.requires.1, c.requires.2); below = (below c.args.s.axes (column_in c.args.file.now 1) (column_in c.args.file.now 2) (column_in c.args.file.now 4) (column_in c.args.file.now 6) (column_in c.args.file.now 7) (column_in c.args.file.now 8) (column_in c.args.file.now 9) c.requires.1 c.requires.2 c.loop-node.far c.loop-node.node c.loop-node.invariant (omega (arith, c.loop-node-test.true, c.count_of-n.ensures)) c.key_of-k.result c.key_of-k.ensures, above-small c.args.s.axes (column_in c.args.file.now 1) (column_in c.args.file.now 2) (column_in c.args.file.now 4) (column_in c.args.file.now 6) (column_in c.args.file.now 7) (column_in c.args.file.now 8) (column_in c.args.file.now 9) c.requires.1 c.requires.2 c.loop-node.far c.loop-node.node c.loop-node.invariant (omega (arith, c.loop-node-test.true, c.count_of-n.ensures)) c.key_of-k.result c.key_of-k.ensures) }
 
 pub returns-in_default : goal.returns-in_default
-returns-in_default c = fails c.args.s.axes (column_in c.args.file.now 1) (column_in c.args.file.now 2) (column_in c.args.file.now 4) (column_in c.args.file.now 6) (column_in c.args.file.now 7) (column_in c.args.file.now 8) (column_in c.args.file.now 9) c.requires.1 c.requires.2 c.loop-node.far c.loop-node.node c.loop-node.invariant (omega (arith, c.loop-node-test.true, c.count_of-n.ensures)) c.key_of-k.result c.key_of-k.ensures c.node_sources-says.result c.node_sources-says.ensures c.in_default.is
+returns-in_default c = fails c.args.s.axes (column_in c.args.file.now 1) (column_in c.args.file.now 2) (column_in c.args.file.now 4) (column_in c.args.file.now 6) (column_in c.args.file.now 7) (column_in c.args.file.now 8) (column_in c.args.file.now 9) c.requires.1 c.requires.2 c.loop-node.far c.loop-node.node c.loop-node.invariant (omega (arith, c.loop-node-test.true, c.count_of-n.ensures)) c.key_of-k.result c.key_of-k.ensures c.node_sources.result c.node_sources.ensures c.in_default.is
 
 pub offset_bounds-far-level-in-loop-node : goal.offset_bounds-far-level-in-loop-node
 offset_bounds-far-level-in-loop-node c = omega (arith, (level_in c.args.s.axes (column_in c.args.file.now 1) (column_in c.args.file.now 2) (column_in c.args.file.now 4) (column_in c.args.file.now 6) (column_in c.args.file.now 7) (column_in c.args.file.now 8) (column_in c.args.file.now 9) c.requires.1 c.requires.2 c.loop-node.far c.loop-node.node c.loop-node.invariant (omega (arith, c.loop-node-test.true, c.count_of-n.ensures)) c.key_of-k.result c.key_of-k.ensures).1)
@@ -47,11 +47,8 @@ offset_bounds-far-level-in-loop-node c = omega (arith, (level_in c.args.s.axes (
 pub bounds-far-level-in-loop-node : goal.bounds-far-level-in-loop-node
 bounds-far-level-in-loop-node c = omega (arith, (level_in c.args.s.axes (column_in c.args.file.now 1) (column_in c.args.file.now 2) (column_in c.args.file.now 4) (column_in c.args.file.now 6) (column_in c.args.file.now 7) (column_in c.args.file.now 8) (column_in c.args.file.now 9) c.requires.1 c.requires.2 c.loop-node.far c.loop-node.node c.loop-node.invariant (omega (arith, c.loop-node-test.true, c.count_of-n.ensures)) c.key_of-k.result c.key_of-k.ensures).1, c.loop-node.invariant.rides.size)
 
-pub loop-node-smaller : goal.loop-node-smaller
-loop-node-smaller c = omega (arith, c.loop-node-test.true, c.count_of-n.ensures)
-
 pub loop-node-preserved : goal.loop-node-preserved
-loop-node-preserved c = more c.args.s.axes (column_in c.args.file.now 1) (column_in c.args.file.now 2) (column_in c.args.file.now 4) (column_in c.args.file.now 6) (column_in c.args.file.now 7) (column_in c.args.file.now 8) (column_in c.args.file.now 9) c.requires.1 c.requires.2 c.loop-node.far c.loop-node.node c.loop-node.invariant (omega (arith, c.loop-node-test.true, c.count_of-n.ensures)) c.key_of-k.result c.key_of-k.ensures c.node_sources-says.result c.node_sources-says.ensures _ c.in-At.is
+loop-node-preserved c = more c.args.s.axes (column_in c.args.file.now 1) (column_in c.args.file.now 2) (column_in c.args.file.now 4) (column_in c.args.file.now 6) (column_in c.args.file.now 7) (column_in c.args.file.now 8) (column_in c.args.file.now 9) c.requires.1 c.requires.2 c.loop-node.far c.loop-node.node c.loop-node.invariant (omega (arith, c.loop-node-test.true, c.count_of-n.ensures)) c.key_of-k.result c.key_of-k.ensures c.node_sources.result c.node_sources.ensures _ c.in-Some.is
 
 pub returns : goal.returns
 returns c = done c.args.s.axes (column_in c.args.file.now 1) (column_in c.args.file.now 2) (column_in c.args.file.now 4) (column_in c.args.file.now 6) (column_in c.args.file.now 7) (column_in c.args.file.now 8) (column_in c.args.file.now 9) c.requires.1 c.requires.2 c.number_of-first_u.result c.number_of-first_v.result c.number_of-first_u.ensures c.number_of-first_v.ensures c.if-first_u-ne0.false c.if-first_v-ne0.false c.loop-node.far c.loop-node.node c.loop-node.invariant (omega (arith, c.loop-node-test.false, c.count_of-n.ensures))

@@ -1,7 +1,8 @@
 -- `file_lists::starts_right` meets its contract.
 use native.Mathlib.Omega.{arith}
-use mathlib.Core.Path.{sym, ◌∙◌}
+use mathlib.Core.Path.{◌≡◌, sym, ap, ◌∙◌}
 use Prim.Native.Nat.{◌+◌}
+use lib.ListN.{get_or}
 use Rattle.tree_file.specs.Trailer.{column_in}
 use Rattle.list_check.proofs.Starts.{rise-start, rise-more, rise-falls, rise-done, rise-ends}
 use Rattle.file_lists.proofs.Read.{few}
@@ -37,9 +38,6 @@ number_of-next-requires c = (c.requires.0, c.requires.1, omega (arith, c.require
 pub returns-then-next-here : goal.returns-then-next-here
 returns-then-next-here c = rise-falls (column_in c.args.file.now 1) (column_in c.args.file.now c.args.code) (column_in c.args.file.now (c.args.code + 1)) c.loop-i.i (omega (arith, c.loop-i-test.true, c.count_of-n.ensures)) (omega (arith, c.if-next-here.true, c.number_of-here.ensures, c.number_of-next.ensures))
 
-pub loop-i-smaller : goal.loop-i-smaller
-loop-i-smaller c = omega (arith, c.loop-i-test.true, c.count_of-n.ensures)
-
 pub loop-i-preserved : goal.loop-i-preserved
 loop-i-preserved c = rise-more (column_in c.args.file.now 1) (column_in c.args.file.now c.args.code) c.loop-i.i c.loop-i.invariant (omega (arith, c.loop-i-test.true, c.count_of-n.ensures)) (omega (arith, c.if-next-here.false, c.number_of-here.ensures, c.number_of-next.ensures))
 
@@ -50,7 +48,7 @@ pub count_of-flat-requires : goal.count_of-flat-requires
 count_of-flat-requires c = (c.requires.0, omega arith, omega (arith, c.requires.2))
 
 pub returns-then-last-flat : goal.returns-then-last-flat
-returns-then-last-flat c = rise-ends (column_in c.args.file.now 1) (column_in c.args.file.now c.args.code) (column_in c.args.file.now (c.args.code + 1)) c.loop-i.i c.loop-i.invariant (omega (arith, c.loop-i-test.false, c.count_of-n.ensures)) (λ e. c.if-last-flat.true (c.number_of-last.ensures ∙ e ∙ sym c.count_of-flat.ensures))
+returns-then-last-flat c = rise-ends (column_in c.args.file.now 1) (column_in c.args.file.now c.args.code) (column_in c.args.file.now (c.args.code + 1)) c.loop-i.i c.loop-i.invariant (omega (arith, c.loop-i-test.false, c.count_of-n.ensures)) (λ e. let end : c.count_of-n.result ≡ c.loop-i.i = omega arith in c.if-last-flat.true (c.number_of-last.ensures ∙ ap (λ k. get_or (column_in c.args.file.now c.args.code) k 0) end ∙ e ∙ sym c.count_of-flat.ensures))
 
 pub returns : goal.returns
-returns c = rise-done (column_in c.args.file.now 1) (column_in c.args.file.now c.args.code) (column_in c.args.file.now (c.args.code + 1)) c.loop-i.i c.loop-i.invariant (omega (arith, c.loop-i-test.false, c.count_of-n.ensures)) (omega (arith, c.if-count_of-n.false, c.count_of-n.ensures, c.count_of.ensures)) (sym c.number_of-first.ensures ∙ c.if-first-ne0.false) (sym c.number_of-last.ensures ∙ c.if-last-flat.false ∙ c.count_of-flat.ensures)
+returns c = rise-done (column_in c.args.file.now 1) (column_in c.args.file.now c.args.code) (column_in c.args.file.now (c.args.code + 1)) c.loop-i.i c.loop-i.invariant (omega (arith, c.loop-i-test.false, c.count_of-n.ensures)) (omega (arith, c.if-count_of-n.false, c.count_of-n.ensures, c.count_of.ensures)) (sym c.number_of-first.ensures ∙ c.if-first-ne0.false) (let end : c.loop-i.i ≡ c.count_of-n.result = omega arith in ap (λ k. get_or (column_in c.args.file.now c.args.code) k 0) end ∙ sym c.number_of-last.ensures ∙ c.if-last-flat.false ∙ c.count_of-flat.ensures)

@@ -17,9 +17,6 @@ number_of-index-requires c = (c.requires, omega arith, omega arith, refl)
 pub returns-then-n-index : goal.returns-then-n-index
 returns-then-n-index c = below_fails (column_in c.args.file.now 5) c.args.n c.loop-i.i (omega (arith, c.loop-i-test.true, c.count_of-count.ensures)) (omega (arith, c.if-n-index.true, c.number_of-index.ensures))
 
-pub loop-i-smaller : goal.loop-i-smaller
-loop-i-smaller c = omega (arith, c.loop-i-test.true, c.count_of-count.ensures)
-
 pub loop-i-preserved : goal.loop-i-preserved
 loop-i-preserved c = below_more (column_in c.args.file.now 5) c.args.n c.loop-i.i c.loop-i.invariant (omega (arith, c.loop-i-test.true, c.count_of-count.ensures)) (omega (arith, c.if-n-index.false, c.number_of-index.ensures))
 

@@ -16,35 +16,26 @@ loop-i-init c = mark-start (column_in c.args.file.now 5) c.args.from
 pub number_of-index-requires : goal.number_of-index-requires
 number_of-index-requires c = (c.requires, omega arith, omega arith, refl)
 
-pub loop-i-smaller-then-index-from : goal.loop-i-smaller-then-index-from
-loop-i-smaller-then-index-from c = omega (arith, c.loop-i-test.true, c.count_of-count.ensures)
-
 pub loop-i-preserved-then-index-from : goal.loop-i-preserved-then-index-from
 loop-i-preserved-then-index-from c = mark-past (column_in c.args.file.now 5) c.args.from c.loop-i.seen c.loop-i.i c.loop-i.invariant (omega (arith, c.loop-i-test.true, c.count_of-count.ensures)) (inl (omega (arith, c.if-index-from.true, c.number_of-index.ensures)))
 
-pub loop-i-smaller-then-index-from-ge-WINDOW : goal.loop-i-smaller-then-index-from-ge-WINDOW
-loop-i-smaller-then-index-from-ge-WINDOW c = omega (arith, c.loop-i-test.true, c.count_of-count.ensures)
-
-pub loop-i-preserved-then-index-from-ge-WINDOW : goal.loop-i-preserved-then-index-from-ge-WINDOW
-loop-i-preserved-then-index-from-ge-WINDOW c = mark-past (column_in c.args.file.now 5) c.args.from c.loop-i.seen c.loop-i.i c.loop-i.invariant (omega (arith, c.loop-i-test.true, c.count_of-count.ensures)) (inr (omega (arith, c.if-index-from-ge-WINDOW.true, c.number_of-index.ensures)))
+pub loop-i-preserved-then-at-ge-WINDOW : goal.loop-i-preserved-then-at-ge-WINDOW
+loop-i-preserved-then-at-ge-WINDOW c = mark-past (column_in c.args.file.now 5) c.args.from c.loop-i.seen c.loop-i.i c.loop-i.invariant (omega (arith, c.loop-i-test.true, c.count_of-count.ensures)) (inr (omega (arith, c.if-at-ge-WINDOW.true, c.number_of-index.ensures)))
 
 pub bounds-seen-word : goal.bounds-seen-word
-bounds-seen-word c = omega (arith, c.if-index-from-ge-WINDOW.false, c.loop-i.invariant.size)
+bounds-seen-word c = omega (arith, c.if-at-ge-WINDOW.false, c.loop-i.invariant.size)
 
 pub returns-then-old-at-ne0 : goal.returns-then-old-at-ne0
-returns-then-old-at-ne0 c = mark-twice (column_in c.args.file.now 5) c.args.from c.loop-i.seen c.loop-i.i c.loop-i.invariant (omega (arith, c.loop-i-test.true, c.count_of-count.ensures)) (c.number_of-index.result - c.args.from) (omega (arith, c.if-index-from.false, c.number_of-index.ensures)) (omega (arith, c.if-index-from-ge-WINDOW.false)) c.if-old-at-ne0.true
+returns-then-old-at-ne0 c = mark-twice (column_in c.args.file.now 5) c.args.from c.loop-i.seen c.loop-i.i c.loop-i.invariant (omega (arith, c.loop-i-test.true, c.count_of-count.ensures)) (c.number_of-index.result - c.args.from) (omega (arith, c.if-index-from.false, c.number_of-index.ensures)) (omega (arith, c.if-at-ge-WINDOW.false)) c.if-old-at-ne0.true
 
 pub overflow_add-seen : goal.overflow_add-seen
-overflow_add-seen c = record { fits = room (column_in c.args.file.now 5) c.args.from c.loop-i.seen c.loop-i.i c.loop-i.invariant (omega (arith, c.loop-i-test.true, c.count_of-count.ensures)) (c.number_of-index.result - c.args.from) (omega (arith, c.if-index-from.false, c.number_of-index.ensures)) (omega (arith, c.if-index-from-ge-WINDOW.false)) c.if-old-at-ne0.false c.bit_at.result c.bit_at.ensures }
+overflow_add-seen c = record { fits = room (column_in c.args.file.now 5) c.args.from c.loop-i.seen c.loop-i.i c.loop-i.invariant (omega (arith, c.loop-i-test.true, c.count_of-count.ensures)) (c.number_of-index.result - c.args.from) (omega (arith, c.if-index-from.false, c.number_of-index.ensures)) (omega (arith, c.if-at-ge-WINDOW.false)) c.if-old-at-ne0.false c.bit_at.result c.bit_at.ensures }
 
-pub bounds-seen-word-else-index-from-ge-WINDOW : goal.bounds-seen-word-else-index-from-ge-WINDOW
-bounds-seen-word-else-index-from-ge-WINDOW c = omega (arith, c.if-index-from-ge-WINDOW.false, c.loop-i.invariant.size)
-
-pub loop-i-smaller : goal.loop-i-smaller
-loop-i-smaller c = omega (arith, c.loop-i-test.true, c.count_of-count.ensures)
+pub bounds-seen-word-in-loop-i : goal.bounds-seen-word-in-loop-i
+bounds-seen-word-in-loop-i c = omega (arith, c.if-at-ge-WINDOW.false, c.loop-i.invariant.size)
 
 pub loop-i-preserved : goal.loop-i-preserved
-loop-i-preserved c = more (column_in c.args.file.now 5) c.args.from c.loop-i.seen c.loop-i.i c.loop-i.invariant (omega (arith, c.loop-i-test.true, c.count_of-count.ensures)) (c.number_of-index.result - c.args.from) (omega (arith, c.if-index-from.false, c.number_of-index.ensures)) (omega (arith, c.if-index-from-ge-WINDOW.false)) c.if-old-at-ne0.false c.bit_at.result c.bit_at.ensures
+loop-i-preserved c = more (column_in c.args.file.now 5) c.args.from c.loop-i.seen c.loop-i.i c.loop-i.invariant (omega (arith, c.loop-i-test.true, c.count_of-count.ensures)) (c.number_of-index.result - c.args.from) (omega (arith, c.if-index-from.false, c.number_of-index.ensures)) (omega (arith, c.if-at-ge-WINDOW.false)) c.if-old-at-ne0.false c.bit_at.result c.bit_at.ensures
 
 pub returns : goal.returns
 returns c = mark-done (column_in c.args.file.now 5) c.args.from c.loop-i.seen c.loop-i.i c.loop-i.invariant (omega (arith, c.loop-i-test.false, c.count_of-count.ensures))

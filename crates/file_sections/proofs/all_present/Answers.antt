@@ -1,6 +1,5 @@
 -- `file_sections::all_present` meets its contract.
 use native.Mathlib.Omega.{arith}
-use mathlib.Core.Bool.{true}
 use Rattle.file_sections.proofs.Judged.{present-none, present-off, present-more, present-all}
 use Rattle.file_sections.proofs.all_present.Goals as goal
 
@@ -14,7 +13,7 @@ pub returns-then-at-c-eq0 : goal.returns-then-at-c-eq0
 returns-then-at-c-eq0 c = present-off c.args.at _ c.loop-c-test.true c.if-at-c-eq0.true
 
 pub loop-c-preserved : goal.loop-c-preserved
-loop-c-preserved c = present-more c.args.at _ c.loop-c-test.true c.loop-c.invariant.1 c.if-at-c-eq0.false
+loop-c-preserved c = present-more c.args.at _ c.loop-c.invariant c.if-at-c-eq0.false
 
 pub returns : goal.returns
-returns c = present-all c.args.at _ c.loop-c.invariant.0 c.loop-c-test.false c.loop-c.invariant.1
+returns c = present-all c.args.at _ (omega arith) c.loop-c.invariant

@@ -1,5 +1,5 @@
 -- `file_sections::all_present` meets its contract.
-use Prim.Native.Nat.{suc, ◌-◌, ◌≤◌}
+use Prim.Native.Nat.{suc}
 use mathlib.Core.Path.{◌≡◌}
 use mathlib.Core.Bool.{true}
 use lib.Dec.{ltb}
@@ -8,7 +8,4 @@ use Rattle.slices.specs.Every.{every}
 use Rattle.file_sections.proofs.all_present.Given as goal
 
 abbrev pub invariant-loop-c : goal.invariant-loop-c
-invariant-loop-c l = (l.c ≤ 9) × (every l.c (λ k. ltb 0 (get_or l.at (suc k) 0)) ≡ true)
-
-abbrev pub decreases-loop-c : goal.decreases-loop-c
-decreases-loop-c l = 9 - l.c
+invariant-loop-c l = every l.c (λ k. ltb 0 (get_or l.at (suc k) 0)) ≡ true

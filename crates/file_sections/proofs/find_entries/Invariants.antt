@@ -1,10 +1,6 @@
 -- `file_sections::find_entries` meets its contract.
-use Prim.Native.Nat.{◌-◌}
 use Rattle.file_sections.proofs.Judged.{Judging}
 use Rattle.file_sections.proofs.find_entries.Given as goal
 
 abbrev pub invariant-loop-i : goal.invariant-loop-i
 invariant-loop-i l = Judging l.file l.n l.at l.i
-
-abbrev pub decreases-loop-i : goal.decreases-loop-i
-decreases-loop-i l = l.n - l.i

@@ -1,7 +1,6 @@
 -- `file_tree::rows_right` meets its contract.
 use native.Mathlib.Omega.{arith}
 use mathlib.Core.Path.{refl}
-use borrow.Author.Tests.{not-true, not-false}
 use Rattle.tree.proofs.Pass.{pass-start, pass-done}
 use Rattle.tree_file.specs.Trailer.{column_in}
 use Rattle.file_tree.proofs.Read.{bad-row, bad-own, bad-begin, too_many, pass-more}
@@ -54,9 +53,6 @@ returns-then-run-count c = too_many c.args.s.axes (column_in c.args.file.now 1) 
 
 pub overflow_add-run : goal.overflow_add-run
 overflow_add-run c = record { fits = omega (arith, c.if-run-count.false, c.loop-i.invariant.added.small) }
-
-pub loop-i-smaller : goal.loop-i-smaller
-loop-i-smaller c = omega (arith, c.loop-i-test.true, c.count_of-n.ensures)
 
 pub loop-i-preserved : goal.loop-i-preserved
 loop-i-preserved c = pass-more c.args.s.axes (column_in c.args.file.now 1) (column_in c.args.file.now 2) (column_in c.args.file.now 3) c.requires.1 c.loop-i.run c.loop-i.i c.loop-i.invariant (omega (arith, c.loop-i-test.true, c.count_of-n.ensures)) c.key_of-p.result c.key_of-k.result c.key_of-p.ensures c.key_of-k.ensures c.number_of-owned.result c.number_of-owned.ensures c.number_of-first.result c.number_of-first.ensures c.number_of-count.result c.number_of-count.ensures c.may_follow.result c.may_own.result c.may_follow.ensures (c.if-not-may_follow.false) c.may_own.ensures (c.if-not-may_own.false) c.if-first-run.false c.if-run-count.false

@@ -4,17 +4,17 @@ use mathlib.Core.Path.{◌≡◌, refl, sym, subst}
 use Prim.Native.Nat.{ℕ, suc, ◌-◌, ◌<◌}
 use Rattle.tree.proofs.Waiting.{Totalled, totals-start, totals-done}
 use Rattle.tree_file.specs.Trailer.{column_in}
-use Rattle.file_tree.proofs.Read.{level_in, long, sum_fits, more-fits, bad-total, totals-more}
+use Rattle.file_tree.proofs.Read.{level_in, sum_fits, more-fits, bad-total, totals-more}
 use Rattle.file_tree.proofs.totals_right.Goals as goal
 
 back : (i : ℕ) → 0 < i → i ≡ suc (i - 1)
 back i h = omega arith
 
-pub count_of-i-requires : goal.count_of-i-requires
-count_of-i-requires c = (c.requires.0, omega arith, omega arith)
+pub count_of-n-requires : goal.count_of-n-requires
+count_of-n-requires c = (c.requires.0, omega arith, omega arith)
 
 pub loop-i-init : goal.loop-i-init
-loop-i-init c = subst (Totalled c.args.s.axes (column_in c.args.file.now 1) (column_in c.args.file.now 2) (column_in c.args.file.now 4) _) (sym c.count_of-i.ensures) (totals-start _ _ _ _ _ c.requires.1 _ refl)
+loop-i-init c = subst (Totalled c.args.s.axes (column_in c.args.file.now 1) (column_in c.args.file.now 2) (column_in c.args.file.now 4) _) (sym c.count_of-n.ensures) (totals-start _ _ _ _ _ c.requires.1 _ refl)
 
 pub key_of-k-requires : goal.key_of-k-requires
 key_of-k-requires c = (c.requires.0, omega arith, omega arith, refl)

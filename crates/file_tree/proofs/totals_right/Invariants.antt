@@ -5,6 +5,3 @@ use Rattle.file_tree.proofs.totals_right.Given as goal
 
 abbrev pub invariant-loop-i : goal.invariant-loop-i
 invariant-loop-i l = Totalled l.s.axes (column_in l.file 1) (column_in l.file 2) (column_in l.file 4) l.waiting l.i
-
-abbrev pub decreases-loop-i : goal.decreases-loop-i
-decreases-loop-i l = l.i

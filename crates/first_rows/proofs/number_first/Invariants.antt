@@ -7,6 +7,3 @@ use Rattle.first_rows.proofs.number_first.Given as goal
 
 abbrev pub invariant-loop-i : goal.invariant-loop-i
 invariant-loop-i l = From l.key l.rows (range 1 (length l.rows)) l.out l.i × (length l.out ≡ length l.initial.out)
-
-abbrev pub decreases-loop-i : goal.decreases-loop-i
-decreases-loop-i l = l.i

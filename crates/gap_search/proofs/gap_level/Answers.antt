@@ -1,22 +1,11 @@
 -- `gap_search::gap_level` meets its contract.
 use mathlib.Core.Bool.{true, false}
 use native.Mathlib.Omega.{arith}
-use borrow.Author.Tests.{not-true, not-false}
-use Rattle.axes.proofs.Known.{axes-facts}
 use Rattle.gap_search.proofs.Search.{inner-is, way-start, way-stop, way_on, way_end}
 use Rattle.gap_search.proofs.gap_level.Goals as goal
 
 pub loop-level-init : goal.loop-level-init
 loop-level-init c = way-start c.args.axes c.args.key.now c.requires.0 c.args.code c.requires.1
-
-pub cell_at-cell-requires : goal.cell_at-cell-requires
-cell_at-cell-requires c = ((axes-facts c.args.axes c.requires.0.axes).1, c.loop-level.invariant.most, c.requires.2)
-
-pub first_from-node-requires : goal.first_from-node-requires
-first_from-node-requires c = c.requires.0.axes
-
-pub is_inner-requires : goal.is_inner-requires
-is_inner-requires c = c.requires.0
 
 pub returns-then-not-is_inner : goal.returns-then-not-is_inner
 returns-then-not-is_inner c = way-stop c.args.axes c.args.key.now c.requires.0 c.args.code c.requires.1 c.loop-level.level c.cell_at-cell.result c.first_from-node.result c.loop-level.invariant c.cell_at-cell.ensures c.first_from-node.ensures (inner-is c.args.axes c.args.key.now c.first_from-node.result c.cell_at-cell.result c.is_inner.result false (c.if-not-is_inner.true) c.is_inner.ensures)

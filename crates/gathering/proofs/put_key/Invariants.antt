@@ -1,12 +1,8 @@
 -- `gathering::put_key` meets its contract.
 use mathlib.Core.Path.{◌≡◌}
-use Prim.Native.Nat.{◌-◌, ◌%◌}
 use lib.ListN.{length}
 use Rattle.gathering.proofs.Down.{Down}
 use Rattle.gathering.proofs.put_key.Given as goal
 
 abbrev pub invariant-loop-l : goal.invariant-loop-l
 invariant-loop-l l = Down l.axes l.room l.nodes l.k l.initial.key l.key l.child l.next l.n l.p l.l × (length l.key ≡ length l.initial.key) × (length l.child ≡ length l.initial.child) × (length l.next ≡ length l.initial.next)
-
-abbrev pub decreases-loop-l : goal.decreases-loop-l
-decreases-loop-l l = l.k % 32768 - l.l

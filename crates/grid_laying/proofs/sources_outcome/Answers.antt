@@ -1,16 +1,15 @@
 -- `grid_laying::sources_outcome` meets its contract.
-use mathlib.Core.Path.{sym, ◌∙◌}
-use mathlib.Core.List.{[]}
+use mathlib.Core.Path.{sym, ap, ◌∙◌}
+use Rattle.refusal.specs.Outcome.{Outcome}
+use Rattle.refusal.specs.Chain.{◌then◌}
+use Rattle.refusal.specs.declared.Refusal.TheVariants.{Source}
 use Rattle.space.proofs.Refusals.{fine}
-use Rattle.laying.proofs.Inside.{source-outside, none-outside}
-use Rattle.grid_laying.proofs.Chains.{none-outside-rows}
+use Rattle.laying.proofs.Inside.{wall-mapped}
+use Rattle.grid_laying.proofs.Chains.{sources-walls}
 use Rattle.grid_laying.proofs.sources_outcome.Goals as goal
 
-pub first_outside-tested-requires : goal.first_outside-tested-requires
-first_outside-tested-requires c = (fine c.args.b c.requires).least
-
-pub returns-in-Outside : goal.returns-in-Outside
-returns-in-Outside c = sym (source-outside c.args.b c.args.sources.now [] c.in-Outside.wall (sym c.first_outside-tested.ensures ∙ c.in-Outside.is))
+pub first_outside-requires : goal.first_outside-requires
+first_outside-requires c = (fine c.args.b c.requires).least
 
 pub returns : goal.returns
-returns c = sym (none-outside c.args.b c.args.sources.now [] (sym c.first_outside-tested.ensures ∙ c.in_default.is) (none-outside-rows c.args.b))
+returns c = wall-mapped Source _ _ _ c.first_outside.ensures c.map_err.ensures.cases ∙ sym (sources-walls c.args.b c.args.sources.now)

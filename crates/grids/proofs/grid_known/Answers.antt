@@ -1,23 +1,18 @@
--- `grids::grid_known` meets its contract: the axes not yet seen decide.
-use Rattle.std.proofs.Common.{rules}
-use mathlib.Core.Path.{refl, ◌∙◌}
-use Prim.Native.Nat.{◌-◌}
+-- `grids::grid_known` meets its contract: the axes seen are known.
+use mathlib.Core.Path.{◌≡◌, sym, ap, ◌∙◌}
 use native.Mathlib.Omega.{arith}
-use borrow.Author.Tests.{not-true, not-false}
+use Rattle.grids.specs.Grids.{grid_known}
 use Rattle.grids.proofs.Known.{known-fails, known_next, known-none}
 use Rattle.grids.proofs.grid_known.Goals as goal
 
-pub loop-n-init : goal.loop-n-init
-loop-n-init c = (search rules, refl)
-
-pub axis_known-requires : goal.axis_known-requires
-axis_known-requires c = omega (arith, c.loop-n.invariant.0, c.requires, c.loop-n-test.true)
+pub loop-a-init : goal.loop-a-init
+loop-a-init c = known-none c.args.g
 
 pub returns-then-not-axis_known : goal.returns-then-not-axis_known
-returns-then-not-axis_known c = known-fails c.args.g c.loop-n.n (c.loop-n.n - 1) c.axis_known.result (omega (arith, c.loop-n-test.true)) c.axis_known.ensures (c.if-not-axis_known.true) ∙ c.loop-n.invariant.1
+returns-then-not-axis_known c = known-fails c.args.g c.loop-a.a c.axis_known.result c.axis_known.ensures c.args.axes c.loop-a-test.true c.if-not-axis_known.true
 
-pub loop-n-preserved : goal.loop-n-preserved
-loop-n-preserved c = (omega (arith, c.loop-n.invariant.0), known_next c.args.g c.loop-n.n (c.loop-n.n - 1) c.axis_known.result (omega (arith, c.loop-n-test.true)) c.axis_known.ensures (c.if-not-axis_known.false) ∙ c.loop-n.invariant.1)
+pub loop-a-preserved : goal.loop-a-preserved
+loop-a-preserved c = known_next c.args.g c.loop-a.a c.axis_known.result c.axis_known.ensures c.loop-a.invariant c.if-not-axis_known.false
 
 pub returns : goal.returns
-returns c = known-none c.args.g c.loop-n.n (omega (arith, c.loop-n-test.false)) ∙ c.loop-n.invariant.1
+returns c = let e : c.loop-a.a ≡ c.args.axes = omega arith in sym c.loop-a.invariant ∙ ap (λ n. grid_known n c.args.g) e

@@ -4,6 +4,3 @@ use Rattle.grids.proofs.last_out.Given as goal
 
 abbrev pub invariant-loop-a : goal.invariant-loop-a
 invariant-loop-a l = Seeking l.f l.g l.a l.stride
-
-abbrev pub decreases-loop-a : goal.decreases-loop-a
-decreases-loop-a l = l.a

@@ -4,6 +4,3 @@ use Rattle.grids.proofs.row_point.Given as goal
 
 abbrev pub invariant-loop-a : goal.invariant-loop-a
 invariant-loop-a l = Rowing l.axes l.g l.row l.point l.rest l.a
-
-abbrev pub decreases-loop-a : goal.decreases-loop-a
-decreases-loop-a l = l.a

@@ -2,7 +2,6 @@
 use mathlib.Core.Path.{refl, sym, ap, subst, ◌∙◌}
 use mathlib.Core.List.{[], ◌∷◌, ◌++◌}
 use native.Mathlib.Omega.{arith}
-use borrow.Author.Tests.{not-true, not-false}
 use Rattle.parting.specs.Setting.{Setting, setting}
 use Rattle.parting.specs.Parts.{CellWords, DealsCell}
 use Rattle.parting.proofs.Descending.{over-child}
@@ -14,7 +13,7 @@ use Rattle.grow.specs.Cells.{owned_by}
 use Rattle.grow.specs.Rows.{marked}
 use Rattle.parting.proofs.Choosing.{child-room}
 use Rattle.grow.proofs.Stepping.{cell-ordered, cell-few, cell-words, cell-some, cell-children, cell_out, cell-leaf, cell-inner, pairing-start, pair_left, pair-at, pair_fits, pair-more, pairing-end, child-few, child-out, child-leaf, child-pairs, child-inner, growing-start, children-few, child-left, child_fits, child-at-step, child-end-fits, growing-more, child-sum-fits, put-at, growing-end}
-use Prim.Native.Nat.{ℕ, ◌+◌, ◌*◌, ◌-◌, ◌^◌, ◌%◌, ◌<◌}
+use Prim.Native.Nat.{ℕ, ◌+◌, ◌*◌, ◌^◌, ◌%◌, ◌<◌}
 use Rattle.grow.proofs.+grow_cell_grow_child_grow_children_grow_pairs.Goals as goal
 
 pub grow_cell-overflow_sub-sum : goal.grow_cell-overflow_sub-sum
@@ -89,12 +88,6 @@ grow_children-grow_child-m-requires t c = let is = one_shifted c.args.g.axes (om
 pub grow_children-overflow_add-at : goal.grow_children-overflow_add-at
 grow_children-overflow_add-at t c = let is = one_shifted c.args.g.axes (omega (arith, c.requires.0.0.good.most)) in let small : c.loop-c.c < 2 ^ c.args.g.axes = omega (arith, c.loop-c-test.true) in omega (arith, child-end-fits c.args.g (setting c.args.z c.args.sums.now) c.args.cell c.args.left c.args.lo c.args.hi c.args.counts.now c.args.to.now c.args.work.now (marked c.put_row-m.new.key c.put_row-m.new.mark c.put_row-m.result) c.requires.0.0 c.requires.0.1 c.loop-c.work (marked c.loop-c.key c.loop-c.mark c.loop-c.m) c.loop-c.at c.loop-c.c c.child_at-child.result.key (c.loop-c.c * (1 * 2 ^ c.args.g.axes % 18446744073709551616)) c.child_at-child.result.sum c.child_at-child.result.split c.loop-c.invariant.1 small c.child_at-child.ensures.0 (ap (c.loop-c.c *◌) is) c.child_at-child.ensures.1 c.child_at-child.ensures.2 c.requires.0.2.0 (c.requires.0.2.1 ++ (c.args.cell ∷ [])) c.requires.0.2.2 (put-at c.args.g (setting c.args.z c.args.sums.now) c.args.cell c.args.left c.args.lo c.args.hi c.args.counts.now c.args.to.now c.args.work.now (marked c.put_row-m.new.key c.put_row-m.new.mark c.put_row-m.result) c.requires.0.0 c.requires.0.1 (marked c.args.key.now c.args.mark.now c.args.from) c.put_row-m.ensures c.requires.0.2.0 c.requires.0.2.1 c.requires.0.2.2 c.requires.0.2.3))
 
-pub grow_children-overflow_add-c : goal.grow_children-overflow_add-c
-grow_children-overflow_add-c t c = let is = one_shifted c.args.g.axes (omega (arith, c.requires.0.0.good.most)) in let small : c.loop-c.c < 2 ^ c.args.g.axes = omega (arith, c.loop-c-test.true) in omega (arith, c.loop-c-test.true)
-
-pub grow_children-loop-c-smaller : goal.grow_children-loop-c-smaller
-grow_children-loop-c-smaller t c = let is = one_shifted c.args.g.axes (omega (arith, c.requires.0.0.good.most)) in let small : c.loop-c.c < 2 ^ c.args.g.axes = omega (arith, c.loop-c-test.true) in omega (arith, c.loop-c-test.true)
-
 pub grow_children-loop-c-preserved : goal.grow_children-loop-c-preserved
 grow_children-loop-c-preserved t c = let is = one_shifted c.args.g.axes (omega (arith, c.requires.0.0.good.most)) in let small : c.loop-c.c < 2 ^ c.args.g.axes = omega (arith, c.loop-c-test.true) in (omega (arith, c.loop-c-test.true), growing-more c.args.g (setting c.args.z c.args.sums.now) c.args.cell c.args.left c.args.lo c.args.hi c.args.counts.now c.args.to.now c.args.work.now (marked c.put_row-m.new.key c.put_row-m.new.mark c.put_row-m.result) c.requires.0.0 c.requires.0.1 c.loop-c.work (marked c.loop-c.key c.loop-c.mark c.loop-c.m) c.loop-c.at c.loop-c.c c.child_at-child.result.key (c.loop-c.c * (1 * 2 ^ c.args.g.axes % 18446744073709551616)) c.child_at-child.result.sum c.child_at-child.result.split c.loop-c.invariant.1 small c.child_at-child.ensures.0 (ap (c.loop-c.c *◌) is) c.child_at-child.ensures.1 c.child_at-child.ensures.2 c.grow_child-m.new.work (marked c.grow_child-m.new.key c.grow_child-m.new.mark c.grow_child-m.result) c.grow_child-m.ensures, (c.grow_child-m.auto.work ∙ c.loop-c.invariant.2.0, c.grow_child-m.auto.key ∙ c.loop-c.invariant.2.1, c.grow_child-m.auto.mark ∙ c.loop-c.invariant.2.2))
 
@@ -127,12 +120,6 @@ grow_pairs-grow_cell-m-requires t c = let is = one_shifted c.args.g.axes (omega 
 
 pub grow_pairs-overflow_add-x-in-loop-b : goal.grow_pairs-overflow_add-x-in-loop-b
 grow_pairs-overflow_add-x-in-loop-b t c = let is = one_shifted c.args.g.axes (omega (arith, c.requires.0.0.good.most)) in let small : c.loop-b.b < 2 ^ c.args.g.axes = omega (arith, c.loop-b-test.true) in omega (arith, pair_fits c.args.g (setting c.args.z c.args.sums.now) c.args.cell c.args.left c.args.a c.args.at c.args.counts.now c.args.work.now (marked c.args.key.now c.args.mark.now c.args.from) c.requires.0.0 c.requires.0.1 c.loop-b.work (marked c.loop-b.key c.loop-b.mark c.loop-b.m) c.loop-b.x c.loop-b.b c.child_of-child.result (get_or c.args.counts.now (c.args.a + c.loop-b.b) 0) c.loop-b.invariant.1 small c.child_of-child.ensures refl c.requires.0.2.0 c.requires.0.2.1 c.requires.0.2.2 c.requires.0.2.3)
-
-pub grow_pairs-overflow_add-b : goal.grow_pairs-overflow_add-b
-grow_pairs-overflow_add-b t c = let is = one_shifted c.args.g.axes (omega (arith, c.requires.0.0.good.most)) in let small : c.loop-b.b < 2 ^ c.args.g.axes = omega (arith, c.loop-b-test.true) in omega (arith, c.loop-b-test.true)
-
-pub grow_pairs-loop-b-smaller : goal.grow_pairs-loop-b-smaller
-grow_pairs-loop-b-smaller t c = let is = one_shifted c.args.g.axes (omega (arith, c.requires.0.0.good.most)) in let small : c.loop-b.b < 2 ^ c.args.g.axes = omega (arith, c.loop-b-test.true) in omega (arith, c.loop-b-test.true)
 
 pub grow_pairs-loop-b-preserved : goal.grow_pairs-loop-b-preserved
 grow_pairs-loop-b-preserved t c = let is = one_shifted c.args.g.axes (omega (arith, c.requires.0.0.good.most)) in let small : c.loop-b.b < 2 ^ c.args.g.axes = omega (arith, c.loop-b-test.true) in (omega (arith, c.loop-b-test.true), pair-more c.args.g (setting c.args.z c.args.sums.now) c.args.cell c.args.left c.args.a c.args.at c.args.counts.now c.args.work.now (marked c.args.key.now c.args.mark.now c.args.from) c.requires.0.0 c.requires.0.1 c.loop-b.work (marked c.loop-b.key c.loop-b.mark c.loop-b.m) c.loop-b.x c.loop-b.b c.child_of-child.result (get_or c.args.counts.now (c.args.a + c.loop-b.b) 0) c.loop-b.invariant.1 small c.child_of-child.ensures refl c.grow_cell-m.new.work (marked c.grow_cell-m.new.key c.grow_cell-m.new.mark c.grow_cell-m.result) c.grow_cell-m.ensures, (c.grow_cell-m.auto.work ∙ c.loop-b.invariant.2.0, c.grow_cell-m.auto.key ∙ c.loop-b.invariant.2.1, c.grow_cell-m.auto.mark ∙ c.loop-b.invariant.2.2))

@@ -2,7 +2,6 @@
 use mathlib.Core.Path.{◌≡◌}
 use Rattle.parting.specs.Setting.{setting}
 use lib.ListN.{length}
-use Rattle.slices.specs.Lists.{sum}
 use Rattle.grow.specs.Rows.{marked}
 use Rattle.grow.proofs.Stepping.{Pairing, Growing}
 use Prim.Native.Nat.{◌+◌, ◌*◌, ◌-◌, ◌≤◌}
@@ -23,11 +22,5 @@ decreases-grow_pairs l = 4 * l.left + 1
 abbrev pub invariant-grow_children-loop-c : goal.invariant-grow_children-loop-c
 invariant-grow_children-loop-c l = (l.c ≤ l.many) × Growing l.g (setting l.z l.sums) l.cell l.left l.lo l.hi l.counts l.to l.initial.work (marked l.initial.key l.initial.mark l.initial.m) l.work (marked l.key l.mark l.m) l.at l.c × ((length l.work ≡ length l.initial.work) × (length l.key ≡ length l.initial.key) × (length l.mark ≡ length l.initial.mark))
 
-abbrev pub decreases-grow_children-loop-c : goal.decreases-grow_children-loop-c
-decreases-grow_children-loop-c l = l.many - l.c
-
 abbrev pub invariant-grow_pairs-loop-b : goal.invariant-grow_pairs-loop-b
 invariant-grow_pairs-loop-b l = (l.b ≤ l.many) × Pairing l.g (setting l.z l.sums) l.cell l.left l.a l.at l.counts l.initial.work (marked l.initial.key l.initial.mark l.from) l.work (marked l.key l.mark l.m) l.x l.b × ((length l.work ≡ length l.initial.work) × (length l.key ≡ length l.initial.key) × (length l.mark ≡ length l.initial.mark))
-
-abbrev pub decreases-grow_pairs-loop-b : goal.decreases-grow_pairs-loop-b
-decreases-grow_pairs-loop-b l = l.many - l.b

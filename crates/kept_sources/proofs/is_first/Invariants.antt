@@ -6,6 +6,3 @@ use Rattle.kept_sources.proofs.is_first.Given as goal
 
 abbrev pub invariant-loop-j : goal.invariant-loop-j
 invariant-loop-j l = (l.j ≤ l.row) × ((p : ℕ) → p < l.j → get_or l.key p 0 ≡ get_or l.key l.row 0 → ⊥)
-
-abbrev pub decreases-loop-j : goal.decreases-loop-j
-decreases-loop-j l = l.row - l.j

@@ -1,4 +1,4 @@
--- `links::link_nodes` meets its contract.
+-- The links of the nodes from i on stand, and after a turn that of the node before.
 use native.Mathlib.Omega.{arith}
 use mathlib.Core.Path.{◌≡◌, sym, ◌∙◌}
 use Prim.Native.Nat.{ℕ, suc, ◌-◌, ◌<◌}
@@ -11,9 +11,6 @@ back i h = omega arith
 pub loop-i-init : goal.loop-i-init
 loop-i-init c = linking-start _ _ _ c.requires.0 c.requires.1
 
-pub overflow_sub-i : goal.overflow_sub-i
-overflow_sub-i c = omega (arith, c.loop-i-test.true)
-
 pub has_children-requires : goal.has_children-requires
 has_children-requires c = omega (arith, c.loop-i.invariant.most, c.loop-i-test.true)
 
@@ -23,14 +20,8 @@ find_next-next-requires c = (linking-from _ _ _ c.requires.0 c.requires.1 _ _ _ 
 pub bounds-links-i : goal.bounds-links-i
 bounds-links-i c = omega (arith, c.loop-i.invariant.most, c.loop-i.invariant.long, c.loop-i-test.true, c.requires.1)
 
-pub loop-i-smaller-then-has_children : goal.loop-i-smaller-then-has_children
-loop-i-smaller-then-has_children c = omega (arith, c.loop-i-test.true)
-
 pub loop-i-preserved-then-has_children : goal.loop-i-preserved-then-has_children
 loop-i-preserved-then-has_children c = linking-more _ _ _ c.requires.0 c.requires.1 _ _ _ c.loop-i.invariant (back _ c.loop-i-test.true) (sym c.has_children.ensures ∙ c.if-has_children.true) _ c.find_next-next.ensures
-
-pub loop-i-smaller : goal.loop-i-smaller
-loop-i-smaller c = omega (arith, c.loop-i-test.true)
 
 pub loop-i-preserved : goal.loop-i-preserved
 loop-i-preserved c = linking-leaf _ _ _ c.requires.0 c.requires.1 _ _ _ c.loop-i.invariant (back _ c.loop-i-test.true) (sym c.has_children.ensures ∙ c.if-has_children.false)

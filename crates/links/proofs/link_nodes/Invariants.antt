@@ -1,9 +1,6 @@
--- `links::link_nodes` meets its contract.
+-- The links of the nodes from i on stand.
 use Rattle.links.proofs.Links.{Linking}
 use Rattle.links.proofs.link_nodes.Given as goal
 
 abbrev pub invariant-loop-i : goal.invariant-loop-i
 invariant-loop-i l = Linking l.key l.total l.initial.links l.links l.i
-
-abbrev pub decreases-loop-i : goal.decreases-loop-i
-decreases-loop-i l = l.i

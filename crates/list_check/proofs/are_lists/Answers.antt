@@ -1,7 +1,6 @@
 -- `list_check::are_lists` meets its contract.
 use Rattle.list_check.proofs.Judged.{not-u, not-v, judged}
 use Rattle.sums.proofs.Tells.{tell-true, tell-false}
-use borrow.Author.Tests.{not-true, not-false}
 use Rattle.list_check.proofs.are_lists.Goals as goal
 
 pub returns-then-not-starts_right : goal.returns-then-not-starts_right

@@ -3,7 +3,6 @@ use Rattle.list_check.proofs.Nodes.{inner-tells, near-lost, near-small, near-tel
 use Rattle.list_check.proofs.Starts.{start-in, part_up, part_in}
 use Rattle.list_rows.proofs.Rows.{total-in}
 use Rattle.list_rows.proofs.Entries.{tree-keys}
-use borrow.Author.Tests.{not-true, not-false}
 use native.Mathlib.Omega.{arith}
 use mathlib.Core.Path.{sym, ◌∙◌}
 use Rattle.list_check.proofs.near_right.Goals as goal
@@ -42,13 +41,13 @@ pub returns-in_default : goal.returns-in_default
 returns-in_default c = record { tells = near-lost c.args.axes c.args.key.now c.args.own.now c.args.total.now c.args.starts.now c.args.flat.now c.args.node c.args.met c.requires.counted.2 c.requires.below.0.within (sym c.is_leaf.ensures ∙ c.if-not-is_leaf.false) c.args.row.cell c.requires.below.2 c.row_sources-brought.result c.row_sources-brought.ensures.brings c.in_default.is; table = c.row_sources-brought.ensures.table }
 
 pub overflow_add-result : goal.overflow_add-result
-overflow_add-result c = omega (arith, near-small c.args.axes c.args.key.now c.args.own.now c.args.total.now c.args.starts.now c.args.flat.now c.args.node c.args.met c.requires.counted.2 c.requires.below.0.within (sym c.is_leaf.ensures ∙ c.if-not-is_leaf.false) c.args.row.cell c.requires.below.2 c.row_sources-brought.result c.row_sources-brought.ensures.brings _ c.in-At.is, c.requires.below.3)
+overflow_add-result c = omega (arith, near-small c.args.axes c.args.key.now c.args.own.now c.args.total.now c.args.starts.now c.args.flat.now c.args.node c.args.met c.requires.counted.2 c.requires.below.0.within (sym c.is_leaf.ensures ∙ c.if-not-is_leaf.false) c.args.row.cell c.requires.below.2 c.row_sources-brought.result c.row_sources-brought.ensures.brings _ c.in-Some.is, c.requires.below.3)
 
 pub bounds-total-0 : goal.bounds-total-0
 bounds-total-0 c = total-in c.args.axes c.args.key.now c.args.own.now c.args.total.now c.requires.counted.0 0 (omega (arith, c.requires.below.0.within, c.requires.below.0.some))
 
 pub returns : goal.returns
-returns c = record { tells = near-tells c.args.axes c.args.key.now c.args.own.now c.args.total.now c.args.starts.now c.args.flat.now c.args.node c.args.met c.requires.counted.2 c.requires.below.0.within (sym c.is_leaf.ensures ∙ c.if-not-is_leaf.false) c.args.row.cell c.requires.below.2 c.row_sources-brought.result c.row_sources-brought.ensures.brings _ c.in-At.is; table = c.row_sources-brought.ensures.table }
+returns c = record { tells = near-tells c.args.axes c.args.key.now c.args.own.now c.args.total.now c.args.starts.now c.args.flat.now c.args.node c.args.met c.requires.counted.2 c.requires.below.0.within (sym c.is_leaf.ensures ∙ c.if-not-is_leaf.false) c.args.row.cell c.requires.below.2 c.row_sources-brought.result c.row_sources-brought.ensures.brings _ c.in-Some.is; table = c.row_sources-brought.ensures.table }
 
 pub slice_bounds-row_sources-end : goal.slice_bounds-row_sources-end
 slice_bounds-row_sources-end c = part_in c.args.key.now c.args.starts.now c.args.flat.now c.requires.counted.2 c.args.node c.requires.below.0.within

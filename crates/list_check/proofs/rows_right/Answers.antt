@@ -1,4 +1,4 @@
--- `list_check::rows_right` meets its contract.
+-- The rows of the nodes before this one are right, and after a turn its own.
 use Rattle.list_check.proofs.Path.{judge-start, below, level_in, above-small, judge-more, judge-fails, root-no-u, root-no-v, judge-done}
 use Rattle.list_check.proofs.Starts.{start-in}
 use Rattle.list_rows.proofs.Entries.{table-start, tree-keys}
@@ -42,14 +42,8 @@ offset_bounds-far-level-in-loop-node c = omega (arith, (level_in c.args.axes c.a
 pub bounds-far-level-in-loop-node : goal.bounds-far-level-in-loop-node
 bounds-far-level-in-loop-node c = omega (arith, (level_in c.args.axes c.args.key.now c.args.own.now c.args.total.now c.args.u_starts.now c.args.u_keys.now c.args.v_starts.now c.args.v_keys.now c.requires.0 c.requires.1 c.loop-node.far c.loop-node.node c.loop-node.invariant.1 c.loop-node-test.true).1, c.loop-node.invariant.1.rides.size)
 
-pub overflow_add-node : goal.overflow_add-node
-overflow_add-node c = omega (arith, c.loop-node-test.true, c.well_formed.1.0)
-
-pub loop-node-smaller : goal.loop-node-smaller
-loop-node-smaller c = omega (arith, c.loop-node-test.true)
-
 pub loop-node-preserved : goal.loop-node-preserved
-loop-node-preserved c = (c.node_sources-says.ensures.table, judge-more c.args.axes c.args.key.now c.args.own.now c.args.total.now c.args.u_starts.now c.args.u_keys.now c.args.v_starts.now c.args.v_keys.now c.requires.0 c.requires.1 c.loop-node.far c.loop-node.node c.loop-node.invariant.1 c.loop-node-test.true c.node_sources-says.result c.node_sources-says.ensures.says _ c.in-At.is)
+loop-node-preserved c = (c.node_sources-says.ensures.table, judge-more c.args.axes c.args.key.now c.args.own.now c.args.total.now c.args.u_starts.now c.args.u_keys.now c.args.v_starts.now c.args.v_keys.now c.requires.0 c.requires.1 c.loop-node.far c.loop-node.node c.loop-node.invariant.1 c.loop-node-test.true c.node_sources-says.result c.node_sources-says.ensures.says _ c.in-Some.is)
 
 pub returns : goal.returns
 returns c = judge-done c.args.axes c.args.key.now c.args.own.now c.args.total.now c.args.u_starts.now c.args.u_keys.now c.args.v_starts.now c.args.v_keys.now c.requires.0 c.requires.1 c.loop-node.far c.loop-node.node c.loop-node.invariant.1 c.loop-node-test.false c.if-u_starts-ne0.false c.if-v_starts-ne0.false

@@ -1,5 +1,5 @@
--- `list_check::starts_right` meets its contract.
-use Rattle.list_check.proofs.Starts.{rise-start, rise-more, rise-falls, rise-done, rise-ends}
+-- The first i starts do not fall, and after a turn one more.
+use Rattle.list_check.proofs.Starts.{rise-start, rise-more, rise-falls}
 use native.Mathlib.Omega.{arith}
 use Rattle.list_check.proofs.starts_right.Goals as goal
 
@@ -17,9 +17,3 @@ returns-then-starts-i c = rise-falls c.args.key.now c.args.starts.now c.args.fla
 
 pub loop-i-preserved : goal.loop-i-preserved
 loop-i-preserved c = rise-more c.args.key.now c.args.starts.now c.loop-i.i c.loop-i.invariant c.loop-i-test.true c.if-starts-i.false
-
-pub returns-then-starts-i-2 : goal.returns-then-starts-i-2
-returns-then-starts-i-2 c = rise-ends c.args.key.now c.args.starts.now c.args.flat.now c.loop-i.i c.loop-i.invariant c.loop-i-test.false c.if-starts-i-2.true
-
-pub returns : goal.returns
-returns c = rise-done c.args.key.now c.args.starts.now c.args.flat.now c.loop-i.i c.loop-i.invariant c.loop-i-test.false c.if-starts-key.false c.if-starts-ne0.false c.if-starts-i-2.false

@@ -5,14 +5,14 @@ use Rattle.list_rows.proofs.seek.Goals as goal
 pub returns-then-key-tried : goal.returns-then-key-tried
 returns-then-key-tried c = record { found = tried-is c.args.axes c.args.key.now c.args.own.now c.args.nodes.now c.args.spots.now c.requires c.args.k c.slot_of-slot.result c.slot_of-slot.ensures c.if-tried-key.true c.if-key-tried.true; table = c.requires.1 }
 
-pub find_node-found-requires : goal.find_node-found-requires
-find_node-found-requires c = (tree-keys c.args.axes c.args.key.now c.args.own.now c.requires.0).axes
+pub find_node-requires : goal.find_node-requires
+find_node-requires c = (tree-keys c.args.axes c.args.key.now c.args.own.now c.requires.0).axes
 
-pub returns-in_default : goal.returns-in_default
-returns-in_default c = record { found = found_none c.args.axes c.args.key.now c.args.own.now c.requires.0 c.args.k c.find_node-found.result c.find_node-found.ensures c.in_default.is; table = c.requires.1 }
+pub returns-in_err-node : goal.returns-in_err-node
+returns-in_err-node c = record { found = rw c.from_residual.ensures (found_none c.args.axes c.args.key.now c.args.own.now c.requires.0 c.args.k c.find_node.result c.find_node.ensures c.in_err-node.was); table = c.requires.1 }
 
 pub place_of-place-requires : goal.place_of-place-requires
-place_of-place-requires c = found-valid c.args.axes c.args.key.now c.args.own.now c.args.nodes.now c.args.spots.now c.requires c.args.k c.slot_of-slot.result c.slot_of-slot.ensures c.find_node-found.result c.find_node-found.ensures _ c.in-At.is
+place_of-place-requires c = found-valid c.args.axes c.args.key.now c.args.own.now c.args.nodes.now c.args.spots.now c.requires c.args.k c.slot_of-slot.result c.slot_of-slot.ensures c.find_node.result c.find_node.ensures _ c.in_ok-node.was
 
 pub returns : goal.returns
-returns c = let all = found-new c.args.axes c.args.key.now c.args.own.now c.args.nodes.now c.args.spots.now c.requires c.args.k c.slot_of-slot.result c.slot_of-slot.ensures c.find_node-found.result c.find_node-found.ensures _ c.in-At.is c.place_of-place.result c.place_of-place.ensures in record { found = all.0; table = all.1 }
+returns c = let all = found-new c.args.axes c.args.key.now c.args.own.now c.args.nodes.now c.args.spots.now c.requires c.args.k c.slot_of-slot.result c.slot_of-slot.ensures c.find_node.result c.find_node.ensures _ c.in_ok-node.was c.place_of-place.result c.place_of-place.ensures in record { found = all.0; table = all.1 }

@@ -1,5 +1,4 @@
 -- Each row is put into room for it, so that its count is its length.
-use mathlib.Core.Path.{refl, ◌∙◌}
 use native.Mathlib.Omega.{arith}
 use lib.ListN.{get_or}
 use Rattle.around.proofs.Nodes.{well}
@@ -9,27 +8,16 @@ use Rattle.list_sizes.proofs.Counts.{counted_none, counted-more, counted-all, ro
 use Rattle.list_sizes.proofs.count_rows.Goals as goal
 
 pub loop-i-init : goal.loop-i-init
-loop-i-init c = let w = (well c.args.axes c.args.key.now c.args.own.now c.requires.linked_tree.0.tree).some in (counted_none (u_row c.args.axes c.args.key.now c.args.own.now) c.args.key.now (root-u _ _ _ c.requires.linked_tree.0.tree) w, counted_none (v_row c.args.axes c.args.key.now c.args.own.now) c.args.key.now (root-v _ _ _ c.requires.linked_tree.0.tree) w, c.requires.linked_tree.1, omega arith, refl, refl, refl, refl)
+loop-i-init c = let w = (well c.args.axes c.args.key.now c.args.own.now c.requires.linked_tree.0.tree).some in (counted_none (u_row c.args.axes c.args.key.now c.args.own.now) c.args.key.now (root-u _ _ _ c.requires.linked_tree.0.tree) w, counted_none (v_row c.args.axes c.args.key.now c.args.own.now) c.args.key.now (root-v _ _ _ c.requires.linked_tree.0.tree) w, c.requires.linked_tree.1)
 
 pub put_node-sizes-requires : goal.put_node-sizes-requires
-put_node-sizes-requires c = record { linked_tree = (c.requires.linked_tree.0, c.loop-i.invariant.3, c.loop-i-test.true); ready_2 = c.loop-i.invariant.2 }
-
-pub overflow_add-i : goal.overflow_add-i
-overflow_add-i c = record { fits = omega (arith, c.well_formed.1.0, c.loop-i-test.true) }
-
-pub loop-i-smaller : goal.loop-i-smaller
-loop-i-smaller c = omega (arith, c.loop-i-test.true)
+put_node-sizes-requires c = record { linked_tree = (c.requires.linked_tree.0, c.loop-i.auto.i, c.loop-i-test.true); ready_2 = c.loop-i.invariant.2 }
 
 pub loop-i-preserved : goal.loop-i-preserved
 loop-i-preserved c = let k = get_or c.args.key.now c.loop-i.i 0 in (
-  counted-more (u_row c.args.axes c.args.key.now c.args.own.now) c.args.key.now c.loop-i.i _ _ _ c.loop-i-test.true c.loop-i.invariant.0 (row_count _ _ (u_row c.args.axes c.args.key.now c.args.own.now k) _ c.put_node-sizes.ensures.near c.put_node-sizes.auto.u_keys (omega (arith, u_short c.args.axes c.args.key.now c.args.own.now k, c.loop-i.invariant.4, c.requires.key_in_bounds.0))) c.more-u.ensures,
-  counted-more (v_row c.args.axes c.args.key.now c.args.own.now) c.args.key.now c.loop-i.i _ _ _ c.loop-i-test.true c.loop-i.invariant.1 (row_count _ _ (v_row c.args.axes c.args.key.now c.args.own.now k) _ c.put_node-sizes.ensures.far c.put_node-sizes.auto.v_keys (omega (arith, v_short c.args.axes c.args.key.now c.args.own.now c.requires.linked_tree.0.tree c.loop-i.i c.loop-i-test.true, c.loop-i.invariant.5, c.requires.key_in_bounds.1))) c.more-v.ensures,
+  counted-more (u_row c.args.axes c.args.key.now c.args.own.now) c.args.key.now c.loop-i.i _ _ _ c.loop-i-test.true c.loop-i.invariant.0 (row_count _ _ (u_row c.args.axes c.args.key.now c.args.own.now k) _ c.put_node-sizes.ensures.near c.put_node-sizes.auto.u_keys (omega (arith, u_short c.args.axes c.args.key.now c.args.own.now k, c.loop-i.auto.row, c.requires.key_in_bounds.0))) c.more-u.ensures,
+  counted-more (v_row c.args.axes c.args.key.now c.args.own.now) c.args.key.now c.loop-i.i _ _ _ c.loop-i-test.true c.loop-i.invariant.1 (row_count _ _ (v_row c.args.axes c.args.key.now c.args.own.now k) _ c.put_node-sizes.ensures.far c.put_node-sizes.auto.v_keys (omega (arith, v_short c.args.axes c.args.key.now c.args.own.now c.requires.linked_tree.0.tree c.loop-i.i c.loop-i-test.true, c.loop-i.auto.far, c.requires.key_in_bounds.1))) c.more-v.ensures,
   c.put_node-sizes.ensures.ready,
-  omega arith,
-  c.put_node-sizes.auto.u_keys ∙ c.loop-i.invariant.4,
-  c.put_node-sizes.auto.v_keys ∙ c.loop-i.invariant.5,
-  c.put_node-sizes.auto.stack ∙ c.loop-i.invariant.6,
-  c.put_node-sizes.auto.held ∙ c.loop-i.invariant.7,
 )
 
 pub returns : goal.returns

@@ -4,8 +4,8 @@ use Prim.Native.Nat.{◌/◌}
 use Rattle.lookup.specs.Work.{rest_cleared}
 use Rattle.lookup.proofs.clear_rest.Goals as goal
 
-pub returns-in-Found : goal.returns-in-Found
-returns-in-Found c = c.clear_from.ensures ∙ sym (ap (λ t. rest_cleared t (c.args.numbers / c.args.axes) c.args.output.now) c.in-Found.is)
+pub returns-in-Ok : goal.returns-in-Ok
+returns-in-Ok c = c.clear_from.ensures ∙ sym (ap (λ t. rest_cleared t (c.args.numbers / c.args.axes) c.args.output.now) c.in-Ok.is)
 
-pub returns-in-Refused : goal.returns-in-Refused
-returns-in-Refused c = c.clear.ensures ∙ sym (ap (λ t. rest_cleared t (c.args.numbers / c.args.axes) c.args.output.now) c.in-Refused.is)
+pub returns-in-Err : goal.returns-in-Err
+returns-in-Err c = c.clear.ensures ∙ sym (ap (λ t. rest_cleared t (c.args.numbers / c.args.axes) c.args.output.now) c.in-Err.is)

@@ -15,7 +15,7 @@ use Rattle.morton.proofs.Runs.{values-start, values-next}
 use Rattle.neighbours.proofs.moved.Goals as goal
 
 pub loop-a-init : goal.loop-a-init
-loop-a-init c = (search rules, values-start 3 _)
+loop-a-init c = values-start 3 _
 
 pub overflow_add-to : goal.overflow_add-to
 overflow_add-to c = omega (arith, small_at c.args.from c.requires.1 c.loop-a.a (omega arith), c.raised.ensures.1)
@@ -24,7 +24,7 @@ pub overflow_sub-to : goal.overflow_sub-to
 overflow_sub-to c = let f : SFits w64 (get_or c.args.row c.loop-a.a (pos 0)) = search rules in let e = step-known (get_or c.args.row c.loop-a.a (pos 0)) c.raised.result f c.raised.ensures.0 in omega (arith, (stays_at c.args.level c.args.from c.args.row c.requires.2 c.args.axes c.requires.0 c.requires.3 c.loop-a.a (omega arith)).0)
 
 pub loop-a-preserved : goal.loop-a-preserved
-loop-a-preserved c = let f : SFits w64 (get_or c.args.row c.loop-a.a (pos 0)) = search rules in let e = step-known (get_or c.args.row c.loop-a.a (pos 0)) c.raised.result f c.raised.ensures.0 in (omega arith, values-next 3 _ _ _ _ c.loop-a.invariant.1 (omega arith) (ap (λ (r : ℕ). get_or c.args.from c.loop-a.a 0 + r - 1) e ∙ sym (stays_at c.args.level c.args.from c.args.row c.requires.2 c.args.axes c.requires.0 c.requires.3 c.loop-a.a (omega arith)).2))
+loop-a-preserved c = let f : SFits w64 (get_or c.args.row c.loop-a.a (pos 0)) = search rules in let e = step-known (get_or c.args.row c.loop-a.a (pos 0)) c.raised.result f c.raised.ensures.0 in values-next 3 _ _ _ _ c.loop-a.invariant (omega arith) (ap (λ (r : ℕ). get_or c.args.from c.loop-a.a 0 + r - 1) e ∙ sym (stays_at c.args.level c.args.from c.args.row c.requires.2 c.args.axes c.requires.0 c.requires.3 c.loop-a.a (omega arith)).2)
 
 pub returns : goal.returns
-returns c = c.loop-a.invariant.1.filled_by ∙ ap (λ (n : ℕ). filled 3 (map (λ a. nat_abs (ahead c.args.from c.args.row a)) (range 0 n))) (omega arith)
+returns c = c.loop-a.invariant.filled_by ∙ ap (λ (n : ℕ). filled 3 (map (λ a. nat_abs (ahead c.args.from c.args.row a)) (range 0 n))) (omega arith)

@@ -16,31 +16,26 @@ use Rattle.points.proofs.Checked.{point-refused, point-out}
 use Rattle.points.proofs.Answers.{refused-key, done-key}
 use Rattle.points.proofs.point_to_key.Goals as goal
 
-pub returns-in-Refused : goal.returns-in-Refused
-returns-in-Refused c = refused-key c.args.b c.args.point c.args.level c.in-Refused.refusal (point-refused c.args.b c.args.point c.args.level c.in-Refused.refusal (sym c.level_outcome-o.ensures ∙ c.in-Refused.is))
-
-pub locate-p-requires : goal.locate-p-requires
-locate-p-requires c =
-    let done : Fine c.args.b × (c.args.level ≤ 16) = level-done c.args.b c.args.level (sym c.level_outcome-o.ensures ∙ c.in_default.is) in
+pub locate-requires : goal.locate-requires
+locate-requires c =
+    let done : Fine c.args.b × (c.args.level ≤ 16) = level-done c.args.b c.args.level (sym c.level_outcome.ensures ∙ c.in_ok-level_outcome.was) in
     let n : length c.args.point ≡ 3 = search rules in
     omega (arith, done.0.most, ap (λ f. f.axes) c.frame_of.ensures, n)
 
 pub outside-requires : goal.outside-requires
 outside-requires c =
-    let done : Fine c.args.b × (c.args.level ≤ 16) = level-done c.args.b c.args.level (sym c.level_outcome-o.ensures ∙ c.in_default.is) in
+    let done : Fine c.args.b × (c.args.level ≤ 16) = level-done c.args.b c.args.level (sym c.level_outcome.ensures ∙ c.in_ok-level_outcome.was) in
     done.0.most
 
-pub returns-then-not-p : goal.returns-then-not-p
-returns-then-not-p c =
-    let where-is : c.locate-p.result ≡ located_of (frame_of c.args.b) c.args.point = c.locate-p.ensures ∙ ap (λ f. located_of f c.args.point) c.frame_of.ensures in
-    let out = located-out (frame_of c.args.b) c.args.point c.locate-p.result where-is (not-true _ c.if-not-p.true) in
-    refused-key c.args.b c.args.point c.args.level c.outside.result (point-out c.args.b c.args.point c.args.level c.outside.result c.outside.ensures (sym c.level_outcome-o.ensures ∙ c.in_default.is) out)
+pub returns-in_default : goal.returns-in_default
+returns-in_default c =
+    let out = located-out (frame_of c.args.b) c.args.point (sym c.in_default.is ∙ c.locate.ensures ∙ ap (λ f. located_of f c.args.point) c.frame_of.ensures) in
+    refused-key c.args.b c.args.point c.args.level c.outside.result (point-out c.args.b c.args.point c.args.level c.outside.result c.outside.ensures (sym c.level_outcome.ensures ∙ c.in_ok-level_outcome.was) out)
 
 pub encode-code-requires : goal.encode-code-requires
 encode-code-requires c =
-    let done : Fine c.args.b × (c.args.level ≤ 16) = level-done c.args.b c.args.level (sym c.level_outcome-o.ensures ∙ c.in_default.is) in
-    let where-is : c.locate-p.result ≡ located_of (frame_of c.args.b) c.args.point = c.locate-p.ensures ∙ ap (λ f. located_of f c.args.point) c.frame_of.ensures in
-    let anchors-are : (inside (frame_of c.args.b) c.args.point ≡ true) × (c.locate-p.result.anchor ≡ anchors16 (frame_of c.args.b) c.args.point) = located-in (frame_of c.args.b) c.args.point c.locate-p.result where-is (not-false _ c.if-not-p.false) in
+    let done : Fine c.args.b × (c.args.level ≤ 16) = level-done c.args.b c.args.level (sym c.level_outcome.ensures ∙ c.in_ok-level_outcome.was) in
+    let anchors-are : (inside (frame_of c.args.b) c.args.point ≡ true) × (c.in-Some.anchor ≡ anchors16 (frame_of c.args.b) c.args.point) = located-in (frame_of c.args.b) c.args.point c.in-Some.anchor (sym c.in-Some.is ∙ c.locate.ensures ∙ ap (λ f. located_of f c.args.point) c.frame_of.ensures) in
     let f = done.0 in
     (f.least, f.most, two_bytes (frame_of c.args.b) c.args.point _ anchors-are.1)
 
@@ -49,26 +44,25 @@ less l = omega arith
 
 pub overflow_sub-above : goal.overflow_sub-above
 overflow_sub-above c =
-    let done : Fine c.args.b × (c.args.level ≤ 16) = level-done c.args.b c.args.level (sym c.level_outcome-o.ensures ∙ c.in_default.is) in
+    let done : Fine c.args.b × (c.args.level ≤ 16) = level-done c.args.b c.args.level (sym c.level_outcome.ensures ∙ c.in_ok-level_outcome.was) in
     omega (arith, done.1)
 
 pub overflow_mul-above : goal.overflow_mul-above
 overflow_mul-above c =
-    let done : Fine c.args.b × (c.args.level ≤ 16) = level-done c.args.b c.args.level (sym c.level_outcome-o.ensures ∙ c.in_default.is) in
+    let done : Fine c.args.b × (c.args.level ≤ 16) = level-done c.args.b c.args.level (sym c.level_outcome.ensures ∙ c.in_ok-level_outcome.was) in
     let up : c.args.b.axes * (16 - c.args.level) ≤ 48 = mul-le-mul done.0.most (less c.args.level) in
     omega (arith, up)
 
 pub overflow_shr-result : goal.overflow_shr-result
 overflow_shr-result c =
-    let done : Fine c.args.b × (c.args.level ≤ 16) = level-done c.args.b c.args.level (sym c.level_outcome-o.ensures ∙ c.in_default.is) in
+    let done : Fine c.args.b × (c.args.level ≤ 16) = level-done c.args.b c.args.level (sym c.level_outcome.ensures ∙ c.in_ok-level_outcome.was) in
     let up : c.args.b.axes * (16 - c.args.level) ≤ 48 = mul-le-mul done.0.most (less c.args.level) in
     omega (arith, up)
 
 pub overflow_mul-result : goal.overflow_mul-result
 overflow_mul-result c =
-    let done : Fine c.args.b × (c.args.level ≤ 16) = level-done c.args.b c.args.level (sym c.level_outcome-o.ensures ∙ c.in_default.is) in
-    let where-is : c.locate-p.result ≡ located_of (frame_of c.args.b) c.args.point = c.locate-p.ensures ∙ ap (λ f. located_of f c.args.point) c.frame_of.ensures in
-    let anchors-are : (inside (frame_of c.args.b) c.args.point ≡ true) × (c.locate-p.result.anchor ≡ anchors16 (frame_of c.args.b) c.args.point) = located-in (frame_of c.args.b) c.args.point c.locate-p.result where-is (not-false _ c.if-not-p.false) in
+    let done : Fine c.args.b × (c.args.level ≤ 16) = level-done c.args.b c.args.level (sym c.level_outcome.ensures ∙ c.in_ok-level_outcome.was) in
+    let anchors-are : (inside (frame_of c.args.b) c.args.point ≡ true) × (c.in-Some.anchor ≡ anchors16 (frame_of c.args.b) c.args.point) = located-in (frame_of c.args.b) c.args.point c.in-Some.anchor (sym c.in-Some.is ∙ c.locate.ensures ∙ ap (λ f. located_of f c.args.point) c.frame_of.ensures) in
     let code_is : (inside (frame_of c.args.b) c.args.point ≡ true) × (c.encode-code.result ≡ code16 (frame_of c.args.b) c.args.point) = let i = anchors-are in
     placed-in (frame_of c.args.b) c.args.point c.encode-code.result (sym (place_in (frame_of c.args.b) c.args.point c.encode-code.result i.0 (c.encode-code.ensures ∙ ap (encode c.args.b.axes c.args.b.axes 16) i.1))) in
     let small : c.encode-code.result / 2 ^ (c.args.b.axes * (16 - c.args.level)) < 281474976710656 = lt_of_le_of_lt (shr_le c.encode-code.result (c.args.b.axes * (16 - c.args.level)))
@@ -77,9 +71,8 @@ overflow_mul-result c =
 
 pub overflow_add-result : goal.overflow_add-result
 overflow_add-result c =
-    let done : Fine c.args.b × (c.args.level ≤ 16) = level-done c.args.b c.args.level (sym c.level_outcome-o.ensures ∙ c.in_default.is) in
-    let where-is : c.locate-p.result ≡ located_of (frame_of c.args.b) c.args.point = c.locate-p.ensures ∙ ap (λ f. located_of f c.args.point) c.frame_of.ensures in
-    let anchors-are : (inside (frame_of c.args.b) c.args.point ≡ true) × (c.locate-p.result.anchor ≡ anchors16 (frame_of c.args.b) c.args.point) = located-in (frame_of c.args.b) c.args.point c.locate-p.result where-is (not-false _ c.if-not-p.false) in
+    let done : Fine c.args.b × (c.args.level ≤ 16) = level-done c.args.b c.args.level (sym c.level_outcome.ensures ∙ c.in_ok-level_outcome.was) in
+    let anchors-are : (inside (frame_of c.args.b) c.args.point ≡ true) × (c.in-Some.anchor ≡ anchors16 (frame_of c.args.b) c.args.point) = located-in (frame_of c.args.b) c.args.point c.in-Some.anchor (sym c.in-Some.is ∙ c.locate.ensures ∙ ap (λ f. located_of f c.args.point) c.frame_of.ensures) in
     let code_is : (inside (frame_of c.args.b) c.args.point ≡ true) × (c.encode-code.result ≡ code16 (frame_of c.args.b) c.args.point) = let i = anchors-are in
     placed-in (frame_of c.args.b) c.args.point c.encode-code.result (sym (place_in (frame_of c.args.b) c.args.point c.encode-code.result i.0 (c.encode-code.ensures ∙ ap (encode c.args.b.axes c.args.b.axes 16) i.1))) in
     let small : c.encode-code.result / 2 ^ (c.args.b.axes * (16 - c.args.level)) < 281474976710656 = lt_of_le_of_lt (shr_le c.encode-code.result (c.args.b.axes * (16 - c.args.level)))
@@ -88,10 +81,9 @@ overflow_add-result c =
 
 pub returns : goal.returns
 returns c =
-    let done : Fine c.args.b × (c.args.level ≤ 16) = level-done c.args.b c.args.level (sym c.level_outcome-o.ensures ∙ c.in_default.is) in
-    let where-is : c.locate-p.result ≡ located_of (frame_of c.args.b) c.args.point = c.locate-p.ensures ∙ ap (λ f. located_of f c.args.point) c.frame_of.ensures in
-    let anchors-are : (inside (frame_of c.args.b) c.args.point ≡ true) × (c.locate-p.result.anchor ≡ anchors16 (frame_of c.args.b) c.args.point) = located-in (frame_of c.args.b) c.args.point c.locate-p.result where-is (not-false _ c.if-not-p.false) in
+    let done : Fine c.args.b × (c.args.level ≤ 16) = level-done c.args.b c.args.level (sym c.level_outcome.ensures ∙ c.in_ok-level_outcome.was) in
+    let anchors-are : (inside (frame_of c.args.b) c.args.point ≡ true) × (c.in-Some.anchor ≡ anchors16 (frame_of c.args.b) c.args.point) = located-in (frame_of c.args.b) c.args.point c.in-Some.anchor (sym c.in-Some.is ∙ c.locate.ensures ∙ ap (λ f. located_of f c.args.point) c.frame_of.ensures) in
     let code_is : (inside (frame_of c.args.b) c.args.point ≡ true) × (c.encode-code.result ≡ code16 (frame_of c.args.b) c.args.point) = let i = anchors-are in
     placed-in (frame_of c.args.b) c.args.point c.encode-code.result (sym (place_in (frame_of c.args.b) c.args.point c.encode-code.result i.0 (c.encode-code.ensures ∙ ap (encode c.args.b.axes c.args.b.axes 16) i.1))) in
     let k = code_is in
-    done-key c.args.b c.args.point c.args.level c.encode-code.result done.1 (sym c.level_outcome-o.ensures ∙ c.in_default.is) k.0 k.1
+    done-key c.args.b c.args.point c.args.level c.encode-code.result done.1 (sym c.level_outcome.ensures ∙ c.in_ok-level_outcome.was) k.0 k.1

@@ -17,4 +17,4 @@ pub overflow_shr-result : goal.overflow_shr-result
 overflow_shr-result c = omega (arith, width-le c.args.f.axes (16 - level_of c.args.k) c.requires.1 (omega arith))
 
 pub returns : goal.returns
-returns c = in_code c.args.f c.args.points.now c.args.k c.args.i c.in-Number.code (sym c.code_at.ensures ∙ c.in-Number.is)
+returns c = in_code c.args.f c.args.points.now c.args.k c.args.i c.in-Some.code (sym c.code_at.ensures ∙ c.in-Some.is)

@@ -3,7 +3,6 @@ use mathlib.Core.Path.{sym, ap, ◌∙◌}
 use native.Mathlib.Omega.{arith}
 use lib.ListN.{length}
 use Prim.Native.Nat.{◌/◌}
-use borrow.Author.Tests.{not-true, not-false}
 use Rattle.space.specs.declared.Frame.{Frame}
 use Rattle.space.specs.Cells.{frame_of}
 use Rattle.sums.proofs.Tells.{tell-true, tell-false}

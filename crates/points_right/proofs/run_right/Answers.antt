@@ -1,7 +1,6 @@
 -- `points_right::run_right` meets its contract.
 use mathlib.Core.Path.{sym, ◌∙◌}
 use lib.ListN.{length, get_or}
-use borrow.Author.Tests.{not-true, not-false}
 use Rattle.points_right.specs.Points.{point_in}
 use Rattle.points_right.proofs.Runs.{upto-start, upto-more, upto_done, not-rising, not-index, not-inside, rows_fit}
 use Rattle.points_right.proofs.run_right.Goals as goal

@@ -1,11 +1,7 @@
 -- `points_right::run_right` meets its contract.
-use Prim.Native.Nat.{◌-◌}
 use Rattle.points_right.specs.Points.{point_in}
 use Rattle.points_right.proofs.Runs.{Upto}
 use Rattle.points_right.proofs.run_right.Given as goal
 
 abbrev pub invariant-loop-p : goal.invariant-loop-p
 invariant-loop-p l = Upto l.n (point_in l.f l.points) l.order l.k l.from l.low l.p
-
-abbrev pub decreases-loop-p : goal.decreases-loop-p
-decreases-loop-p l = l.to - l.p

@@ -13,7 +13,7 @@ pub overflow_mul-squares : goal.overflow_mul-squares
 overflow_mul-squares c = omega (arith, own-small c.args.axes c.args.depth c.args.key c.args.sums.now c.requires.0 c.requires.1 _ _ c.lifted.ensures c.sources_in-own.ensures)
 
 pub loop-i-init : goal.loop-i-init
-loop-i-init c = start c.args.axes c.args.depth c.args.key c.args.sums.now c.requires.0 _ _ _ c.get_neighbours-list.ensures c.lifted.ensures c.sources_in-own.ensures
+loop-i-init c = start c.args.axes c.args.depth c.args.key c.args.sums.now c.requires.0 _ _ _ c.list_neighbours-list.ensures c.lifted.ensures c.sources_in-own.ensures
 
 pub offset_bounds-others-i : goal.offset_bounds-others-i
 offset_bounds-others-i c = omega (arith, room c.args.axes c.args.depth c.args.key c.args.sums.now c.requires.0 c.requires.1 _ _ _ _ _ c.loop-i.invariant)

@@ -1,10 +1,6 @@
 -- At each turn the search from the depth reached answers the reference depth.
-use Prim.Native.Nat.{◌-◌}
 use Rattle.refine.proofs.Depths.{Sought}
 use Rattle.refine.proofs.reference_depth.Given as goal
 
 abbrev pub invariant-loop-depth : goal.invariant-loop-depth
 invariant-loop-depth l = Sought l.axes l.sources l.depth
-
-abbrev pub decreases-loop-depth : goal.decreases-loop-depth
-decreases-loop-depth l = 16 - l.depth

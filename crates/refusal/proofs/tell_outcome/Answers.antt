@@ -1,11 +1,12 @@
 -- Nothing is told of a call that was not refused.
 use mathlib.Core.Path.{refl}
-use Rattle.refusal.specs.declared.Outcome.TheVariants.{Done, Refused}
 use Rattle.refusal.proofs.Telling.{outcome-same}
 use Rattle.refusal.proofs.tell_outcome.Goals as goal
+use Rattle.refusal.specs.Outcome.{accepted}
+use Rattle.std.specs.Prelude.{Err}
 
-pub returns-in-Done : goal.returns-in-Done
-returns-in-Done c = outcome-same _ Done _ c.in-Done.is refl
+pub returns-in-Ok : goal.returns-in-Ok
+returns-in-Ok c = outcome-same _ accepted _ c.in-Ok.is refl
 
-pub returns-in-Refused : goal.returns-in-Refused
-returns-in-Refused c = outcome-same _ (Refused c.in-Refused.refusal) _ c.in-Refused.is c.tell.ensures
+pub returns-in-Err : goal.returns-in-Err
+returns-in-Err c = outcome-same _ (Err c.in-Err.refusal) _ c.in-Err.is c.tell.ensures

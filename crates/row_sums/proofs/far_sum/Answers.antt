@@ -1,5 +1,4 @@
 -- `row_sums::far_sum` meets its contract.
-use Prim.Native.Nat.{◌-◌}
 use Rattle.row_sums.proofs.Climbing.{climb-start, start-in, part_up, part_in, key-valid, row-asks, cells_few, climb-fits, climb-done, climb-more, climb-lost}
 use native.Mathlib.Omega.{arith}
 use Rattle.row_sums.proofs.far_sum.Goals as goal
@@ -59,10 +58,10 @@ pub returns-in_default : goal.returns-in_default
 returns-in_default c = absurd (climb-lost c.args.axes c.args.key.now c.args.total.now c.args.begin.now c.args.indices.now c.args.readings.now c.args.starts.now c.args.flat.now c.args.node c.requires _ _ _ c.loop-axes.invariant _ c.row_sum-sum.ensures.sum c.row_sum-sum.ensures.bounded (omega (arith, c.if-k-eq0.false)) c.parent_of.result c.parent_of.ensures c.find_node-found.result c.find_node-found.ensures c.in_default.is)
 
 pub loop-axes-smaller : goal.loop-axes-smaller
-loop-axes-smaller c = (climb-more c.args.axes c.args.key.now c.args.total.now c.args.begin.now c.args.indices.now c.args.readings.now c.args.starts.now c.args.flat.now c.args.node c.requires _ _ _ c.loop-axes.invariant _ c.row_sum-sum.ensures.sum c.row_sum-sum.ensures.bounded (omega (arith, c.if-k-eq0.false)) c.parent_of.result c.parent_of.ensures c.find_node-found.result c.find_node-found.ensures _ c.in-At.is).1
+loop-axes-smaller c = (climb-more c.args.axes c.args.key.now c.args.total.now c.args.begin.now c.args.indices.now c.args.readings.now c.args.starts.now c.args.flat.now c.args.node c.requires _ _ _ c.loop-axes.invariant _ c.row_sum-sum.ensures.sum c.row_sum-sum.ensures.bounded (omega (arith, c.if-k-eq0.false)) c.parent_of.result c.parent_of.ensures c.find_node-found.result c.find_node-found.ensures _ c.in-Some.is).1
 
 pub loop-axes-preserved : goal.loop-axes-preserved
-loop-axes-preserved c = (climb-more c.args.axes c.args.key.now c.args.total.now c.args.begin.now c.args.indices.now c.args.readings.now c.args.starts.now c.args.flat.now c.args.node c.requires _ _ _ c.loop-axes.invariant _ c.row_sum-sum.ensures.sum c.row_sum-sum.ensures.bounded (omega (arith, c.if-k-eq0.false)) c.parent_of.result c.parent_of.ensures c.find_node-found.result c.find_node-found.ensures _ c.in-At.is).0
+loop-axes-preserved c = (climb-more c.args.axes c.args.key.now c.args.total.now c.args.begin.now c.args.indices.now c.args.readings.now c.args.starts.now c.args.flat.now c.args.node c.requires _ _ _ c.loop-axes.invariant _ c.row_sum-sum.ensures.sum c.row_sum-sum.ensures.bounded (omega (arith, c.if-k-eq0.false)) c.parent_of.result c.parent_of.ensures c.find_node-found.result c.find_node-found.ensures _ c.in-Some.is).0
 
 pub slice_bounds-row_sum-end : goal.slice_bounds-row_sum-end
 slice_bounds-row_sum-end c = part_in c.args.axes c.args.key.now c.args.total.now c.args.begin.now c.args.indices.now c.args.readings.now c.args.starts.now c.args.flat.now c.args.node c.requires _ _ _ c.loop-axes.invariant

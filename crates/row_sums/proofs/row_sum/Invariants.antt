@@ -4,8 +4,8 @@ use lib.ListN.{length}
 use Prim.Native.Nat.{◌-◌}
 use Rattle.row_sums.proofs.row_sum.Given as goal
 
-abbrev pub invariant-loop-k : goal.invariant-loop-k
-invariant-loop-k l = Walking l.axes l.key l.count l.begin l.indices l.readings l.row l.sum l.at
+abbrev pub invariant-loop-step : goal.invariant-loop-step
+invariant-loop-step l = Walking l.axes l.key l.count l.begin l.indices l.readings l.row l.sum l.at
 
-abbrev pub decreases-loop-k : goal.decreases-loop-k
-decreases-loop-k l = length l.row - l.at
+abbrev pub decreases-loop-step : goal.decreases-loop-step
+decreases-loop-step l = length l.row - l.at

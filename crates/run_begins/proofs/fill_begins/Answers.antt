@@ -16,9 +16,6 @@ bounds-begin-q c = omega (arith, c.loop-q-test.true, c.loop-q.invariant.0.placed
 pub overflow_add-run : goal.overflow_add-run
 overflow_add-run c = omega (arith, running-most _ _ _ _ c.loop-q.invariant.0 c.loop-q-test.true, c.requires.1)
 
-pub loop-q-smaller : goal.loop-q-smaller
-loop-q-smaller c = omega (arith, c.loop-q-test.true)
-
 pub loop-q-preserved : goal.loop-q-preserved
 loop-q-preserved c = let f = running_more _ _ _ _ c.loop-q.invariant.0 c.loop-q-test.true in (f, f.placed ∙ sym c.loop-q.invariant.0.placed ∙ c.loop-q.invariant.1)
 

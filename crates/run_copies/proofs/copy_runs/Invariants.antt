@@ -1,11 +1,6 @@
 -- `run_copies::copy_runs` meets its contract.
-use Prim.Native.Nat.{◌-◌}
-use lib.ListN.{length}
 use Rattle.run_copies.proofs.Copying.{Running}
 use Rattle.run_copies.proofs.copy_runs.Given as goal
 
 abbrev pub invariant-loop-q : goal.invariant-loop-q
 invariant-loop-q l = Running l.order l.begin l.own l.initial.out l.out l.at l.q
-
-abbrev pub decreases-loop-q : goal.decreases-loop-q
-decreases-loop-q l = length l.own - l.q

@@ -6,6 +6,3 @@ use Rattle.splicing.proofs.copy_order.Given as goal
 
 abbrev pub invariant-loop-i : goal.invariant-loop-i
 invariant-loop-i l = (l.i ≤ l.n) × Copied l.i l.at (λ j. get_or l.order (l.from + j) 0) l.initial.work l.work
-
-abbrev pub decreases-loop-i : goal.decreases-loop-i
-decreases-loop-i l = l.n - l.i

@@ -5,6 +5,3 @@ use Rattle.splicing.proofs.mark_rows.Given as goal
 
 abbrev pub invariant-loop-i : goal.invariant-loop-i
 invariant-loop-i l = (l.i ≤ l.n) × Copied l.i l.at (λ j. row_at l.axes l.code l.key l.own l.total (l.from + j)) l.initial.mark l.mark
-
-abbrev pub decreases-loop-i : goal.decreases-loop-i
-decreases-loop-i l = l.n - l.i

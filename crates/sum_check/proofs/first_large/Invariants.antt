@@ -1,11 +1,6 @@
 -- `sum_check::first_large` meets its contract.
 use Rattle.sum_check.proofs.Readings.{Looking}
-use lib.ListN.{length}
-use Prim.Native.Nat.{◌-◌}
 use Rattle.sum_check.proofs.first_large.Given as goal
 
 abbrev pub invariant-loop-i : goal.invariant-loop-i
 invariant-loop-i l = Looking l.readings l.i
-
-abbrev pub decreases-loop-i : goal.decreases-loop-i
-decreases-loop-i l = length l.readings - l.i

@@ -1,5 +1,4 @@
 -- `survey::read_numbers` meets its contract.
-use Prim.Native.Nat.{◌-◌}
 use lib.ListN.{length}
 use Rattle.survey.specs.Bytes.{f64s_at}
 use Rattle.survey.specs.File.{filled_with}
@@ -8,6 +7,3 @@ use Rattle.survey.proofs.read_numbers.Given as goal
 
 abbrev pub invariant-loop-i : goal.invariant-loop-i
 invariant-loop-i l = Filling (filled_with (length l.initial.out) (f64s_at l.file l.n l.at)) l.initial.out l.out l.i
-
-abbrev pub decreases-loop-i : goal.decreases-loop-i
-decreases-loop-i l = length l.initial.out - l.i

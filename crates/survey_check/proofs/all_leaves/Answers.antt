@@ -66,12 +66,6 @@ overflow_add-leaves c = omega (arith, leaves-fit c.args.axes c.args.key.now c.ar
 pub with_additions-additions-requires : goal.with_additions-additions-requires
 with_additions-additions-requires c = (omega (arith, c.loop-node.invariant.1.additions-is), c.leaf_tally-tally.ensures.few)
 
-pub overflow_add-node : goal.overflow_add-node
-overflow_add-node c = omega (arith, c.loop-node-test.true, c.well_formed.1.0)
-
-pub loop-node-smaller : goal.loop-node-smaller
-loop-node-smaller c = omega (arith, c.loop-node-test.true)
-
 pub loop-node-preserved : goal.loop-node-preserved
 loop-node-preserved c = (c.leaf_tally-tally.ensures.kept, tour-more c.args.axes c.args.key.now c.args.own.now c.args.begin.now c.args.total.now c.args.readings.now c.args.indices.now c.args.u_starts.now c.args.u_keys.now c.args.v_starts.now c.args.v_keys.now c.requires.passed c.loop-node.far c.loop-node.cells c.loop-node.leaves c.loop-node.additions c.loop-node.node c.loop-node.invariant.1 c.loop-node-test.true _ _ c.node_part-row.ensures.sum c.row_length.ensures _ _ _ c.leaf_tally-tally.ensures.leaves c.leaf_tally-tally.ensures.additions c.with_additions-additions.ensures)
 

@@ -2,12 +2,7 @@
 use Rattle.survey_check.proofs.Leaves.{v_starts}
 use Rattle.survey_check.proofs.Tour.{Touring}
 use Rattle.cell_sums.specs.Kept.{Kept}
-use Prim.Native.Nat.{◌-◌}
-use lib.ListN.{length}
 use Rattle.survey_check.proofs.all_leaves.Given as goal
 
 abbrev pub invariant-loop-node : goal.invariant-loop-node
 invariant-loop-node l = Kept l.key l.total l.begin l.indices l.readings l.names l.held l.counts × Touring l.axes l.key l.own l.begin l.total l.readings l.indices l.u_starts l.u_keys l.v_starts l.v_keys l.far l.cells l.leaves l.additions l.node
-
-abbrev pub decreases-loop-node : goal.decreases-loop-node
-decreases-loop-node l = length l.key - l.node

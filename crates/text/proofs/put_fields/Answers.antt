@@ -1,14 +1,15 @@
--- `text::put_fields` meets its contract.
-use lib.ListN.{take}
+-- The numbers passed have been put, and after a turn one more.
+use mathlib.Core.Path.{sym, ap}
+use lib.Seq.{take_all}
 use Rattle.text.specs.Listing.{field, fields}
-use Rattle.text.proofs.Putting.{turns-none, turns_more, turns-all, mapped-none, mapped-more, mapped-all}
+use Rattle.text.proofs.Putting.{puts_none, puts-join, puts-same, mapped-none, mapped-more}
 use Rattle.text.proofs.put_fields.Goals as goal
 
-pub loop-i-init : goal.loop-i-init
-loop-i-init c = turns-none (λ i. fields (take i c.args.xs.now)) _ _ _ (mapped-none field c.args.xs.now)
+pub loop-x-init : goal.loop-x-init
+loop-x-init c = puts-same _ _ _ _ _ _ (sym (mapped-none field c.args.xs.now)) (puts_none _ _)
 
-pub loop-i-preserved : goal.loop-i-preserved
-loop-i-preserved c = turns_more _ _ _ _ _ _ _ c.loop-i.invariant c.loop-i-test.true _ _ _ c.put_field-m.auto.out c.put_field-m.ensures (mapped-more field _ _ c.loop-i-test.true)
+pub loop-x-preserved : goal.loop-x-preserved
+loop-x-preserved c = puts-same _ _ _ _ _ _ (sym (mapped-more field _ _ c.loop-x-test.true)) (puts-join _ _ _ _ _ _ _ _ c.loop-x.invariant c.put_field-m.ensures)
 
 pub returns : goal.returns
-returns c = turns-all _ _ _ _ _ _ _ c.loop-i.invariant c.loop-i-test.false _ (mapped-all field _)
+returns c = puts-same _ _ _ _ _ _ (ap fields (take_all c.loop-x.x-index c.args.xs.now c.loop-x-test.false)) c.loop-x.invariant

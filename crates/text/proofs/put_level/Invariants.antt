@@ -1,5 +1,4 @@
--- `text::put_level` meets its contract.
-use Prim.Native.Nat.{◌-◌}
+-- The lines of the nodes of the level before this one have been put.
 use lib.Dec.{eqb}
 use lib.ListN.{length, get_or}
 use Rattle.slices.specs.Lists.{filter, range}
@@ -10,6 +9,3 @@ use Rattle.text.proofs.put_level.Given as goal
 
 abbrev pub invariant-loop-node : goal.invariant-loop-node
 invariant-loop-node l = Lined l.key l.own (row_at l.u_starts l.u_keys) (row_at l.v_starts l.v_keys) (λ k. filter (λ i. eqb (level_of (get_or l.key i 0)) l.level) (range 0 k)) l.number l.initial.out l.n l.out l.end l.next l.node (length l.key)
-
-abbrev pub decreases-loop-node : goal.decreases-loop-node
-decreases-loop-node l = length l.key - l.node

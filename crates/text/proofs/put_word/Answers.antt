@@ -1,14 +1,7 @@
--- `text::put_word` meets its contract.
-use mathlib.Core.Path.{refl}
-use lib.ListN.{take}
-use Rattle.text.proofs.Putting.{turns-none, turns_more, turns-all, word_more, word-all}
+-- The bytes passed have been put, and after a turn one more.
+use Rattle.text.proofs.Putting.{puts-join, puts-same, word_more}
+use mathlib.Core.Path.{sym}
 use Rattle.text.proofs.put_word.Goals as goal
 
-pub loop-i-init : goal.loop-i-init
-loop-i-init c = turns-none (λ i. take i c.args.word.now) _ _ _ refl
-
-pub loop-i-preserved : goal.loop-i-preserved
-loop-i-preserved c = turns_more _ _ _ _ _ _ _ c.loop-i.invariant c.loop-i-test.true _ _ _ c.put-m.auto.out c.put-m.ensures (word_more _ _ c.loop-i-test.true)
-
-pub returns : goal.returns
-returns c = turns-all _ _ _ _ _ _ _ c.loop-i.invariant c.loop-i-test.false _ (word-all _)
+pub loop-byte-preserved : goal.loop-byte-preserved
+loop-byte-preserved c = puts-same _ _ _ _ _ _ (sym (word_more _ _ c.loop-byte-test.true)) (puts-join _ _ _ _ _ _ _ _ c.loop-byte.invariant c.put-m.ensures)

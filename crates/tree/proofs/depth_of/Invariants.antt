@@ -1,12 +1,9 @@
 -- `tree::depth_of` meets its contract.
 use mathlib.Core.Path.{◌≡◌}
-use Prim.Native.Nat.{◌≤◌}
-use lib.ListN.{length, drop}
+use Prim.Native.Nat.{◌≤◌, max}
+use lib.ListN.{drop}
 use Rattle.tree.specs.Order.{depth_of}
 use Rattle.tree.proofs.depth_of.Given as goal
 
-abbrev pub invariant-loop-i : goal.invariant-loop-i
-invariant-loop-i l = (l.i ≤ length l.key) × (l.depth ≡ depth_of (drop l.i l.key))
-
-abbrev pub decreases-loop-i : goal.decreases-loop-i
-decreases-loop-i l = l.i
+abbrev pub invariant-loop-k : goal.invariant-loop-k
+invariant-loop-k l = (1 ≤ l.depth) × (max l.depth (depth_of (drop l.k-index l.key)) ≡ depth_of l.key)

@@ -1,11 +1,6 @@
 -- `tree::rows_right` meets its contract.
-use Prim.Native.Nat.{◌-◌}
-use lib.ListN.{length}
 use Rattle.tree.proofs.Pass.{Passed}
 use Rattle.tree.proofs.rows_right.Given as goal
 
 abbrev pub invariant-loop-i : goal.invariant-loop-i
 invariant-loop-i l = Passed l.axes l.key l.own l.begin l.run l.i
-
-abbrev pub decreases-loop-i : goal.decreases-loop-i
-decreases-loop-i l = length l.key - l.i

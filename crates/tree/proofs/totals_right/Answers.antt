@@ -12,20 +12,11 @@ back i h = omega arith
 pub loop-i-init : goal.loop-i-init
 loop-i-init c = totals-start _ _ _ _ _ c.requires _ refl
 
-pub bounds-key-i : goal.bounds-key-i
-bounds-key-i c = omega (arith, c.loop-i-test.true, c.loop-i.invariant.waits.most, c.requires.owns, c.requires.totals)
-
-pub bounds-own-i : goal.bounds-own-i
-bounds-own-i c = omega (arith, c.loop-i-test.true, c.loop-i.invariant.waits.most, c.requires.owns, c.requires.totals)
-
 pub bounds-waiting-level : goal.bounds-waiting-level
 bounds-waiting-level c = omega (arith, level_in _ _ _ _ _ c.requires c.loop-i.waiting c.loop-i.i (c.loop-i.i - 1) c.loop-i.invariant (back _ c.loop-i-test.true))
 
 pub overflow_add-sum-in-loop-i : goal.overflow_add-sum-in-loop-i
 overflow_add-sum-in-loop-i c = record { fits = omega (arith, sum_fits _ _ _ _ _ c.requires c.loop-i.waiting c.loop-i.i (c.loop-i.i - 1) c.loop-i.invariant (back _ c.loop-i-test.true)) }
-
-pub bounds-total-i : goal.bounds-total-i
-bounds-total-i c = omega (arith, c.loop-i-test.true, c.loop-i.invariant.waits.most, c.requires.owns, c.requires.totals)
 
 pub returns-then-total-i : goal.returns-then-total-i
 returns-then-total-i c = bad-total _ _ _ _ _ c.requires c.loop-i.waiting c.loop-i.i (c.loop-i.i - 1) c.loop-i.invariant (back _ c.loop-i-test.true) c.if-total-i.true

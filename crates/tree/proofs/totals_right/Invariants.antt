@@ -4,6 +4,3 @@ use Rattle.tree.proofs.totals_right.Given as goal
 
 abbrev pub invariant-loop-i : goal.invariant-loop-i
 invariant-loop-i l = Totalled l.axes l.key l.own l.total l.waiting l.i
-
-abbrev pub decreases-loop-i : goal.decreases-loop-i
-decreases-loop-i l = l.i

@@ -1,10 +1,6 @@
 -- `grids::spans::parted` meets its contract: the first a axes have their middle.
-use Prim.Native.Nat.{◌-◌}
 use Rattle.grids.proofs.Loops.{Middling}
 use Rattle.grids.proofs.spans.parted.Given as goal
 
 abbrev pub invariant-loop-a : goal.invariant-loop-a
 invariant-loop-a l = Middling l.f l.g l.key l.middle l.a
-
-abbrev pub decreases-loop-a : goal.decreases-loop-a
-decreases-loop-a l = l.f.axes - l.a

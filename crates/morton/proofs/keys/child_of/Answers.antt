@@ -5,9 +5,6 @@ use native.Mathlib.Omega.{arith}
 use Rattle.morton.proofs.Arithmetic.{code-shifted, child-48}
 use Rattle.morton.proofs.keys.child_of.Goals as goal
 
-pub overflow_add-result : goal.overflow_add-result
-overflow_add-result c = omega (arith, ap (λ (x : ℕ). x * 2 ^ c.args.axes % 2 ^ 64) c.code_of.ensures ∙ code-shifted c.args.axes c.args.key c.requires.0 c.requires.1, child-48 c.args.axes c.args.key c.requires.0 c.requires.1 c.args.c c.requires.2)
-
 pub overflow_mul-result : goal.overflow_mul-result
 overflow_mul-result c = omega (arith, ap (λ (x : ℕ). x * 2 ^ c.args.axes % 2 ^ 64) c.code_of.ensures ∙ code-shifted c.args.axes c.args.key c.requires.0 c.requires.1, child-48 c.args.axes c.args.key c.requires.0 c.requires.1 c.args.c c.requires.2)
 

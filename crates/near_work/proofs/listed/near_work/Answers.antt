@@ -1,4 +1,4 @@
--- `listed::near_work` meets its contract.
+-- What the nodes before this one add is summed, and after a turn what it adds.
 use mathlib.Core.Path.{◌∙◌}
 use native.Mathlib.Omega.{arith}
 use Rattle.near_pass.specs.Sums.{work_of}

@@ -2,7 +2,6 @@
 use mathlib.Core.Path.{sym, ap, ◌∙◌, subst}
 use Prim.Native.Nat.{◌≤◌}
 use native.Mathlib.Omega.{arith}
-use borrow.Author.Tests.{not-true, not-false}
 use Rattle.tree.specs.WellFormed.{most_sources}
 use Rattle.rows.specs.Lists.{u_row}
 use Rattle.sourced.proofs.Sound.{tree-keys}

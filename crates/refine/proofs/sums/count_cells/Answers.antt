@@ -7,23 +7,23 @@ use native.Mathlib.Omega.{arith}
 use Rattle.refine.proofs.Tallies.{tallied-none, tallied-small, tallied-more, tallied-all}
 use Rattle.refine.proofs.sums.count_cells.Goals as goal
 
-pub loop-i-init : goal.loop-i-init
-loop-i-init c = tallied-none c.args.shift c.args.codes.now (length c.args.counts.now) _ c.clear_usize.ensures
+pub loop-code-init : goal.loop-code-init
+loop-code-init c = tallied-none c.args.shift c.args.codes.now (length c.args.counts.now) _ c.clear_usize.ensures
 
 pub offset_bounds-counts-cell : goal.offset_bounds-counts-cell
-offset_bounds-counts-cell c = let b = c.requires.1.below c.loop-i.i (omega arith) in let m = length-replicate {A = ℕ} (length c.args.counts.now) 0 in let e = ap length c.clear_usize.ensures in search rules
+offset_bounds-counts-cell c = let b = c.requires.1.below c.loop-code.code-index (omega arith) in let m = length-replicate {A = ℕ} (length c.args.counts.now) 0 in let e = ap length c.clear_usize.ensures in search rules
 
 pub bounds-counts-cell : goal.bounds-counts-cell
-bounds-counts-cell c = let b = c.requires.1.below c.loop-i.i (omega arith) in let m = length-replicate {A = ℕ} (length c.args.counts.now) 0 in let e = ap length c.clear_usize.ensures in omega (arith, c.loop-i.invariant.wide)
+bounds-counts-cell c = let b = c.requires.1.below c.loop-code.code-index (omega arith) in let m = length-replicate {A = ℕ} (length c.args.counts.now) 0 in let e = ap length c.clear_usize.ensures in omega (arith, c.loop-code.invariant.wide)
 
 pub overflow_add-counts : goal.overflow_add-counts
-overflow_add-counts c = let b = c.requires.1.below c.loop-i.i (omega arith) in let m = length-replicate {A = ℕ} (length c.args.counts.now) 0 in let e = ap length c.clear_usize.ensures in omega (arith, tallied-small c.args.shift c.args.codes.now (length c.clear_usize.new.column) c.loop-i.counts c.loop-i.i c.loop-i.invariant (omega arith) _ refl (omega arith))
+overflow_add-counts c = let b = c.requires.1.below c.loop-code.code-index (omega arith) in let m = length-replicate {A = ℕ} (length c.args.counts.now) 0 in let e = ap length c.clear_usize.ensures in omega (arith, tallied-small c.args.shift c.args.codes.now (length c.clear_usize.new.column) c.loop-code.counts c.loop-code.code-index c.loop-code.invariant (omega arith) _ refl (omega arith))
 
-pub bounds-counts-cell-in-loop-i : goal.bounds-counts-cell-in-loop-i
-bounds-counts-cell-in-loop-i c = let b = c.requires.1.below c.loop-i.i (omega arith) in let m = length-replicate {A = ℕ} (length c.args.counts.now) 0 in let e = ap length c.clear_usize.ensures in omega (arith, c.loop-i.invariant.wide)
+pub bounds-counts-cell-in-loop-code : goal.bounds-counts-cell-in-loop-code
+bounds-counts-cell-in-loop-code c = let b = c.requires.1.below c.loop-code.code-index (omega arith) in let m = length-replicate {A = ℕ} (length c.args.counts.now) 0 in let e = ap length c.clear_usize.ensures in omega (arith, c.loop-code.invariant.wide)
 
-pub loop-i-preserved : goal.loop-i-preserved
-loop-i-preserved c = let b = c.requires.1.below c.loop-i.i (omega arith) in let m = length-replicate {A = ℕ} (length c.args.counts.now) 0 in let e = ap length c.clear_usize.ensures in tallied-more c.args.shift c.args.codes.now (length c.clear_usize.new.column) c.loop-i.counts c.loop-i.i c.loop-i.invariant (omega arith) _ refl (omega arith)
+pub loop-code-preserved : goal.loop-code-preserved
+loop-code-preserved c = let b = c.requires.1.below c.loop-code.code-index (omega arith) in let m = length-replicate {A = ℕ} (length c.args.counts.now) 0 in let e = ap length c.clear_usize.ensures in tallied-more c.args.shift c.args.codes.now (length c.clear_usize.new.column) c.loop-code.counts c.loop-code.code-index c.loop-code.invariant (omega arith) _ refl (omega arith)
 
 pub returns : goal.returns
-returns c = tallied-all c.args.shift c.args.codes.now (length c.clear_usize.new.column) c.loop-i.counts c.loop-i.i c.loop-i.invariant (omega arith)
+returns c = tallied-all c.args.shift c.args.codes.now (length c.clear_usize.new.column) c.loop-code.counts c.loop-code.code-index c.loop-code.invariant (omega arith)

@@ -1,9 +1,0 @@
--- `hints::fill` meets its contract.
-use Rattle.std.proofs.Common.{◌-◌, ◌≤◌}
-use Rattle.hints.proofs.fill.Given as goal
-
-abbrev pub invariant-loop-at : goal.invariant-loop-at
-invariant-loop-at l = 0 ≤ 0
-
-abbrev pub decreases-loop-at : goal.decreases-loop-at
-decreases-loop-at l = l.size - l.at
