@@ -2,10 +2,11 @@
 use mathlib.Core.Path.{◌≡◌, refl, sym, ap, ap₂, ◌∙◌, subst}
 use mathlib.Core.List.{List, [], ◌∷◌}
 use mathlib.Core.Logic.{◌⊎◌, inl, inr, ⊎_elim, ◌≢◌}
-use Prim.Native.Nat.{ℕ, suc, ◌+◌, ◌-◌, ◌/◌, ◌%◌, ◌^◌, ◌≤◌, ◌<◌, zero-le}
+use Prim.Native.Nat.{ℕ, suc, ◌+◌, ◌*◌, ◌-◌, ◌/◌, ◌%◌, ◌^◌, ◌≤◌, ◌<◌, zero-le}
 use native.Mathlib.Omega.{arith}
 use native.Mathlib.Numerals.{add-one}
 use native.Mathlib.Nat.{zero-div}
+use native.Mathlib.Decide.{dec_lt}
 use lib.Dec.{eqb}
 use lib.ListN.{length, get_or, take, drop, set, replicate, length-replicate, get_or-replicate, length-set, take-append-drop}
 use lib.Seq.{take-suc, take_all, get_or-set_same, get_or-set_other}
@@ -16,6 +17,21 @@ use Rattle.slices.proofs.Lists.{count-append}
 use Rattle.slices.proofs.Same.{times}
 use Rattle.arrangement.specs.Windows.{window, OnceFrom}
 use Rattle.arrangement.proofs.Bits.{bit_of, set_same, set-above, set_below, set-fits}
+
+-- ---- an index by its window and its place there
+pub elsewhere : (x w : ℕ) → (x / 131072 ≡ w → ⊥) → (x < w * 131072) ⊎ (131072 ≤ x - w * 131072)
+elsewhere x w n = go (dec_lt x (w * 131072))
+  where
+    go : Dec (x < w * 131072) → (x < w * 131072) ⊎ (131072 ≤ x - w * 131072)
+    go (yes l) = inl l
+    go (no l) = go2 (dec_lt (x - w * 131072) 131072)
+      where
+        go2 : Dec (x - w * 131072 < 131072) → (x < w * 131072) ⊎ (131072 ≤ x - w * 131072)
+        go2 (yes k) = absurd (n (omega arith))
+        go2 (no k) = inr (omega arith)
+
+pub place_in : (x w : ℕ) → x / 131072 ≡ w → (x ≡ w * 131072 + x % 131072) × (x % 131072 < 131072)
+place_in x w e = (omega arith, omega arith)
 
 -- the bit of the index v places into the window
 abbrev pub mark : List ℕ → ℕ → ℕ

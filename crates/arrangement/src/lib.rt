@@ -1,7 +1,7 @@
 #![tactic(auto)]
 
 // Whether an order column arranges all indices below a number: document 02, orders 6 and 12. Nothing is lent: the indices met are marked in a small local table, window by window.
-ghost use Rattle.std.specs.Prelude.{◌≡◌, ◌<◌, ◌^◌};
+ghost use Rattle.std.specs.Prelude.{◌≡◌, ◌<◌, ◌^◌, ◌*◌};
 ghost use Rattle.sums.specs.Arrangement.{arranges};
 ghost use Rattle.sums.specs.Tells.{Tells};
 ghost use Rattle.arrangement.specs.Windows.{AllBelow, OnceFrom};
@@ -24,16 +24,16 @@ fn all_below(order: &[usize], n: usize) -> bool
     order.iter().all(|index| *index < n)
 }
 
-// Whether no index of the window that starts at `from` stands twice.
-fn once_from(order: &[usize], from: usize) -> bool
-    ensures { Tells (OnceFrom order.now from) result }
+// Whether no index of a window stands twice.
+fn once_from(order: &[usize], window: usize) -> bool
+    ensures { Tells (OnceFrom order.now (window * 131072)) result }
 {
     let mut seen = [0u64; 2048];
     for &index in order {
-        if index < from || WINDOW <= index - from {
+        if index / WINDOW != window {
             continue;
         }
-        let at = index - from;
+        let at = index % WINDOW;
         let word = at / 64;
         let old = seen[word];
         if (old >> (at % 64)) % 2 != 0 {
@@ -55,7 +55,7 @@ pub fn is_arrangement(order: &[usize], n: usize) -> bool
         return false;
     }
     for window in 0..n.div_ceil(WINDOW) {
-        if !once_from(order, window * WINDOW) {
+        if !once_from(order, window) {
             return false;
         }
     }

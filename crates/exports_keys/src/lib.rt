@@ -8,7 +8,6 @@ ghost use Rattle.neighbours.specs.Answer.{neighbours_answer};
 ghost use Rattle.refusal.specs.Outcome.{ending, answer_or};
 ghost use Rattle.exports_keys.specs.Told.{told, no_keys, nowhere};
 
-use anchors::Decoded;
 use axes::Three;
 use morton::KeyList;
 use refusal::Refusal;
@@ -169,15 +168,20 @@ pub fn lohandema_decode_key(axes: usize, key: u64, anchor: &mut [u64; 3], level:
     ensures anchor { anchor.new ≡ (answer_or nowhere (decode_answer axes key)).anchor }
     ensures level { level.new ≡ (answer_or nowhere (decode_answer axes key)).level }
 {
-    let none = Decoded {
-        anchor: [0u64; 3],
-        level: 0,
-    };
-    let mut found = none;
-    let ended = tell(anchors::decode_key(axes, key), none, &mut found);
-    *anchor = found.anchor;
-    *level = found.level;
-    ended
+    match anchors::decode_key(axes, key) {
+        Ok(found) => {
+            let place = found.anchor;
+            *anchor = place;
+            *level = found.level;
+            end_of(Ok(()))
+        }
+        Err(refusal) => {
+            let none = [0u64; 3];
+            *anchor = none;
+            *level = 0;
+            end_of(Err(refusal))
+        }
+    }
 }
 
 pub fn lohandema_touching(axes: usize, a: u64, b: u64, touches: &mut bool) -> Ended

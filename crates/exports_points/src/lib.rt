@@ -12,7 +12,6 @@ ghost use Rattle.extents.specs.Extents.{tree_box};
 ghost use Rattle.exports_points.specs.Boxes.{box_at};
 ghost use Rattle.exports_points.specs.Told.{no_anchor, no_centre, no_box, AgreeTold, depth_answer};
 
-use centres::Centred;
 use exports_keys::Ended;
 use refusal::Refusal;
 use space::Box;
@@ -95,15 +94,20 @@ pub fn lohandema_get_center_length(
     ensures length { length.new ≡ (answer_or no_centre (centre_length (box_at centre.now radius axes) key)).length }
 {
     let b = box_at(centre, radius, axes);
-    let none = Centred {
-        centre: [0.0; 3],
-        length: 0.0,
-    };
-    let mut found = none;
-    let ended = exports_keys::tell(centres::get_center_length(b, key), none, &mut found);
-    *middle = found.centre;
-    *length = found.length;
-    ended
+    match centres::get_center_length(b, key) {
+        Ok(found) => {
+            let place = found.centre;
+            *middle = place;
+            *length = found.length;
+            exports_keys::end_of(Ok(()))
+        }
+        Err(refusal) => {
+            let none = [0.0; 3];
+            *middle = none;
+            *length = 0.0;
+            exports_keys::end_of(Err(refusal))
+        }
+    }
 }
 
 pub fn lohandema_are_adjacent(

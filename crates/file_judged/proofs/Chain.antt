@@ -231,6 +231,7 @@ module _ (file : List ℕ) (r : Rooms) where
 
   -- where nothing is refused: the sections stand, the tree is right, and there is room
   pub record Passed : Type 0 where
+    pub checked : sections_check file ≡ accepted
     pub stands : Sectioned file (located file)
     pub columns : columns_right (tree_in file) ≡ true
     pub others : rest_right (tree_in file) ≡ true
@@ -243,6 +244,7 @@ module _ (file : List ℕ) (r : Rooms) where
       let (p, q) = both-done (ask (columns_right (tree_in file)) Tree) (ask (rest_right (tree_in file)) Section) c in
       let (x, y, z) = sections-passed file a in
       record {
+        checked = a;
         stands = sectioned-at file x y z;
         columns = asked (columns_right (tree_in file)) Tree p;
         others = asked (rest_right (tree_in file)) Section q;

@@ -18,8 +18,7 @@ use Rattle.tree.specs.WellFormed.{SoundTree}
 use Rattle.sourced.proofs.Checks.{passed}
 use Rattle.rows.specs.Written.{keys_room}
 use Rattle.node_rows.specs.declared.Sizes.{Sizes}
-use Rattle.lists.specs.Halves.{both_sizes}
-use Rattle.interaction.specs.Answers.{keys_of, starts_check, lists_check, lists_answer}
+use Rattle.interaction.specs.Answers.{keys_of, both_keys, starts_check, lists_check, lists_answer}
 use Rattle.std.specs.Prelude.{Err, Ok}
 use Rattle.refusal.specs.Outcome.{Answer, Outcome, accepted}
 
@@ -72,7 +71,7 @@ module _ (d : ℕ) (keys own begin total : List ℕ) (us uk vs vk : ℕ) where
   told o s t = o then ask s (Room 6) then ask t (Room 7)
 
   abbrev sizes : Answer Sizes
-  sizes = Ok (both_sizes (u_row d keys own) (v_row d keys own) keys)
+  sizes = Ok (both_keys (u_row d keys own) (v_row d keys own) keys)
 
   pub early : (r : Refusal) → starts_check d (columns keys own begin total) us vs ≡ Err r → Err r ≡ lists_answer d (columns keys own begin total) us uk vs vk
   early r h = sym (ap (λ o. told o u_fits v_fits then sizes) h)

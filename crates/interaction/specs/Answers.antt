@@ -9,11 +9,14 @@ use Rattle.rows.specs.Written.{row_starts, row_keys, keys_room}
 use Rattle.sourced.specs.Answers.{tree_check}
 use Rattle.refusal.specs.Outcome.{Answer, Outcome}
 use Rattle.node_rows.specs.declared.Sizes.{Sizes}
-use Rattle.lists.specs.Halves.{both_sizes}
 
 -- how many keys the rows of all nodes have
 abbrev pub keys_of : (ℕ → List ℕ) → List ℕ → ℕ
 keys_of row keys = length (row_keys row keys)
+
+-- both lists' rows
+abbrev pub both_keys : (u v : ℕ → List ℕ) → List ℕ → Sizes
+both_keys u v keys = record { u = keys_of u keys; v = keys_of v keys }
 
 module _ (d : ℕ) (t : Columns) where
   -- 1, 13, then 8: starts need one entry for each node and one more
@@ -27,7 +30,7 @@ module _ (d : ℕ) (t : Columns) where
 
   -- how many keys U and V have, or the refusal
   abbrev pub lists_answer : (us uk vs vk : ℕ) → Answer Sizes
-  lists_answer us uk vs vk = lists_check us uk vs vk then Ok (both_sizes (u_rows d t) (v_rows d t) t.keys)
+  lists_answer us uk vs vk = lists_check us uk vs vk then Ok (both_keys (u_rows d t) (v_rows d t) t.keys)
 
   -- what is left in each of the slices
   abbrev pub u_starts_left : (us uk vs vk : ℕ) → List ℕ

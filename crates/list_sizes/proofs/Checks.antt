@@ -18,8 +18,7 @@ use Rattle.rows.specs.Lists.{u_row, v_row}
 use Rattle.sourced.specs.Answers.{tree_check}
 use Rattle.sourced.proofs.Checks.{passed, passed-totals}
 use Rattle.node_rows.specs.declared.Sizes.{Sizes}
-use Rattle.lists.specs.Halves.{both_sizes}
-use Rattle.interaction.specs.Answers.{keys_of}
+use Rattle.interaction.specs.Answers.{keys_of, both_keys}
 use Rattle.list_sizes.specs.Sizes.{counted, CountsBoth, keys_check, room_check, sizes_answer}
 use Rattle.std.specs.Prelude.{Err, Ok}
 use Rattle.refusal.specs.Outcome.{Answer, Outcome, accepted}
@@ -86,7 +85,7 @@ module _ (d : ℕ) (keys own begin total : List ℕ) (ls rs : ℕ) where
 
   -- ---- the answer
   abbrev sizes : Outcome → Answer Sizes
-  sizes o = o then keys_check (keys_of (u_row d keys own) keys) (keys_of (v_row d keys own) keys) then Ok (both_sizes (u_row d keys own) (v_row d keys own) keys)
+  sizes o = o then keys_check (keys_of (u_row d keys own) keys) (keys_of (v_row d keys own) keys) then Ok (both_keys (u_row d keys own) (v_row d keys own) keys)
 
   pub refused : (r : Refusal) → room_check d (columns keys own begin total) ls rs ≡ Err r → Err r ≡ sizes_answer d (columns keys own begin total) ls rs
   refused r h = sym (ap sizes h)

@@ -15,7 +15,8 @@ use Rattle.lookup.specs.declared.Holder.{Holder}
 use Rattle.grouping.proofs.Values.{up_more, up_next}
 use Rattle.grouping.proofs.Passing.{Passed, pass-start, pass-more, pass-stop, pass-done}
 use Rattle.tree.specs.Leaves.{held, leaf_key, steps_to}
-use Rattle.lookup.specs.Lookup.{leaf_for, holder_of}
+use Rattle.lookup.specs.Lookup.{holder_of}
+use Rattle.lookup.specs.Single.{leaf_for}
 use Rattle.lookup.specs.Batch.{held_before, leaf_keys, steps_sum}
 use Rattle.lookup.specs.Work.{all_or, holders_of}
 use Rattle.std.specs.Prelude.{Err, Ok, None, Option, Some}

@@ -17,7 +17,8 @@ use Rattle.tree.specs.Leaves.{cell_of, climbed, leaf_level, held, leaf_key, step
 use Rattle.tree.specs.Finding.{TreeKeys}
 use Rattle.tree.proofs.Ranges.{distinct}
 use Rattle.tree.proofs.Leaves.{tree_of, place_is, depth_le}
-use Rattle.lookup.specs.Lookup.{leaf_for, holder_of, holder_at, FoundWithin, Steps}
+use Rattle.lookup.specs.Lookup.{holder_of, holder_at, FoundWithin, Steps}
+use Rattle.lookup.specs.Single.{leaf_for}
 use Rattle.lookup.specs.declared.Holder.{Holder}
 use Rattle.std.specs.Prelude.{None, Option, Some}
 

@@ -25,8 +25,8 @@ use Rattle.space.proofs.Refusals.{fine, level-fine}
 use Rattle.points.proofs.Checked.{point-out}
 use Rattle.points.proofs.Answers.{refused-key, done-key}
 use Rattle.lookup.specs.declared.Holder.{Holder}
-use Rattle.lookup.specs.Lookup.{leaf_for, holder_of}
-use Rattle.lookup.specs.Single.{tree_outcome, code_leaf, leaf_at, point_to_leaf}
+use Rattle.lookup.specs.Lookup.{holder_of}
+use Rattle.lookup.specs.Single.{tree_outcome, leaf_for, code_leaf, leaf_at, point_to_leaf}
 use Rattle.lookup.proofs.TreeRule.{tree-keys, by-rule}
 use Rattle.refusal.specs.Outcome.{Answer, Outcome, accepted}
 use Rattle.std.specs.Option.{ok_or}

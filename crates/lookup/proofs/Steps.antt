@@ -22,9 +22,9 @@ use Rattle.space.proofs.Refusals.{fine}
 use Rattle.morton.proofs.Checks.{axes-known}
 use Rattle.tree.specs.Leaves.{held, leaf_key, steps_to}
 use Rattle.lookup.specs.declared.Holder.{Holder}
-use Rattle.lookup.specs.Lookup.{leaf_for, Steps, BatchSteps}
+use Rattle.lookup.specs.Lookup.{Steps, BatchSteps}
 use Rattle.lookup.specs.Batch.{held_before, steps_sum, codes_inside, call_outcome, points_outcome, lookup_outcome}
-use Rattle.lookup.specs.Single.{tree_outcome, single_outcome, point_to_leaf}
+use Rattle.lookup.specs.Single.{tree_outcome, leaf_for, single_outcome, point_to_leaf}
 use Rattle.lookup.proofs.TreeRule.{tree-keys}
 use Rattle.lookup.proofs.Leaves.{steps-to}
 use Rattle.lookup.proofs.Single.{tree-fine}

@@ -4,10 +4,7 @@ use Rattle.morton.specs.Keys.{level_of}
 use Rattle.tree.specs.Order.{depth_of}
 use Rattle.tree.specs.Leaves.{held, leaf_key, steps_to}
 use Rattle.lookup.specs.declared.Holder.{Holder}
-
--- the key of the leaf that holds a code, and the steps to it
-abbrev pub leaf_for : ℕ → List ℕ → ℕ → Holder
-leaf_for d keys code = record { key = leaf_key d keys code; steps = steps_to d keys code }
+use Rattle.lookup.specs.Single.{leaf_for}
 
 -- the leaf that holds a code, where one does
 abbrev pub holder_of : ℕ → List ℕ → ℕ → Option Holder

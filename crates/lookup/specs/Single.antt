@@ -8,14 +8,17 @@ use Rattle.space.specs.Cells.{frame_of, inside, code16}
 use Rattle.space.specs.Walls.{first_wall}
 use Rattle.tree.specs.Columns.{Columns}
 use Rattle.tree.specs.WellFormed.{well_formed}
-use Rattle.tree.specs.Leaves.{held}
+use Rattle.tree.specs.Leaves.{held, leaf_key, steps_to}
 use Rattle.lookup.specs.declared.Holder.{Holder}
-use Rattle.lookup.specs.Lookup.{leaf_for}
 use Rattle.refusal.specs.Outcome.{Answer, Outcome}
 
 -- 1 DIMS, 2 BOX, 13 TREE
 abbrev pub tree_outcome : Box → Columns → Outcome
 tree_outcome b t = box_outcome b then ask (well_formed b.axes t.keys t.own t.begin t.total) Tree
+
+-- the key of the leaf that holds a code, and the steps to it
+abbrev pub leaf_for : ℕ → List ℕ → ℕ → Holder
+leaf_for d keys code = record { key = leaf_key d keys code; steps = steps_to d keys code }
 
 -- the leaf that holds a level-16 code, or 12 UNSTORED
 abbrev pub code_leaf : ℕ → List ℕ → ℕ → Answer Holder

@@ -1,5 +1,5 @@
 // A cell's level, parent, children, siblings and ancestors, by its key.
-ghost use Rattle.std.specs.Prelude.{◌≡◌, ◌^◌, ◌<◌};
+ghost use Rattle.std.specs.Prelude.{◌≡◌, ◌^◌, ◌<◌, ◌%◌};
 ghost use Rattle.slices.specs.Lists.{filled};
 ghost use Rattle.morton.specs.Keys.{level_of, code_of, ValidKey, parent, child, children, ancestors};
 ghost use Rattle.morton.specs.Answers.{key_check, below_root_check, above_deepest, level_answer, parent_answer, child_index_answer, children_answer, siblings_answer, ancestors_answer, key_list};
@@ -25,7 +25,8 @@ pub fn code_of(key: u64) -> u64
 // Where a table of so many slots has what it holds of a cell.
 pub fn slot_of<const SLOTS: usize>(key: u64) -> usize
     requires { 0 < SLOTS }
-    ensures { result < SLOTS }
+    ensures below { result < SLOTS }
+    ensures value { result ≡ code_of key % SLOTS }
 {
     code_of(key) as usize % SLOTS
 }

@@ -193,6 +193,44 @@ module _ (b : Box) (keys own : List ℕ) (t : SoundTree b.axes keys own) (xs : L
       go zero z = own-weights z k ∙ ap (own_of keys own) (sym e) ∙ own_count d keys own t i l ∙ (well d keys own t).inner i l (ap (leaf d keys) e ∙ f)
       go (suc m) z = none-inner (λ q. omega arith) done k f
 
+-- ---- the sources copied, entry by entry
+pub record Copying (own old counts : List ℕ) (i : ℕ) : Type 0 where
+  pub upto : i ≤ length own
+  pub long : length counts ≡ length old
+  pub first : (j : ℕ) → j < i → get_or counts j 0 ≡ get_or own j 0
+  pub rest : (j : ℕ) → i ≤ j → get_or counts j 0 ≡ 0
+
+module _ (own old : List ℕ) (room : length own ≤ length old) (zeros : old ≡ replicate (length old) 0) where
+  pub copying-start : Copying own old old 0
+  copying-start = record { upto = zero-le; long = refl; first = λ j l. absurd (omega arith); rest = λ j _. ap (λ (c : List ℕ). get_or c j 0) zeros ∙ get_or-zeros (length old) j }
+
+  pub copying-more : (counts : List ℕ) (i : ℕ) → Copying own old counts i → i < length own → Copying own old (set counts i (get_or own i 0)) (i + 1)
+  copying-more counts i c l = record {
+    upto = omega arith;
+    long = length-set counts i (get_or own i 0) ∙ c.long;
+    first = λ j h. go j h (dec_lt j i);
+    rest = λ j h. get_or-set_other counts i j (get_or own i 0) 0 (λ z. omega arith) ∙ c.rest j (omega arith);
+  }
+    where
+      go : (j : ℕ) → j < i + 1 → Dec (j < i) → get_or (set counts i (get_or own i 0)) j 0 ≡ get_or own j 0
+      go j h (yes k) = get_or-set_other counts i j (get_or own i 0) 0 (λ z. omega arith) ∙ c.first j k
+      go j h (no k) =
+          let z : j ≡ i = omega arith in
+          ap (λ x. get_or (set counts i (get_or own i 0)) x 0) z ∙ get_or-set_same counts i (get_or own i 0) 0 (omega (arith, c.long)) ∙ ap (λ x. get_or own x 0) (sym z)
+
+  pub copying-all : (counts : List ℕ) (i : ℕ) → Copying own old counts i → length own ≤ i → counts ≡ filled (length old) own
+  copying-all counts i c h = ext_get_or 0 counts (filled (length old) own) (c.long ∙ sym size) (λ j _. go j (dec_lt j (length own)))
+    where
+      size : length (filled (length old) own) ≡ length old
+      size = length-append own (replicate (length old - length own) 0) ∙ omega (arith, length-replicate {A = ℕ} (length old - length own) 0)
+
+      go : (j : ℕ) → Dec (j < length own) → get_or counts j 0 ≡ get_or (filled (length old) own) j 0
+      go j (yes l) = c.first j (omega arith) ∙ sym (get_or-append own (replicate (length old - length own) 0) 0 j l)
+      go j (no l) =
+          let e : length own + (j - length own) ≡ j = omega arith in
+          c.rest j (omega (arith, c.upto))
+          ∙ sym (ap (λ x. get_or (filled (length old) own) x 0) (sym e) ∙ get_or-append-add own (replicate (length old - length own) 0) (j - length own) 0 ∙ get_or-zeros (length old - length own) (j - length own))
+
 -- ---- the entries of nodes with children cleared, node by node
 pub record Clearing (keys old counts : List ℕ) (i : ℕ) : Type 0 where
   pub upto : i ≤ length keys

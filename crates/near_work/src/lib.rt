@@ -25,7 +25,10 @@ fn copy_own(own: &[usize], counts: &mut [usize])
     requires { (length own.now ≤ length counts.old) × (counts.old ≡ replicate (length counts.old) 0) }
     ensures { counts.new ≡ filled (length counts.old) own.now }
 {
-    counts[..own.len()].copy_from_slice(own);
+    // Not `copy_from_slice`: it would have the archive ask its caller for memmove.
+    for i in 0..own.len() {
+        counts[i] = own[i];
+    }
 }
 
 // Counts the targets of each leaf, in counts that are 0; without targets the sources serve as targets.

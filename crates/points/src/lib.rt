@@ -36,7 +36,8 @@ pub fn point_to_key(b: Box, point: [f64; 3], level: u64) -> Result<u64, Refusal>
 {
     space::level_outcome(b, level)?;
     let Some(anchor) = space::locate(space::frame_of(b), &point, 0) else {
-        return Err(outside(b, point));
+        let refusal = outside(b, point);
+        return Err(refusal);
     };
     let code = codes::encode(b.axes, anchor);
     let above = (b.axes as u64) * (16 - level);

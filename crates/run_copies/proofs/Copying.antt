@@ -1,15 +1,50 @@
--- Runs copied one after the other.
+-- Entries copied one by one, and runs one after the other.
 use mathlib.Core.Path.{◌≡◌, refl, sym, ap, ap₂, ◌∙◌}
-use mathlib.Core.List.{List, [], ◌++◌, append_assoc, append-nil}
-use Prim.Native.Nat.{ℕ, suc, ◌+◌, ◌-◌, ◌≤◌, ◌<◌}
+use mathlib.Core.List.{List, [], ◌∷◌, ◌++◌, append_assoc, append-nil}
+use Prim.Native.Nat.{ℕ, zero, suc, ◌+◌, ◌-◌, ◌≤◌, ◌<◌}
 use native.Mathlib.Omega.{arith}
+use native.Mathlib.Nat.{add-zero}
 use native.Mathlib.Numerals.{add-one}
-use lib.ListN.{length, get_or, take, drop, replicate, drop_of_length-le}
-use lib.Seq.{drop-cons, length-take-le}
+use lib.ListN.{length, get_or, set, take, drop, replicate, length-set, length-drop, drop_of_length-le}
+use lib.Seq.{take-suc, take-suc-set, get_or-drop, drop-cons, length-take-le}
 use Rattle.slices.specs.Lists.{sum, filled}
 use Rattle.slices.proofs.Lists.{cleared-filled}
 use Rattle.slices.proofs.Sums.{sum-take, sum-whole}
 use Rattle.run_copies.specs.Runs.{runs, Copiable}
+
+-- ---- one run
+
+pub record Copied (order : List ℕ) (from n : ℕ) (out₀ : List ℕ) (at : ℕ) (out : List ℕ) (j : ℕ) : Type 0 where
+  pub within : j ≤ n
+  pub kept : length out ≡ length out₀
+  pub entries : take (at + j) out ≡ take at out₀ ++ take j (drop from order)
+
+module _ (order : List ℕ) (from n : ℕ) (out₀ : List ℕ) (at : ℕ) where
+  pub copied_none : Copied order from n out₀ at out₀ 0
+  copied_none = record { within = omega arith; kept = refl; entries = ap (λ (m : ℕ). take m out₀) (add-zero at) ∙ sym (append-nil (take at out₀)) }
+
+  module _ (out : List ℕ) (j : ℕ) (s : Copied order from n out₀ at out j) (l : j < n) (f : from + n ≤ length order) (h : at + n ≤ length out₀) where
+    pub copied_more : Copied order from n out₀ at (set out (at + j) (get_or order (from + j) 0)) (j + 1)
+    copied_more =
+        let a : at + j < length out = omega (arith, s.kept) in
+        let d : j < length (drop from order) = omega (arith, length-drop from order) in
+        let e : at + (j + 1) ≡ suc (at + j) = omega arith in
+        record {
+          within = omega arith;
+          kept = length-set out (at + j) (get_or order (from + j) 0) ∙ s.kept;
+          entries =
+              ap (λ (m : ℕ). take m (set out (at + j) (get_or order (from + j) 0))) e
+              ∙ take-suc-set out (at + j) (get_or order (from + j) 0) a
+              ∙ ap (λ (l : List ℕ). l ++ get_or order (from + j) 0 ∷ []) s.entries
+              ∙ append_assoc (take at out₀) (take j (drop from order)) (get_or order (from + j) 0 ∷ [])
+              ∙ ap (λ (l : List ℕ). take at out₀ ++ l) (ap (λ (x : ℕ). take j (drop from order) ++ x ∷ []) (sym (get_or-drop from order j 0)) ∙ sym (take-suc (drop from order) j 0 d))
+              ∙ ap (λ (m : ℕ). take at out₀ ++ take m (drop from order)) (sym (add-one j));
+        }
+
+  pub copied_all : (out : List ℕ) (j : ℕ) → Copied order from n out₀ at out j → n ≤ j → take (at + n) out ≡ take at out₀ ++ take n (drop from order)
+  copied_all out j s h = let e : j ≡ n = omega (arith, s.within) in ap (λ (m : ℕ). take (at + m) out) (sym e) ∙ s.entries ∙ ap (λ (m : ℕ). take at out₀ ++ take m (drop from order)) e
+
+-- ---- all runs
 
 pub record Running (order begin own out₀ out : List ℕ) (at q : ℕ) : Type 0 where
   pub within : q ≤ length own

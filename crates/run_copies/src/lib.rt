@@ -10,7 +10,10 @@ fn copy_run(order: &[usize], from: usize, n: usize, out: &mut [usize], at: usize
     requires { (from + n ≤ length order.now) × (at + n ≤ length out.old) }
     ensures { take (at + n) out.new ≡ take at out.old ++ take n (drop from order.now) }
 {
-    out[at..at + n].copy_from_slice(&order[from..from + n]);
+    // Not `copy_from_slice`: it would have the archive ask its caller for memmove.
+    for j in 0..n {
+        out[at + j] = order[from + j];
+    }
 }
 
 // Each run in turn, and 0 in the unused rest.

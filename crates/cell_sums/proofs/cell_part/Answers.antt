@@ -4,25 +4,25 @@ use native.Mathlib.Omega.{arith}
 use Rattle.cell_sums.proofs.cell_part.Goals as goal
 
 pub offset_bounds-names-slot : goal.offset_bounds-names-slot
-offset_bounds-names-slot c = omega (arith, (kept_in c.args.key.now c.args.total.now c.args.begin.now c.args.indices.now c.args.readings.now c.args.names.now c.args.held.now c.args.counts.now c.requires.kept_2 c.slot_of-slot.result c.args.k c.slot_of-slot.ensures).0, c.requires.kept_2.names_size)
+offset_bounds-names-slot c = omega (arith, (kept_in c.args.key.now c.args.total.now c.args.begin.now c.args.indices.now c.args.readings.now c.args.names.now c.args.held.now c.args.counts.now c.requires.kept_2 c.slot_of-slot.result c.args.k c.slot_of-slot.ensures.below).0, c.requires.kept_2.names_size)
 
 pub bounds-names-slot : goal.bounds-names-slot
-bounds-names-slot c = (kept_in c.args.key.now c.args.total.now c.args.begin.now c.args.indices.now c.args.readings.now c.args.names.now c.args.held.now c.args.counts.now c.requires.kept_2 c.slot_of-slot.result c.args.k c.slot_of-slot.ensures).0
+bounds-names-slot c = (kept_in c.args.key.now c.args.total.now c.args.begin.now c.args.indices.now c.args.readings.now c.args.names.now c.args.held.now c.args.counts.now c.requires.kept_2 c.slot_of-slot.result c.args.k c.slot_of-slot.ensures.below).0
 
 pub offset_bounds-held-slot : goal.offset_bounds-held-slot
-offset_bounds-held-slot c = omega (arith, (kept_in c.args.key.now c.args.total.now c.args.begin.now c.args.indices.now c.args.readings.now c.args.names.now c.args.held.now c.args.counts.now c.requires.kept_2 c.slot_of-slot.result c.args.k c.slot_of-slot.ensures).1, c.requires.kept_2.held_size)
+offset_bounds-held-slot c = omega (arith, (kept_in c.args.key.now c.args.total.now c.args.begin.now c.args.indices.now c.args.readings.now c.args.names.now c.args.held.now c.args.counts.now c.requires.kept_2 c.slot_of-slot.result c.args.k c.slot_of-slot.ensures.below).1, c.requires.kept_2.held_size)
 
 pub bounds-held-slot : goal.bounds-held-slot
-bounds-held-slot c = (kept_in c.args.key.now c.args.total.now c.args.begin.now c.args.indices.now c.args.readings.now c.args.names.now c.args.held.now c.args.counts.now c.requires.kept_2 c.slot_of-slot.result c.args.k c.slot_of-slot.ensures).1
+bounds-held-slot c = (kept_in c.args.key.now c.args.total.now c.args.begin.now c.args.indices.now c.args.readings.now c.args.names.now c.args.held.now c.args.counts.now c.requires.kept_2 c.slot_of-slot.result c.args.k c.slot_of-slot.ensures.below).1
 
 pub offset_bounds-counts-slot : goal.offset_bounds-counts-slot
-offset_bounds-counts-slot c = omega (arith, (kept_in c.args.key.now c.args.total.now c.args.begin.now c.args.indices.now c.args.readings.now c.args.names.now c.args.held.now c.args.counts.now c.requires.kept_2 c.slot_of-slot.result c.args.k c.slot_of-slot.ensures).2, c.requires.kept_2.counts_size)
+offset_bounds-counts-slot c = omega (arith, (kept_in c.args.key.now c.args.total.now c.args.begin.now c.args.indices.now c.args.readings.now c.args.names.now c.args.held.now c.args.counts.now c.requires.kept_2 c.slot_of-slot.result c.args.k c.slot_of-slot.ensures.below).2, c.requires.kept_2.counts_size)
 
 pub bounds-counts-slot : goal.bounds-counts-slot
-bounds-counts-slot c = (kept_in c.args.key.now c.args.total.now c.args.begin.now c.args.indices.now c.args.readings.now c.args.names.now c.args.held.now c.args.counts.now c.requires.kept_2 c.slot_of-slot.result c.args.k c.slot_of-slot.ensures).2
+bounds-counts-slot c = (kept_in c.args.key.now c.args.total.now c.args.begin.now c.args.indices.now c.args.readings.now c.args.names.now c.args.held.now c.args.counts.now c.requires.kept_2 c.slot_of-slot.result c.args.k c.slot_of-slot.ensures.below).2
 
 pub returns-then-names-slot : goal.returns-then-names-slot
-returns-then-names-slot c = let r = kept-hit c.args.key.now c.args.total.now c.args.begin.now c.args.indices.now c.args.readings.now c.args.names.now c.args.held.now c.args.counts.now c.requires.kept_2 c.slot_of-slot.result c.args.k c.slot_of-slot.ensures c.if-names-slot.true in record { sum = r.0; count = r.1; kept = c.requires.kept_2 }
+returns-then-names-slot c = let r = kept-hit c.args.key.now c.args.total.now c.args.begin.now c.args.indices.now c.args.readings.now c.args.names.now c.args.held.now c.args.counts.now c.requires.kept_2 c.slot_of-slot.result c.args.k c.slot_of-slot.ensures.below c.if-names-slot.true in record { sum = r.0; count = r.1; kept = c.requires.kept_2 }
 
 pub find_node-found-requires : goal.find_node-found-requires
 find_node-found-requires c = c.requires.summed.columns.axes
@@ -46,22 +46,22 @@ pub run_sum-sum-requires : goal.run_sum-sum-requires
 run_sum-sum-requires c = (c.requires.summed.before, cell-run c.args.axes c.args.key.now c.args.total.now c.args.begin.now c.args.indices.now c.args.readings.now c.args.sums.now c.requires.summed c.args.k c.find_node-found.result c.find_node-found.ensures _ c.in-Some.is)
 
 pub offset_bounds-names-slot-2 : goal.offset_bounds-names-slot-2
-offset_bounds-names-slot-2 c = omega (arith, (kept_in c.args.key.now c.args.total.now c.args.begin.now c.args.indices.now c.args.readings.now c.args.names.now c.args.held.now c.args.counts.now c.requires.kept_2 c.slot_of-slot.result c.args.k c.slot_of-slot.ensures).0, c.requires.kept_2.names_size)
+offset_bounds-names-slot-2 c = omega (arith, (kept_in c.args.key.now c.args.total.now c.args.begin.now c.args.indices.now c.args.readings.now c.args.names.now c.args.held.now c.args.counts.now c.requires.kept_2 c.slot_of-slot.result c.args.k c.slot_of-slot.ensures.below).0, c.requires.kept_2.names_size)
 
 pub bounds-names-slot-2 : goal.bounds-names-slot-2
-bounds-names-slot-2 c = (kept_in c.args.key.now c.args.total.now c.args.begin.now c.args.indices.now c.args.readings.now c.args.names.now c.args.held.now c.args.counts.now c.requires.kept_2 c.slot_of-slot.result c.args.k c.slot_of-slot.ensures).0
+bounds-names-slot-2 c = (kept_in c.args.key.now c.args.total.now c.args.begin.now c.args.indices.now c.args.readings.now c.args.names.now c.args.held.now c.args.counts.now c.requires.kept_2 c.slot_of-slot.result c.args.k c.slot_of-slot.ensures.below).0
 
 pub offset_bounds-held-slot-2 : goal.offset_bounds-held-slot-2
-offset_bounds-held-slot-2 c = omega (arith, (kept_in c.args.key.now c.args.total.now c.args.begin.now c.args.indices.now c.args.readings.now c.args.names.now c.args.held.now c.args.counts.now c.requires.kept_2 c.slot_of-slot.result c.args.k c.slot_of-slot.ensures).1, c.requires.kept_2.held_size)
+offset_bounds-held-slot-2 c = omega (arith, (kept_in c.args.key.now c.args.total.now c.args.begin.now c.args.indices.now c.args.readings.now c.args.names.now c.args.held.now c.args.counts.now c.requires.kept_2 c.slot_of-slot.result c.args.k c.slot_of-slot.ensures.below).1, c.requires.kept_2.held_size)
 
 pub bounds-held-slot-2 : goal.bounds-held-slot-2
-bounds-held-slot-2 c = (kept_in c.args.key.now c.args.total.now c.args.begin.now c.args.indices.now c.args.readings.now c.args.names.now c.args.held.now c.args.counts.now c.requires.kept_2 c.slot_of-slot.result c.args.k c.slot_of-slot.ensures).1
+bounds-held-slot-2 c = (kept_in c.args.key.now c.args.total.now c.args.begin.now c.args.indices.now c.args.readings.now c.args.names.now c.args.held.now c.args.counts.now c.requires.kept_2 c.slot_of-slot.result c.args.k c.slot_of-slot.ensures.below).1
 
 pub offset_bounds-counts-slot-2 : goal.offset_bounds-counts-slot-2
-offset_bounds-counts-slot-2 c = omega (arith, (kept_in c.args.key.now c.args.total.now c.args.begin.now c.args.indices.now c.args.readings.now c.args.names.now c.args.held.now c.args.counts.now c.requires.kept_2 c.slot_of-slot.result c.args.k c.slot_of-slot.ensures).2, c.requires.kept_2.counts_size)
+offset_bounds-counts-slot-2 c = omega (arith, (kept_in c.args.key.now c.args.total.now c.args.begin.now c.args.indices.now c.args.readings.now c.args.names.now c.args.held.now c.args.counts.now c.requires.kept_2 c.slot_of-slot.result c.args.k c.slot_of-slot.ensures.below).2, c.requires.kept_2.counts_size)
 
 pub bounds-counts-slot-2 : goal.bounds-counts-slot-2
-bounds-counts-slot-2 c = (kept_in c.args.key.now c.args.total.now c.args.begin.now c.args.indices.now c.args.readings.now c.args.names.now c.args.held.now c.args.counts.now c.requires.kept_2 c.slot_of-slot.result c.args.k c.slot_of-slot.ensures).2
+bounds-counts-slot-2 c = (kept_in c.args.key.now c.args.total.now c.args.begin.now c.args.indices.now c.args.readings.now c.args.names.now c.args.held.now c.args.counts.now c.requires.kept_2 c.slot_of-slot.result c.args.k c.slot_of-slot.ensures.below).2
 
 pub returns : goal.returns
-returns c = let e = cell-sum c.args.axes c.args.key.now c.args.total.now c.args.begin.now c.args.indices.now c.args.readings.now c.args.sums.now c.requires.summed c.args.k c.find_node-found.result c.find_node-found.ensures _ c.in-Some.is _ c.run_sum-sum.ensures in let q = cell-count c.args.axes c.args.key.now c.args.total.now c.args.begin.now c.args.indices.now c.args.readings.now c.args.sums.now c.requires.summed c.args.k c.find_node-found.result c.find_node-found.ensures _ c.in-Some.is in record { sum = e; count = q; kept = kept_more c.args.key.now c.args.total.now c.args.begin.now c.args.indices.now c.args.readings.now c.args.names.now c.args.held.now c.args.counts.now c.requires.kept_2 c.slot_of-slot.result c.args.k c.slot_of-slot.ensures _ _ e q }
+returns c = let e = cell-sum c.args.axes c.args.key.now c.args.total.now c.args.begin.now c.args.indices.now c.args.readings.now c.args.sums.now c.requires.summed c.args.k c.find_node-found.result c.find_node-found.ensures _ c.in-Some.is _ c.run_sum-sum.ensures in let q = cell-count c.args.axes c.args.key.now c.args.total.now c.args.begin.now c.args.indices.now c.args.readings.now c.args.sums.now c.requires.summed c.args.k c.find_node-found.result c.find_node-found.ensures _ c.in-Some.is in record { sum = e; count = q; kept = kept_more c.args.key.now c.args.total.now c.args.begin.now c.args.indices.now c.args.readings.now c.args.names.now c.args.held.now c.args.counts.now c.requires.kept_2 c.slot_of-slot.result c.args.k c.slot_of-slot.ensures.below _ _ e q }

@@ -22,15 +22,15 @@ locate-requires c =
     let n : length c.args.point ≡ 3 = search rules in
     omega (arith, done.0.most, ap (λ f. f.axes) c.frame_of.ensures, n)
 
-pub outside-requires : goal.outside-requires
-outside-requires c =
+pub outside-refusal-requires : goal.outside-refusal-requires
+outside-refusal-requires c =
     let done : Fine c.args.b × (c.args.level ≤ 16) = level-done c.args.b c.args.level (sym c.level_outcome.ensures ∙ c.in_ok-level_outcome.was) in
     done.0.most
 
 pub returns-in_default : goal.returns-in_default
 returns-in_default c =
     let out = located-out (frame_of c.args.b) c.args.point (sym c.in_default.is ∙ c.locate.ensures ∙ ap (λ f. located_of f c.args.point) c.frame_of.ensures) in
-    refused-key c.args.b c.args.point c.args.level c.outside.result (point-out c.args.b c.args.point c.args.level c.outside.result c.outside.ensures (sym c.level_outcome.ensures ∙ c.in_ok-level_outcome.was) out)
+    refused-key c.args.b c.args.point c.args.level c.outside-refusal.result (point-out c.args.b c.args.point c.args.level c.outside-refusal.result c.outside-refusal.ensures (sym c.level_outcome.ensures ∙ c.in_ok-level_outcome.was) out)
 
 pub encode-code-requires : goal.encode-code-requires
 encode-code-requires c =
